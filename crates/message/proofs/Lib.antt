@@ -1,0 +1,5 @@
+pub mod TestLaws
+pub mod SectionLaws
+pub mod EntryLaws
+pub mod LayoutLaws
+pub mod QuestionLaws

@@ -1,0 +1,5 @@
+pub mod Cue
+pub mod Section
+pub mod Entry
+pub mod Message
+pub mod Question

@@ -1,0 +1,143 @@
+-- What a message means, and its layout in bytes. Document 01, "Messages": "Kind (1 byte), sender (1), stamp (6, the sender's
+-- clock), then four sections, each after its one-byte count: names .., cues .., reports .., echoes ..".
+use Prim.Native.Nat.{ℕ, _+_, _*_}
+use mathlib.Core.List.{List, [], _∷_, _++_}
+use lib.ListN.{length, getD, take, drop}
+use Rattle.numbers.specs.Number.{value, digits}
+use Rattle.message.specs.Section.{section, sectionFrom, after, padded}
+use Rattle.message.specs.Entry.{asHost, nameWidth, nameOf, nameBytes, cueWidth, cueOf, cueBytes, reportWidth, reportOf, reportBytes, echoWidth, echoOf, echoBytes, blankName, blankCue, blankReport, blankEcho}
+use Rattle.message.specs.declared.Host.{Host}
+use Rattle.message.specs.declared.NameEntry.{NameEntry}
+use Rattle.message.specs.declared.Report.{Report}
+use Rattle.message.specs.declared.Echo.{Echo}
+use Rattle.message.specs.declared.Counts.{Counts}
+use Rattle.message.specs.declared.Message.{Message}
+
+-- The table's first column.
+abbrev pub DATA : ℕ
+DATA = 1
+
+abbrev pub RQST : ℕ
+RQST = 2
+
+abbrev pub REPL : ℕ
+REPL = 3
+
+abbrev pub SESS : ℕ
+SESS = 4
+
+-- how many bytes a cue number has in a message of this kind: one, whatever the kind byte
+abbrev pub numberWidth : ℕ → ℕ
+numberWidth kind = 1
+
+-- What a message says.
+pub record Meaning : Type 0 where
+  pub kind : ℕ
+  pub sender : Host
+  pub stamp : ℕ
+  pub names : List NameEntry
+  pub cues : List (List ℕ)
+  pub reports : List Report
+  pub echoes : List Echo
+
+-- how many entries each section has
+abbrev pub countsOf : Meaning → Counts
+countsOf M = record { names = length (M .names); cues = length (M .cues); reports = length (M .reports); echoes = length (M .echoes) }
+
+-- ---- The meaning of the declared struct, whose arrays have places that its counts may not use.
+
+-- what a message struct means: the names, reports and echoes in the first places, as many as the counts say; `cue` is the one
+-- place for a cue
+abbrev pub meaningOf : Message → Meaning
+meaningOf m = record {
+  kind = m .kind;
+  sender = m .sender;
+  stamp = m .stamp;
+  names = take (m .counts .names) (m .names);
+  cues = take (m .counts .cues) (m .cue ∷ []);
+  reports = take (m .counts .reports) (m .reports);
+  echoes = take (m .counts .echoes) (m .echoes);
+}
+
+-- how many places a message struct has for names, reports and echoes
+abbrev pub namePlaces : ℕ
+namePlaces = 1
+
+abbrev pub reportPlaces : ℕ
+reportPlaces = 8
+
+abbrev pub echoPlaces : ℕ
+echoPlaces = 7
+
+-- the struct that holds a meaning, with blanks in the places left over; for a meaning with at most one cue and no more names,
+-- reports and echoes than there are places, as question 9 sees to
+abbrev pub heldAs : Meaning → Message
+heldAs M = record {
+  kind = M .kind;
+  sender = M .sender;
+  stamp = M .stamp;
+  counts = countsOf M;
+  names = padded namePlaces blankName (M .names);
+  cue = getD (M .cues) 0 blankCue;
+  reports = padded reportPlaces blankReport (M .reports);
+  echoes = padded echoPlaces blankEcho (M .echoes);
+}
+
+-- ---- The layout, over the width w of a cue number.
+
+-- kind, sender, stamp
+abbrev pub headBytes : ℕ → Host → ℕ → List ℕ
+headBytes kind sender stamp = kind ∷ sender .0 ∷ digits 6 stamp
+
+-- the head, the names and the cues
+abbrev pub frontBytes : ℕ → ℕ → Host → ℕ → List NameEntry → List (List ℕ) → List ℕ
+frontBytes w kind sender stamp names cues = headBytes kind sender stamp ++ (section (nameBytes w) names ++ section cueBytes cues)
+
+-- the reports and the echoes
+abbrev pub backBytes : ℕ → List Report → List Echo → List ℕ
+backBytes w reports echoes = section (reportBytes w) reports ++ section echoBytes echoes
+
+unfoldable pub bytesWith : ℕ → Meaning → List ℕ
+bytesWith w M = frontBytes w (M .kind) (M .sender) (M .stamp) (M .names) (M .cues) ++ backBytes w (M .reports) (M .echoes)
+
+-- where the sections start: names after the head, then cues, reports and echoes
+abbrev pub fromNames : List ℕ → List ℕ
+fromNames s = drop 8 s
+
+abbrev pub fromCues : ℕ → List ℕ → List ℕ
+fromCues w s = after (nameWidth w) (fromNames s)
+
+abbrev pub fromReports : ℕ → List ℕ → List ℕ
+fromReports w s = after cueWidth (fromCues w s)
+
+abbrev pub fromEchoes : ℕ → List ℕ → List ℕ
+fromEchoes w s = after (reportWidth w) (fromReports w s)
+
+unfoldable pub meaningWith : ℕ → List ℕ → Meaning
+meaningWith w s = record {
+  kind = getD s 0 0;
+  sender = asHost (getD s 1 0);
+  stamp = value (take 6 (drop 2 s));
+  names = sectionFrom (nameOf w) (nameWidth w) (fromNames s);
+  cues = sectionFrom cueOf cueWidth (fromCues w s);
+  reports = sectionFrom (reportOf w) (reportWidth w) (fromReports w s);
+  echoes = sectionFrom echoOf echoWidth (fromEchoes w s);
+}
+
+-- how long a message with these counts is: the head, four count bytes and the entries
+abbrev pub sizeWith : ℕ → Counts → ℕ
+sizeWith w c = 12 + c .names * nameWidth w + c .cues * cueWidth + c .reports * reportWidth w + c .echoes * echoWidth
+
+-- ---- The layout of a message, with the width that its first byte, the kind, asks for.
+
+-- the bytes that a meaning is written as
+abbrev pub bytesOf : Meaning → List ℕ
+bytesOf M = bytesWith (numberWidth (M .kind)) M
+
+-- the meaning that bytes are read as
+abbrev pub meaningFrom : List ℕ → Meaning
+meaningFrom s = meaningWith (numberWidth (getD s 0 0)) s
+
+-- how long bytes with these counts must be
+abbrev pub sizeFrom : List ℕ → ℕ
+sizeFrom s = sizeWith (numberWidth (getD s 0 0)) (countsOf (meaningFrom s))

@@ -1,0 +1,169 @@
+-- The questions that the reader and the writer ask, and their answers. Document 01, "The questions, in this order".
+use Prim.Native.Nat.{ℕ, zero, suc}
+use mathlib.Core.Bool.{Bool, cond, not, _&&_, _||_}
+use mathlib.Core.List.{List, [], _∷_, _++_}
+use lib.ListN.{length, getD, drop}
+use lib.Dec.{ltb, leb, eqb}
+use Rattle.message.specs.Cue.{cueIn}
+use Rattle.message.specs.Section.{all, rises}
+use Rattle.message.specs.Entry.{asHost}
+use Rattle.message.specs.Message.{DATA, RQST, REPL, SESS, Meaning, meaningOf, heldAs, bytesOf, meaningFrom, countsOf, sizeFrom}
+use Rattle.message.specs.declared.Host.{Host}
+use Rattle.message.specs.declared.CueNumber.{CueNumber}
+use Rattle.message.specs.declared.NameEntry.{NameEntry}
+use Rattle.message.specs.declared.Report.{Report}
+use Rattle.message.specs.declared.Echo.{Echo}
+use Rattle.message.specs.declared.Counts.{Counts}
+use Rattle.message.specs.declared.Message.{Message}
+use Rattle.message.specs.declared.Verdict.{Verdict}
+use Rattle.message.specs.declared.Verdict.the-variants.{Accepted, Refused}
+use Rattle.message.specs.declared.Reading.{Reading}
+use Rattle.message.specs.declared.Written.{Written}
+
+-- ---- "Each call stops at its first no. A refusal gives only its number."
+
+-- a question: whether its answer is yes, and the number that a no gives
+pub record Question : Type 0 where
+  pub passed : Bool
+  pub number : ℕ
+
+abbrev pub ask : Bool → ℕ → Question
+ask passed number = record { passed = passed; number = number }
+
+-- the number of the first question answered no; 0 where every answer is yes
+abbrev pub firstNo : List Question → ℕ
+firstNo [] = 0
+firstNo (q ∷ qs) = cond (q .passed) (firstNo qs) (q .number)
+
+-- the verdict of a call by its first no, and document 01's number of a verdict (0: not refused)
+abbrev pub verdictFor : ℕ → Verdict
+verdictFor zero = Accepted
+verdictFor (suc k) = Refused (suc k)
+
+abbrev pub refusalOf : Verdict → ℕ
+refusalOf Accepted = 0
+refusalOf (Refused k) = k
+
+-- ---- 9: "Is the kind 1..4 with its counts?": the table's second column
+
+-- so many names and cues, no reports and no echoes
+abbrev pub countsAre : Counts → ℕ → ℕ → Bool
+countsAre c names cues = eqb (c .names) names && (eqb (c .cues) cues && (eqb (c .reports) 0 && eqb (c .echoes) 0))
+
+-- "0,0,0..8,0..7"
+abbrev pub sessionCounts : Counts → Bool
+sessionCounts c = eqb (c .names) 0 && (eqb (c .cues) 0 && (leb (c .reports) 8 && leb (c .echoes) 7))
+
+abbrev pub kindHasCounts : ℕ → Counts → Bool
+kindHasCounts kind c =
+    (eqb kind DATA && countsAre c 1 1)
+    || ((eqb kind RQST && countsAre c 1 0) || ((eqb kind REPL && countsAre c 1 1) || (eqb kind SESS && sessionCounts c)))
+
+-- ---- 10: "Are hosts, cue numbers and cue fields in range, stamps and held ticks below 2^48?"
+
+-- "Hosts are 0..7, cue numbers 0..63 per source."
+abbrev pub hostIn : Host → Bool
+hostIn h = ltb (h .0) 8
+
+abbrev pub numberIn : CueNumber → Bool
+numberIn n = ltb (n .0) 64
+
+-- below 2^48
+abbrev pub ticksIn : ℕ → Bool
+ticksIn t = ltb t 281474976710656
+
+abbrev pub nameIn : NameEntry → Bool
+nameIn n = hostIn (n .name .source) && (numberIn (n .name .number) && hostIn (n .host))
+
+abbrev pub reportIn : Report → Bool
+reportIn r = hostIn (r .source) && numberIn (r .last)
+
+abbrev pub echoIn : Echo → Bool
+echoIn e = hostIn (e .host) && (ticksIn (e .stamp) && ticksIn (e .held))
+
+unfoldable pub inRange : Meaning → Bool
+inRange M =
+    hostIn (M .sender)
+    && (ticksIn (M .stamp) && (all nameIn (M .names) && (all cueIn (M .cues) && (all reportIn (M .reports) && all echoIn (M .echoes)))))
+
+-- ---- 11: "Do the table's last column and the line under the table hold?"
+
+abbrev pub sameHost : Host → Host → Bool
+sameHost a b = eqb (a .0) (b .0)
+
+-- the host in the name. DATA: "the source, also the sender"; RQST: "the sender, not the source"; REPL: "the requester,
+-- neither sender nor source"
+abbrev pub hostFits : ℕ → Host → NameEntry → Bool
+hostFits kind sender n =
+    (eqb kind DATA && (sameHost (n .host) (n .name .source) && sameHost (n .host) sender))
+    || ((eqb kind RQST && (sameHost (n .host) sender && not (sameHost (n .host) (n .name .source))))
+    || (eqb kind REPL && (not (sameHost (n .host) sender) && not (sameHost (n .host) (n .name .source)))))
+
+-- "Reports rise strictly by source, echoes by host; no echo names the sender."
+abbrev pub reportSource : Report → ℕ
+reportSource r = r .source .0
+
+abbrev pub echoHost : Echo → ℕ
+echoHost e = e .host .0
+
+abbrev pub notFrom : Host → Echo → Bool
+notFrom sender e = not (sameHost (e .host) sender)
+
+unfoldable pub hostsFit : Meaning → Bool
+hostsFit M =
+    all (hostFits (M .kind) (M .sender)) (M .names)
+    && (rises reportSource (M .reports) && (rises echoHost (M .echoes) && all (notFrom (M .sender)) (M .echoes)))
+
+-- ---- The reader: questions 8, 9, 10, 11.
+
+-- 10 and 11, which the reader and the writer ask last
+abbrev pub meaningQuestions : Meaning → List Question
+meaningQuestions M = ask (inRange M) 10 ∷ ask (hostsFit M) 11 ∷ []
+
+-- 8: "Are there 12 bytes or more, and do the counts account for the length exactly?"
+abbrev pub readQuestions : List ℕ → List Question
+readQuestions s =
+    ask (leb 12 (length s) && eqb (sizeFrom s) (length s)) 8
+    ∷ ask (kindHasCounts (getD s 0 0) (countsOf (meaningFrom s))) 9
+    ∷ meaningQuestions (meaningFrom s)
+
+unfoldable pub readRefusal : List ℕ → ℕ
+readRefusal s = firstNo (readQuestions s)
+
+-- what stands beside a refusal: a message of zeros
+abbrev pub blankMessage : Message
+blankMessage = heldAs (record { kind = 0; sender = asHost 0; stamp = 0; names = []; cues = []; reports = []; echoes = [] })
+
+-- the message where the bytes are accepted, zeros where they are refused
+abbrev pub messageFor : ℕ → Meaning → Message
+messageFor zero M = heldAs M
+messageFor (suc k) M = blankMessage
+
+unfoldable pub readOf : List ℕ → Reading
+readOf s = record { verdict = verdictFor (readRefusal s); message = messageFor (readRefusal s) (meaningFrom s) }
+
+-- ---- The writer: "The writer has questions 1, 9, 10, 11."
+
+-- "Has the output at least 128 bytes? 1."
+abbrev pub writeQuestions : Message → List ℕ → List Question
+writeQuestions m out =
+    ask (leb 128 (length out)) 1 ∷ ask (kindHasCounts (m .kind) (m .counts)) 9 ∷ meaningQuestions (meaningOf m)
+
+unfoldable pub writeRefusal : Message → List ℕ → ℕ
+writeRefusal m out = firstNo (writeQuestions m out)
+
+-- the length where the message is accepted, 0 where it is refused
+abbrev pub lengthFor : ℕ → List ℕ → ℕ
+lengthFor zero bytes = length bytes
+lengthFor (suc k) bytes = 0
+
+unfoldable pub writtenOf : Message → List ℕ → Written
+writtenOf m out = record { verdict = verdictFor (writeRefusal m out); len = lengthFor (writeRefusal m out) (bytesOf (meaningOf m)) }
+
+-- the output: the message in its first bytes and every other byte as it was; refused, every byte as it was
+abbrev pub outputFor : ℕ → List ℕ → List ℕ → List ℕ
+outputFor zero bytes out = bytes ++ drop (length bytes) out
+outputFor (suc k) bytes out = out
+
+unfoldable pub outputOf : Message → List ℕ → List ℕ
+outputOf m out = outputFor (writeRefusal m out) (bytesOf (meaningOf m)) out

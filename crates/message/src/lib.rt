@@ -1,0 +1,393 @@
+// A message, its cue and the questions that the reader and the writer share. The definitions are in specs/: Cue.antt (a
+// cue's fields), Entry.antt and Message.antt (the layout), Question.antt (the questions).
+// A test joins its parts by `&` and `|`, in the order in which its definition does.
+ghost use mathlib.Core.Path.{_≡_};
+ghost use mathlib.Core.List.{_∷_, []};
+ghost use Prim.Native.Nat.{_+_, _≤_, min};
+ghost use lib.ListN.{length, take};
+ghost use Rattle.message.specs.Cue.{fieldsOf, stepsIn, stepsAt, cueIn, cueWith};
+ghost use Rattle.message.specs.Section.{all, rises};
+ghost use Rattle.message.specs.Message.{meaningOf};
+ghost use Rattle.message.specs.Question.{kindHasCounts, nameIn, reportIn, echoIn, inRange, hostFits, notFrom, reportSource, echoHost, hostsFit, meaningQuestions, firstNo, blankMessage};
+
+// A controller on the network, 0..7.
+pub struct Host(pub u8);
+
+// The number of a cue among those of its source, 0..63.
+pub struct CueNumber(pub u8);
+
+// A name: a source with a cue number.
+pub struct Name {
+    pub source: Host,
+    pub number: CueNumber,
+}
+
+// A name as a message has it, with a host beside it: who that is goes by the message's kind.
+pub struct NameEntry {
+    pub name: Name,
+    pub host: Host,
+}
+
+// A session report: the last cue number that the sender knows of a source.
+pub struct Report {
+    pub source: Host,
+    pub last: CueNumber,
+}
+
+// A stamp that the sender heard from a host, and for how many ticks it has held it.
+pub struct Echo {
+    pub host: Host,
+    pub stamp: u64,
+    pub held: u64,
+}
+
+// How many names, cues, reports and echoes a message has.
+pub struct Counts {
+    pub names: usize,
+    pub cues: usize,
+    pub reports: usize,
+    pub echoes: usize,
+}
+
+// A message. Of the names, reports and echoes the first places are used, as many as the counts say; `cue` is the one place for
+// a cue.
+pub struct Message {
+    pub kind: u8,
+    pub sender: Host,
+    pub stamp: u64,
+    pub counts: Counts,
+    pub names: [NameEntry; 1],
+    pub cue: [u8; 24],
+    pub reports: [Report; 8],
+    pub echoes: [Echo; 7],
+}
+
+// Whether a call was refused, with document 01's number of the question that was answered no.
+pub enum Verdict {
+    Accepted,
+    Refused(u8),
+}
+
+// What the reader answers: the message, or a refusal beside a message of zeros.
+pub struct Reading {
+    pub verdict: Verdict,
+    pub message: Message,
+}
+
+// What the writer answers: the length of what it wrote, or a refusal beside 0.
+pub struct Written {
+    pub verdict: Verdict,
+    pub len: usize,
+}
+
+// The fields of a cue: four offsets in motor steps, and the lamp's power.
+pub struct CueFields {
+    pub focus: i16,
+    pub zoom: i16,
+    pub sideways: i16,
+    pub upright: i16,
+    pub lamp: u16,
+}
+
+// The kinds of messages.
+pub const DATA: u8 = 1;
+
+pub const RQST: u8 = 2;
+
+pub const REPL: u8 = 3;
+
+pub const SESS: u8 = 4;
+
+// How many bytes a cue number has, and an entry of each section.
+pub const NUMBER_WIDTH: usize = 1;
+
+pub const NAME_WIDTH: usize = 3;
+
+pub const CUE_WIDTH: usize = 24;
+
+pub const REPORT_WIDTH: usize = 2;
+
+pub const ECHO_WIDTH: usize = 13;
+
+// The fields that a cue's bytes hold.
+pub fn fields(cue: &[u8; 24]) -> CueFields
+    ensures { λ r. ⌜ r ≡ fieldsOf (now (cue .entry)) ⌝ }
+{
+    CueFields {
+        focus: numbers::read_i16(cue, 0),
+        zoom: numbers::read_i16(cue, 2),
+        sideways: numbers::read_i16(cue, 4),
+        upright: numbers::read_i16(cue, 6),
+        lamp: numbers::read_u16(cue, 8),
+    }
+}
+
+fn steps_in(z: i16) -> bool
+    ensures { λ r. ⌜ r ≡ stepsIn z ⌝ }
+{
+    (-2000 <= z) & (z <= 2000)
+}
+
+fn offset_in(cue: &[u8], at: usize) -> bool
+    requires { ⌜ at + 2 ≤ length (now cue) ⌝ }
+    ensures { λ r. ⌜ r ≡ stepsIn (stepsAt (now (cue .entry)) at) ⌝ }
+{
+    steps_in(numbers::read_i16(cue, at))
+}
+
+// The cue test: whether a cue's offsets and lamp are in range.
+pub fn cue_in(cue: &[u8; 24]) -> bool
+    ensures { λ r. ⌜ r ≡ cueIn (now (cue .entry)) ⌝ }
+{
+    offset_in(cue, 0)
+        & (offset_in(cue, 2)
+            & (offset_in(cue, 4) & (offset_in(cue, 6) & (numbers::read_u16(cue, 8) <= 1000))))
+}
+
+// The cue with these fields and 0 in its free bytes.
+pub fn cue_with(focus: i16, zoom: i16, sideways: i16, upright: i16, lamp: u16) -> [u8; 24]
+    ensures { λ r. ⌜ r ≡ cueWith (record { focus = focus; zoom = zoom; sideways = sideways; upright = upright; lamp = lamp }) ⌝ }
+{
+    let mut cue = [0u8; 24];
+    numbers::put_i16(&mut cue, 0, focus);
+    numbers::put_i16(&mut cue, 2, zoom);
+    numbers::put_i16(&mut cue, 4, sideways);
+    numbers::put_i16(&mut cue, 6, upright);
+    numbers::put_be(&mut cue, 8, 2, lamp as u64);
+    cue
+}
+
+// Question 9: whether a kind has these counts.
+pub fn kind_has_counts(kind: u8, c: Counts) -> bool
+    ensures { λ r. ⌜ r ≡ kindHasCounts kind c ⌝ }
+{
+    ((kind == DATA) & ((c.names == 1) & ((c.cues == 1) & ((c.reports == 0) & (c.echoes == 0)))))
+        | (((kind == RQST)
+            & ((c.names == 1) & ((c.cues == 0) & ((c.reports == 0) & (c.echoes == 0)))))
+            | (((kind == REPL)
+                & ((c.names == 1) & ((c.cues == 1) & ((c.reports == 0) & (c.echoes == 0)))))
+                | ((kind == SESS)
+                    & ((c.names == 0) & ((c.cues == 0) & ((c.reports <= 8) & (c.echoes <= 7)))))))
+}
+
+fn name_in(n: NameEntry) -> bool
+    ensures { λ r. ⌜ r ≡ nameIn n ⌝ }
+{
+    (n.name.source.0 < 8) & ((n.name.number.0 < 64) & (n.host.0 < 8))
+}
+
+fn report_in(r: Report) -> bool
+    ensures { λ b. ⌜ b ≡ reportIn r ⌝ }
+{
+    (r.source.0 < 8) & (r.last.0 < 64)
+}
+
+fn echo_in(e: Echo) -> bool
+    ensures { λ r. ⌜ r ≡ echoIn e ⌝ }
+{
+    (e.host.0 < 8) & ((e.stamp < 281474976710656) & (e.held < 281474976710656))
+}
+
+// The host in a name, by the message's kind.
+fn host_fits(kind: u8, sender: Host, n: NameEntry) -> bool
+    ensures { λ r. ⌜ r ≡ hostFits kind sender n ⌝ }
+{
+    ((kind == DATA) & ((n.host.0 == n.name.source.0) & (n.host.0 == sender.0)))
+        | (((kind == RQST) & ((n.host.0 == sender.0) & !(n.host.0 == n.name.source.0)))
+            | ((kind == REPL) & (!(n.host.0 == sender.0) & !(n.host.0 == n.name.source.0))))
+}
+
+fn not_from(sender: Host, e: Echo) -> bool
+    ensures { λ r. ⌜ r ≡ notFrom sender e ⌝ }
+{
+    !(e.host.0 == sender.0)
+}
+
+// A count that is beyond an array's places uses all of them.
+fn used(count: usize, places: usize) -> usize
+    ensures { λ r. ⌜ r ≡ min count places ⌝ }
+{
+    if count < places { count } else { places }
+}
+
+fn names_in(names: [NameEntry; 1], count: usize) -> bool
+    ensures { λ r. ⌜ r ≡ all nameIn (take count names) ⌝ }
+{
+    let n = used(count, 1);
+    let mut ok = true;
+    let mut i: usize = 0;
+    while i < n {
+        let name = names[i];
+        ok = ok & name_in(name);
+        i += 1;
+    }
+    ok
+}
+
+fn names_fit(kind: u8, sender: Host, names: [NameEntry; 1], count: usize) -> bool
+    ensures { λ r. ⌜ r ≡ all (hostFits kind sender) (take count names) ⌝ }
+{
+    let n = used(count, 1);
+    let mut ok = true;
+    let mut i: usize = 0;
+    while i < n {
+        let name = names[i];
+        ok = ok & host_fits(kind, sender, name);
+        i += 1;
+    }
+    ok
+}
+
+fn reports_in(reports: [Report; 8], count: usize) -> bool
+    ensures { λ r. ⌜ r ≡ all reportIn (take count reports) ⌝ }
+{
+    let n = used(count, 8);
+    let mut ok = true;
+    let mut i: usize = 0;
+    while i < n {
+        let report = reports[i];
+        ok = ok & report_in(report);
+        i += 1;
+    }
+    ok
+}
+
+// `low` is the least source that may come next.
+fn reports_rise(reports: [Report; 8], count: usize) -> bool
+    ensures { λ r. ⌜ r ≡ rises reportSource (take count reports) ⌝ }
+{
+    let n = used(count, 8);
+    let mut ok = true;
+    let mut low: usize = 0;
+    let mut i: usize = 0;
+    while i < n {
+        let report = reports[i];
+        let source = report.source.0 as usize;
+        ok = ok & (low <= source);
+        low = source + 1;
+        i += 1;
+    }
+    ok
+}
+
+fn echoes_in(echoes: [Echo; 7], count: usize) -> bool
+    ensures { λ r. ⌜ r ≡ all echoIn (take count echoes) ⌝ }
+{
+    let n = used(count, 7);
+    let mut ok = true;
+    let mut i: usize = 0;
+    while i < n {
+        let echo = echoes[i];
+        ok = ok & echo_in(echo);
+        i += 1;
+    }
+    ok
+}
+
+fn echoes_rise(echoes: [Echo; 7], count: usize) -> bool
+    ensures { λ r. ⌜ r ≡ rises echoHost (take count echoes) ⌝ }
+{
+    let n = used(count, 7);
+    let mut ok = true;
+    let mut low: usize = 0;
+    let mut i: usize = 0;
+    while i < n {
+        let echo = echoes[i];
+        let host = echo.host.0 as usize;
+        ok = ok & (low <= host);
+        low = host + 1;
+        i += 1;
+    }
+    ok
+}
+
+fn echoes_not_from(sender: Host, echoes: [Echo; 7], count: usize) -> bool
+    ensures { λ r. ⌜ r ≡ all (notFrom sender) (take count echoes) ⌝ }
+{
+    let n = used(count, 7);
+    let mut ok = true;
+    let mut i: usize = 0;
+    while i < n {
+        let echo = echoes[i];
+        ok = ok & not_from(sender, echo);
+        i += 1;
+    }
+    ok
+}
+
+// Question 10.
+fn in_range(m: Message) -> bool
+    ensures { λ r. ⌜ r ≡ inRange (meaningOf m) ⌝ }
+{
+    let counts = m.counts;
+    let names = m.names;
+    let cue = m.cue;
+    let reports = m.reports;
+    let echoes = m.echoes;
+    (m.sender.0 < 8)
+        & ((m.stamp < 281474976710656)
+            & (names_in(names, counts.names)
+                & (((counts.cues == 0) | cue_in(&cue))
+                    & (reports_in(reports, counts.reports) & echoes_in(echoes, counts.echoes)))))
+}
+
+// Question 11.
+fn hosts_fit(m: Message) -> bool
+    ensures { λ r. ⌜ r ≡ hostsFit (meaningOf m) ⌝ }
+{
+    let counts = m.counts;
+    let names = m.names;
+    let reports = m.reports;
+    let echoes = m.echoes;
+    names_fit(m.kind, m.sender, names, counts.names)
+        & (reports_rise(reports, counts.reports)
+            & (echoes_rise(echoes, counts.echoes)
+                & echoes_not_from(m.sender, echoes, counts.echoes)))
+}
+
+// Questions 10 and 11, of any message: the number of the first that is answered no, or 0.
+pub fn meaning_refusal(m: Message) -> u8
+    ensures { λ r. ⌜ r ≡ firstNo (meaningQuestions (meaningOf m)) ⌝ }
+{
+    if !in_range(m) {
+        return 10;
+    }
+    if !hosts_fit(m) {
+        return 11;
+    }
+    0
+}
+
+// The message of zeros that stands beside a refusal.
+pub fn blank() -> Message
+    ensures { λ r. ⌜ r ≡ blankMessage ⌝ }
+{
+    Message {
+        kind: 0,
+        sender: Host(0),
+        stamp: 0,
+        counts: Counts {
+            names: 0,
+            cues: 0,
+            reports: 0,
+            echoes: 0,
+        },
+        names: [NameEntry {
+            name: Name {
+                source: Host(0),
+                number: CueNumber(0),
+            },
+            host: Host(0),
+        }; 1],
+        cue: [0u8; 24],
+        reports: [Report {
+            source: Host(0),
+            last: CueNumber(0),
+        }; 8],
+        echoes: [Echo {
+            host: Host(0),
+            stamp: 0,
+            held: 0,
+        }; 7],
+    }
+}

@@ -1,0 +1,4 @@
+pub mod Cases
+pub mod NumberLaws
+pub mod SignedLaws
+pub mod SpliceLaws

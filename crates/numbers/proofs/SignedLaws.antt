@@ -1,13 +1,16 @@
+-- The laws of `specs/Signed.antt`: sixteen bits as a signed number and back, and the sign that a machine's 16 bits hold.
 use mathlib.Core.Path.{_≡_, refl, sym, ap, _∙_}
 use mathlib.Core.Bool.{Bool, true, false}
 use Prim.Native.Nat.{ℕ, zero, suc, _-_, _≤_, _<_}
 use native.Mathlib.Nat.{zero-add}
 use native.Mathlib.Omega.{arith}
 use borrow.Author.Tests.{le-ltb, lt-ltb, leb-false}
-use mathlib.Core.List.{[], _∷_}
 use Rattle.numbers.proofs.Cases.{by-order}
+use Rattle.numbers.specs.Number.{value, digits, Bytes}
+use Rattle.numbers.proofs.NumberLaws.{value-below, value-digits, digits-value}
+use lib.ListN.{length}
+use mathlib.Core.List.{List}
 use Rattle.numbers.specs.Signed.{signed, unsigned}
-use Rattle.numbers.specs.Number.{value, valueAfter}
 use lib.IntN.{ℤ, pos, negsuc, _-ℤ_}
 use lib.Signed.{leZ}
 use mir.Syntax.{w16}
@@ -36,6 +39,13 @@ below (negsuc n) f h = (n, refl, f .sfits)
 below (pos n) f h =
     let e : leZ (pos 0) (pos n) ≡ false = ap (leZ (pos 0)) (sym (toZ-ofZ f)) ∙ h in absurd (let w : n < 0 = leb-false 0 n e in omega arith)
 
+-- a number's bits are 16
+bits-fit : (z : ℤ) → SFits w16 z → unsigned z < 65536
+bits-fit (pos n) f =
+    let k : n < 32768 = f .sfits in
+    omega arith
+bits-fit (negsuc n) f = omega arith
+
 -- 16 bits, then the number, then the bits; and back
 pub bits-back : (n : ℕ) → n < 65536 → unsigned (signed n) ≡ n
 bits-back n h =
@@ -47,7 +57,12 @@ number-back (negsuc n) f =
     let k : n < 32768 = f .sfits in
     rw (le-ltb (65535 - n) 32768 (omega arith)) (ap negsuc (omega arith))
 
--- exact at −2000, −1, 0 and 2000, and FF FE is −2
-pub rows : (signed 63536 ≡ negsuc 1999) × (signed 65535 ≡ negsuc 0) × (signed 0 ≡ pos 0) × (signed 2000 ≡ pos 2000) × (signed (value (255 ∷ 254 ∷ [])) ≡ negsuc 1)
-unfolding valueAfter
-rows = (refl, refl, refl, refl, refl)
+-- ---- two bytes as a signed number and back
+
+-- the bytes, then the number, then the bytes
+pub two-bytes-back : (s : List ℕ) → length s ≡ 2 → Bytes s → digits 2 (unsigned (signed (value s))) ≡ s
+two-bytes-back s e b = ap (digits 2) (bits-back (value s) (value-below 2 s e b)) ∙ digits-value 2 s e b
+
+-- the number, then the bytes, then the number
+pub signed-back : (z : ℤ) → SFits w16 z → signed (value (digits 2 (unsigned z))) ≡ z
+signed-back z f = ap signed (value-digits 2 (unsigned z) (bits-fit z f)) ∙ number-back z f

@@ -3,3 +3,4 @@ pub mod SectionLaws
 pub mod EntryLaws
 pub mod LayoutLaws
 pub mod QuestionLaws
+pub mod CueLaws

@@ -7,13 +7,10 @@ use lib.IntN.{ℤ, pos, negsuc}
 use Rattle.numbers.specs.Number.{value, digits}
 use Rattle.numbers.specs.Signed.{signed, unsigned}
 use Rattle.message.specs.Cue.{fieldsOf, cueWith}
-use Rattle.message.specs.Entry.{asHost, asNumber, blankReport, blankEcho}
+use Rattle.message.specs.Entry.{asHost, asNumber}
 use Rattle.message.specs.Message.{DATA, RQST, Meaning, heldAs, bytesOf}
 use Rattle.message.specs.Question.{readRefusal, readOf, writeRefusal, outputOf}
-use Rattle.message.specs.declared.Message.{Message}
-use Rattle.message.specs.declared.Reading.{Reading}
 use Rattle.message.specs.declared.Verdict.the-variants.{Accepted}
-use Rattle.message.specs.declared.CueFields.{CueFields}
 use Rattle.cases.specs.Case.{Case, case}
 
 -- a cue with this focus and zeros elsewhere

@@ -85,7 +85,7 @@ echo-fits e h =
     let a = and-both (ticksIn (e .stamp)) _ (and-both (hostIn (e .host)) _ h .1) in
     (ltb-true (e .stamp) 281474976710656 (a .0), ltb-true (e .held) 281474976710656 (a .1))
 
-fits-of : (M : Meaning) → firstNo (meaningQuestions M) ≡ 0 → All CueFits (M .cues) → Fits 1 M
+pub fits-of : (M : Meaning) → firstNo (meaningQuestions M) ≡ 0 → All CueFits (M .cues) → Fits 1 M
 unfolding inRange
 fits-of M h c =
     let a = all-passed (inRange M) 10 (ask (hostsFit M) 11 ∷ []) (omega arith) h .0 in
@@ -121,12 +121,12 @@ counted m a z =
     let e = length-take-le (m .counts .echoes) (m .echoes) (omega (arith, a .echoes, z .echoes)) in
     λ i. record { names = n i; cues = c i; reports = r i; echoes = e i }
 
-first-byte : (M : Meaning) → getD (bytesOf M) 0 0 ≡ M .kind
+pub first-byte : (M : Meaning) → getD (bytesOf M) 0 0 ≡ M .kind
 unfolding bytesWith
 first-byte M = refl
 
 -- a meaning that fits, with its kind's counts and its questions answered yes, is read from its bytes
-meaning-accepted : (M : Meaning) → Fits 1 M → kindHasCounts (M .kind) (countsOf M) ≡ true → firstNo (meaningQuestions M) ≡ 0 → Accepted (bytesOf M)
+pub meaning-accepted : (M : Meaning) → Fits 1 M → kindHasCounts (M .kind) (countsOf M) ≡ true → firstNo (meaningQuestions M) ≡ 0 → Accepted (bytesOf M)
 meaning-accepted M f k q =
     let back : meaningFrom (bytesOf M) ≡ M = meaning-back 1 M f in
     record {

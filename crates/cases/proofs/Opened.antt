@@ -1,0 +1,21 @@
+-- One name that opens every definition that a row computes with: a declaration's own `unfolding` line is opened with it.
+use Prim.Native.Nat.{ℕ}
+use Rattle.numbers.specs.Number.{valueAfter, digits}
+use Rattle.message.specs.Cue.{cueIn, cueWith}
+use Rattle.message.specs.Section.{entries, flat, section, sectionFrom, after, all, rises}
+use Rattle.message.specs.Message.{bytesWith, meaningWith}
+use Rattle.message.specs.Question.{inRange, hostsFit, readRefusal, readOf, writeRefusal, outputOf}
+use Rattle.end.specs.Sound.{allBelow, soundOf}
+use Rattle.end.specs.Round.{factor, share}
+use Rattle.end.specs.Names.{requested, rise}
+use Rattle.end.specs.Messages.{reportsBelow, echoesBelow}
+use Rattle.end.specs.Arrival.{dataOf, answered, backedOff, requestOf, repairOf, reported, allReported, measured, echoed, heardOf}
+use Rattle.end.specs.Fire.{foldUp, earliest, fireAt, fired}
+use Rattle.end.specs.Event.{movedEnd, moveOf, arrivalOf, actOf, questionOf, eventOf}
+use Rattle.end.specs.Opening.{openRefusal, openingOf}
+use Rattle.service.specs.Book.{put}
+use Rattle.service.specs.Run.{resultOf, sentAfter, worldAfter, seen}
+
+unfoldable pub opened : ℕ
+unfolding valueAfter digits cueIn cueWith entries flat section sectionFrom after all rises bytesWith meaningWith inRange hostsFit readRefusal readOf writeRefusal outputOf allBelow soundOf factor share requested rise reportsBelow echoesBelow dataOf answered backedOff requestOf repairOf reported allReported measured echoed heardOf foldUp earliest fireAt fired movedEnd moveOf arrivalOf actOf questionOf eventOf openRefusal openingOf put resultOf sentAfter worldAfter seen
+opened = 0

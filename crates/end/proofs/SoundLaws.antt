@@ -1,0 +1,127 @@
+-- What a sound state says: the laws of its tests, and the facts that the theorems and the code's proofs use.
+use mathlib.Core.Path.{_≡_, refl, sym, ap, _∙_}
+use Prim.Native.Nat.{ℕ, zero, suc, _≤_, _<_}
+use native.Mathlib.Omega.{arith}
+use mathlib.Core.Bool.{Bool, true, false, cond, not, _&&_, _||_, true≢false}
+use mathlib.Core.List.{List, [], _∷_}
+use lib.ListN.{length, getD}
+use borrow.Author.Tests.{eqb-true, ltb-true, leb-true}
+use Rattle.numbers.proofs.Cases.{by-order}
+use Rattle.message.specs.declared.Host.{Host}
+use Rattle.message.specs.Cue.{cueIn}
+use Rattle.message.specs.Entry.{asHost}
+use Rattle.message.specs.Question.{sameHost}
+use Rattle.message.proofs.QuestionLaws.{and-both}
+use Rattle.end.specs.declared.Slot.{Slot}
+use Rattle.end.specs.declared.Slot.the-variants.{Empty, Held, Waiting}
+use Rattle.end.specs.declared.Record.{Record}
+use Rattle.end.specs.declared.Span.{Span}
+use Rattle.end.specs.declared.Span.the-variants.{Closed, Open}
+use Rattle.end.specs.declared.Source.{Source}
+use Rattle.end.specs.declared.End.{End}
+use Rattle.end.specs.State.{noRecord, noSource, isMember, isHeld}
+use Rattle.end.specs.Sound.{allFrom, allOf, allBelow, heldTests, insideSound, outsideSound, within, recordSound, asideTests, isClosed, sourceTests, sourceSound, soundTests, soundOf}
+
+-- ---- the tests
+
+all-parts : (a : Bool) (bs : List Bool) → allFrom a bs ≡ true → (a ≡ true) × ((i : ℕ) → getD bs i true ≡ true)
+all-parts a [] h = (h, λ i. refl)
+all-parts a (b ∷ bs) h =
+    let rest = all-parts (a && b) bs h in
+    let both = and-both a b (rest .0) in
+    (both .0, go (both .1) (rest .1))
+  where
+    go : b ≡ true → ((i : ℕ) → getD bs i true ≡ true) → (i : ℕ) → getD (b ∷ bs) i true ≡ true
+    go p q zero = p
+    go p q (suc i) = q i
+
+-- of a test with parts, the part at a place
+pub nth : (bs : List Bool) (i : ℕ) → allOf bs ≡ true → getD bs i true ≡ true
+nth [] i h = refl
+nth (b ∷ bs) zero h = all-parts b bs h .0
+nth (b ∷ bs) (suc i) h = all-parts b bs h .1 i
+
+-- of a test for each number below n, the one at a number
+pub all-at : (f : ℕ → Bool) (n i : ℕ) → allBelow f n ≡ true → i < n → f i ≡ true
+unfolding allBelow
+all-at f zero i h l = absurd (omega arith)
+all-at f (suc n) i h l =
+    let both = and-both (allBelow f n) (f n) h in
+    by-order i n (λ k. all-at f n i (both .0) k) (λ k. let same : n ≡ i = omega arith in ap f (sym same) ∙ both .1)
+
+-- ---- the end
+pub record SoundEnd (e : End) : Type 0 where
+  pub host : e .host .0 < 8
+  pub clock : e .clock < 281474976710656
+  pub next : e .next ≤ 64
+  pub sources : length (e .sources) ≡ 8
+  pub each : (h : ℕ) → h < 8 → sourceSound e (asHost h) (getD (e .sources) h noSource) ≡ true
+
+pub sound-end : (e : End) → soundOf e ≡ true → SoundEnd e
+unfolding soundOf
+sound-end e h = record {
+  host = ltb-true (e .host .0) 8 (nth (soundTests e) 0 h);
+  clock = ltb-true (e .clock) 281474976710656 (nth (soundTests e) 2 h);
+  next = leb-true (e .next) 64 (nth (soundTests e) 3 h);
+  sources = eqb-true (length (e .sources)) 8 (nth (soundTests e) 4 h);
+  each = λ k l. all-at (λ h. sourceSound e (asHost h) (getD (e .sources) h noSource)) 8 k (nth (soundTests e) 5 h) l;
+}
+
+-- ---- one source
+module _ (e : End) (h : Host) (s : Source) (sound : sourceSound e h s ≡ true) where
+  pub names-length : length (s .names) ≡ 64
+  names-length = eqb-true (length (s .names)) 64 (nth (sourceTests e h s) 4 sound)
+
+  pub record-sound : (n : ℕ) → n < 64 → recordSound (e .host) h (s .span) n (getD (s .names) n noRecord) ≡ true
+  record-sound n l = all-at (λ n. recordSound (e .host) h (s .span) n (getD (s .names) n noRecord)) 64 n (nth (sourceTests e h s) 5 sound) l
+
+  closed-is : (x : Span) → isClosed x ≡ true → x ≡ Closed
+  closed-is Closed p = refl
+  closed-is (Open first last) p = absurd (true≢false (sym p))
+
+  -- a non-member has no first
+  pub aside-closed : isMember (e .status) ≡ false → s .span ≡ Closed
+  aside-closed m =
+      let t : (isMember (e .status) || allOf (asideTests (sameHost h (e .host)) s)) ≡ true = nth (sourceTests e h s) 3 sound in
+      closed-is (s .span) (nth (asideTests (sameHost h (e .host)) s) 0 (alone (isMember (e .status)) m t))
+    where
+      alone : (a : Bool) → a ≡ false → (a || allOf (asideTests (sameHost h (e .host)) s)) ≡ true → allOf (asideTests (sameHost h (e .host)) s) ≡ true
+      alone true p q = absurd (true≢false p)
+      alone false p q = q
+
+-- ---- one name
+module _ (me source : Host) (span : Span) (n : ℕ) (r : Record) (sound : recordSound me source span n r ≡ true) where
+  inside : within span n ≡ true → insideSound me source r (r .slot) ≡ true
+  inside w = sym (ap (λ (t : Bool). cond t (insideSound me source r (r .slot)) (outsideSound r (r .slot))) w) ∙ sound
+
+  outside : within span n ≡ false → outsideSound r (r .slot) ≡ true
+  outside w = sym (ap (λ (t : Bool). cond t (insideSound me source r (r .slot)) (outsideSound r (r .slot))) w) ∙ sound
+
+  -- outside first..last nothing is held
+  pub outside-not-held : within span n ≡ false → isHeld (r .slot) ≡ false
+  outside-not-held w = go (r .slot) (outside w)
+    where
+      go : (x : Slot) → outsideSound r x ≡ true → isHeld x ≡ false
+      go Empty p = refl
+      go Held p = absurd (true≢false (sym p))
+      go (Waiting q) p = refl
+
+  -- inside, own names are held
+  pub own-held : within span n ≡ true → sameHost source me ≡ true → isHeld (r .slot) ≡ true
+  own-held w same = go (r .slot) (inside w)
+    where
+      go : (x : Slot) → insideSound me source r x ≡ true → isHeld x ≡ true
+      go Empty p = p
+      go Held p = refl
+      go (Waiting q) p = absurd (true≢false (sym (and-both (not (sameHost source me)) _ p .0) ∙ ap not same))
+
+  -- a held cue is 24 bytes, with its fields in range
+  pub held-cue : r .slot ≡ Held → (length (r .cue) ≡ 24) × (cueIn (r .cue) ≡ true)
+  held-cue p = go (within span n) refl
+    where
+      tests : insideSound me source r Held ≡ true → (length (r .cue) ≡ 24) × (cueIn (r .cue) ≡ true)
+      tests q = (eqb-true (length (r .cue)) 24 (nth (heldTests me source r) 0 q), nth (heldTests me source r) 1 q)
+
+      go : (t : Bool) → within span n ≡ t → (length (r .cue) ≡ 24) × (cueIn (r .cue) ≡ true)
+      go true w = tests (sym (ap (insideSound me source r) p) ∙ inside w)
+      go false w = absurd (true≢false (sym (outside w) ∙ ap (outsideSound r) p))

@@ -1,0 +1,10 @@
+pub mod State
+pub mod Sound
+pub mod Round
+pub mod Names
+pub mod Messages
+pub mod Arrival
+pub mod Fire
+pub mod Event
+pub mod Answer
+pub mod Opening

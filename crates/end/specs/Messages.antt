@@ -1,0 +1,67 @@
+-- The messages that an end puts out. Document 01, "Messages" (the table) and "Events": "Out DATA", "goes out as RQST", "goes out as
+-- REPL", "Out SESS with all firsts' sources and all heard stamps".
+use Prim.Native.Nat.{ℕ, zero, suc, _-_}
+use mathlib.Core.List.{List, [], _∷_, _++_}
+use lib.ListN.{getD}
+use Rattle.message.specs.declared.Host.{Host}
+use Rattle.message.specs.declared.Name.{Name}
+use Rattle.message.specs.declared.Report.{Report}
+use Rattle.message.specs.declared.Echo.{Echo}
+use Rattle.message.specs.Entry.{asHost}
+use Rattle.message.specs.Message.{DATA, RQST, REPL, SESS, Meaning}
+use Rattle.end.specs.declared.Span.{Span}
+use Rattle.end.specs.declared.Span.the-variants.{Closed, Open}
+use Rattle.end.specs.declared.Heard.{Heard}
+use Rattle.end.specs.declared.Heard.the-variants.{Never, At}
+use Rattle.end.specs.declared.End.{End}
+use Rattle.end.specs.State.{noSource}
+
+-- a message about one name: its host, and its cue if it carries one; sender and stamp are the end's host and clock
+abbrev pub aboutName : ℕ → End → Name → Host → List (List ℕ) → Meaning
+aboutName kind e name host cues = record {
+  kind = kind;
+  sender = e .host;
+  stamp = e .clock;
+  names = record { name = name; host = host } ∷ [];
+  cues = cues;
+  reports = [];
+  echoes = [];
+}
+
+abbrev pub dataMessage : End → Name → List ℕ → Meaning
+dataMessage e name cue = aboutName DATA e name (e .host) (cue ∷ [])
+
+abbrev pub requestMessage : End → Name → Meaning
+requestMessage e name = aboutName RQST e name (e .host) []
+
+abbrev pub repairMessage : End → Name → Host → List ℕ → Meaning
+repairMessage e name requester cue = aboutName REPL e name requester (cue ∷ [])
+
+-- the report of a source that has a first, and the echo of a host that was heard: its stamp, and the ticks since
+abbrev pub reportOn : Host → Span → List Report
+reportOn h Closed = []
+reportOn h (Open first last) = record { source = h; last = last } ∷ []
+
+abbrev pub echoOn : Host → ℕ → Heard → List Echo
+echoOn h clock Never = []
+echoOn h clock (At stamp when) = record { host = h; stamp = stamp; held = clock - when } ∷ []
+
+-- of the hosts below k, in rising order
+unfoldable pub reportsBelow : End → ℕ → List Report
+reportsBelow e zero = []
+reportsBelow e (suc k) = reportsBelow e k ++ reportOn (asHost k) (getD (e .sources) k noSource .span)
+
+unfoldable pub echoesBelow : End → ℕ → List Echo
+echoesBelow e zero = []
+echoesBelow e (suc k) = echoesBelow e k ++ echoOn (asHost k) (e .clock) (getD (e .sources) k noSource .heard)
+
+abbrev pub sessionMessage : End → Meaning
+sessionMessage e = record {
+  kind = SESS;
+  sender = e .host;
+  stamp = e .clock;
+  names = [];
+  cues = [];
+  reports = reportsBelow e 8;
+  echoes = echoesBelow e 8;
+}

@@ -1,0 +1,152 @@
+-- When a state is sound. Document 01, "What an end keeps", second paragraph, clause by clause; the ranges are those of the first
+-- paragraph and of "The link and its edge". A test is a list of parts, in the order in which the code joins them.
+use Prim.Native.Nat.{ℕ, zero, suc, _+_}
+use mathlib.Core.Bool.{Bool, true, false, cond, not, _&&_, _||_}
+use mathlib.Core.List.{List, [], _∷_}
+use lib.ListN.{length, getD}
+use lib.Dec.{ltb, leb, eqb}
+use Rattle.message.specs.declared.Host.{Host}
+use Rattle.message.specs.Cue.{cueIn}
+use Rattle.message.specs.Entry.{asHost}
+use Rattle.message.specs.Question.{hostIn, ticksIn, sameHost}
+use Rattle.end.specs.declared.Params.{Params}
+use Rattle.end.specs.declared.Request.{Request}
+use Rattle.end.specs.declared.Slot.{Slot}
+use Rattle.end.specs.declared.Slot.the-variants.{Empty, Held, Waiting}
+use Rattle.end.specs.declared.Reply.{Reply}
+use Rattle.end.specs.declared.Reply.the-variants.{No, Due}
+use Rattle.end.specs.declared.Record.{Record}
+use Rattle.end.specs.declared.Span.{Span}
+use Rattle.end.specs.declared.Span.the-variants.{Closed, Open}
+use Rattle.end.specs.declared.Heard.{Heard}
+use Rattle.end.specs.declared.Heard.the-variants.{Never, At}
+use Rattle.end.specs.declared.Source.{Source}
+use Rattle.end.specs.declared.End.{End}
+use Rattle.end.specs.State.{noRecord, noSource, isMember, isNo, firstDistance}
+
+-- ---- tests
+
+-- all of the parts: ((a && b) && c) ..
+abbrev pub allFrom : Bool → List Bool → Bool
+allFrom a [] = a
+allFrom a (b ∷ bs) = allFrom (a && b) bs
+
+abbrev pub allOf : List Bool → Bool
+allOf [] = true
+allOf (b ∷ bs) = allFrom b bs
+
+-- the test holds of each number below n
+unfoldable pub allBelow : (ℕ → Bool) → ℕ → Bool
+allBelow f zero = true
+allBelow f (suc n) = allBelow f n && f n
+
+-- ---- one name
+
+-- "due and quiet times are below 2^48+2^32"
+abbrev pub timeIn : ℕ → Bool
+timeIn t = ltb t 281479271677952
+
+-- "one waiting request (round 1..16, due, quiet-until)"
+abbrev pub requestTests : Request → List Bool
+requestTests q = leb 1 (q .round) ∷ leb (q .round) 16 ∷ timeIn (q .due) ∷ timeIn (q .quiet) ∷ []
+
+-- "a requester is neither oneself nor the source"
+abbrev pub replyTests : Host → Host → Reply → List Bool
+replyTests me source No = []
+replyTests me source (Due due requester) = timeIn due ∷ hostIn requester ∷ not (sameHost requester me) ∷ not (sameHost requester source) ∷ []
+
+-- a held cue is 24 bytes with its fields in range; beside it there may be a reply
+abbrev pub heldTests : Host → Host → Record → List Bool
+heldTests me source r = eqb (length (r .cue)) 24 ∷ cueIn (r .cue) ∷ allOf (replyTests me source (r .reply)) ∷ timeIn (r .quiet) ∷ []
+
+-- beside a request there is no reply
+abbrev pub waitingTests : Record → Request → List Bool
+waitingTests r q = allOf (requestTests q) ∷ isNo (r .reply) ∷ timeIn (r .quiet) ∷ []
+
+-- "those inside have a cue or a request, own ones a cue"
+abbrev pub insideSound : Host → Host → Record → Slot → Bool
+insideSound me source r Empty = false
+insideSound me source r Held = allOf (heldTests me source r)
+insideSound me source r (Waiting q) = not (sameHost source me) && allOf (waitingTests r q)
+
+-- "names outside first..last hold nothing and have reply-quiet 0"
+abbrev pub outsideSound : Record → Slot → Bool
+outsideSound r Empty = isNo (r .reply) && eqb (r .quiet) 0
+outsideSound r Held = false
+outsideSound r (Waiting q) = false
+
+abbrev pub within : Span → ℕ → Bool
+within Closed n = false
+within (Open first last) n = leb (first .0) n && leb n (last .0)
+
+abbrev pub recordSound : Host → Host → Span → ℕ → Record → Bool
+recordSound me source span n r = cond (within span n) (insideSound me source r (r .slot)) (outsideSound r (r .slot))
+
+-- ---- one source
+
+-- "own last, if any, is next−1; first ≤ last"
+abbrev pub spanTests : Bool → ℕ → Span → List Bool
+spanTests own next Closed = []
+spanTests own next (Open first last) = leb (first .0) (last .0) ∷ ltb (last .0) 64 ∷ (not own || eqb (last .0 + 1) next) ∷ []
+
+-- "A distance .. is 1..1000 whole milliseconds ..; to oneself it is 0."
+abbrev pub distanceSound : Bool → ℕ → Bool
+distanceSound own d = cond own (eqb d 0) (leb 1 d && leb d 1000)
+
+-- "heard times are at most the clock; no stamp is heard from oneself"
+abbrev pub heardTests : Bool → ℕ → Heard → List Bool
+heardTests own clock Never = []
+heardTests own clock (At stamp when) = not own ∷ ticksIn stamp ∷ leb when clock ∷ []
+
+abbrev pub isClosed : Span → Bool
+isClosed Closed = true
+isClosed (Open first last) = false
+
+abbrev pub isNever : Heard → Bool
+isNever Never = true
+isNever (At stamp when) = false
+
+-- "a non-member has no first, request, reply or heard stamp, and distances to others at 40": a source with no first has neither
+-- request nor reply
+abbrev pub asideTests : Bool → Source → List Bool
+asideTests own s = isClosed (s .span) ∷ isNever (s .heard) ∷ (own || eqb (s .distance) firstDistance) ∷ []
+
+abbrev pub namesSound : Host → Host → Span → List Record → ℕ → Bool
+namesSound me source span names k = allBelow (λ n. recordSound me source span n (getD names n noRecord)) k
+
+abbrev pub sourceTests : End → Host → Source → List Bool
+sourceTests e h s =
+    allOf (spanTests (sameHost h (e .host)) (e .next) (s .span))
+    ∷ distanceSound (sameHost h (e .host)) (s .distance)
+    ∷ allOf (heardTests (sameHost h (e .host)) (e .clock) (s .heard))
+    ∷ (isMember (e .status) || allOf (asideTests (sameHost h (e .host)) s))
+    ∷ eqb (length (s .names)) 64
+    ∷ namesSound (e .host) h (s .span) (s .names) 64
+    ∷ []
+
+abbrev pub sourceSound : End → Host → Source → Bool
+sourceSound e h s = allOf (sourceTests e h s)
+
+-- ---- the end
+
+-- "Parameters .. are 0..32 quarters"
+abbrev pub paramsTests : Params → List Bool
+paramsTests p = leb (p .c1) 32 ∷ leb (p .c2) 32 ∷ leb (p .c3) 32 ∷ leb (p .d1) 32 ∷ leb (p .d2) 32 ∷ leb (p .d3) 32 ∷ []
+
+abbrev pub sourcesSound : End → ℕ → Bool
+sourcesSound e k = allBelow (λ h. sourceSound e (asHost h) (getD (e .sources) h noSource)) k
+
+-- "fields are in range" and each source is sound. The lengths of the arrays are among the tests since a definition's array is a
+-- list; every value of the declared type has them.
+abbrev pub soundTests : End → List Bool
+soundTests e =
+    hostIn (e .host)
+    ∷ allOf (paramsTests (e .params))
+    ∷ ticksIn (e .clock)
+    ∷ leb (e .next) 64
+    ∷ eqb (length (e .sources)) 8
+    ∷ sourcesSound e 8
+    ∷ []
+
+unfoldable pub soundOf : End → Bool
+soundOf e = allOf (soundTests e)

@@ -1,0 +1,9 @@
+pub mod Tools
+pub mod View
+pub mod Booked
+pub mod Frame
+pub mod Sources
+pub mod Readings
+pub mod Steps
+pub mod Quiets
+pub mod Ends

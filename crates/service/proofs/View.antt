@@ -1,0 +1,109 @@
+-- What the service sees of an end: its host, status and next number, the first number of each source, and the held cues. And the
+-- invariant: an end against the book, and bytes that were put out.
+use mathlib.Core.Path.{_≡_, refl}
+use mathlib.Core.Bool.{Bool, true, false, _&&_, _||_}
+use mathlib.Core.List.{List}
+use mathlib.Core.Option.{Option, none, some}
+use Prim.Native.Nat.{ℕ, _<_}
+use lib.ListN.{length, getElem?}
+use lib.Dec.{eqb}
+use Rattle.message.specs.Entry.{asHost, asNumber}
+use Rattle.message.specs.Message.{Meaning}
+use Rattle.end.specs.declared.Slot.{Slot}
+use Rattle.end.specs.declared.Slot.the-variants.{Empty, Held, Waiting}
+use Rattle.end.specs.declared.Span.{Span}
+use Rattle.end.specs.declared.Span.the-variants.{Closed, Open}
+use Rattle.end.specs.declared.Source.{Source}
+use Rattle.end.specs.declared.End.{End}
+use Rattle.end.specs.State.{sourceAt, recordAt, isMember}
+use Rattle.end.specs.Arrival.{Out, Step, cueIn}
+use Rattle.end.specs.Event.{Event}
+use Rattle.service.specs.Book.{Book, readAs, isOriginal, isRepair, source, number, among, firstOf, isSome, due, after, Meets}
+
+-- ---- what is seen of a source
+unfoldable pub heldIn : Slot → List ℕ → Option (List ℕ)
+heldIn Empty c = none
+heldIn Held c = some c
+heldIn (Waiting q) c = none
+
+unfoldable pub firstIn : Span → Option ℕ
+firstIn Closed = none
+firstIn (Open first last) = some (first .0)
+
+unfoldable pub heldAt : Source → ℕ → Option (List ℕ)
+heldAt s n = heldIn (recordAt s (asNumber n) .slot) (recordAt s (asNumber n) .cue)
+
+unfoldable pub orElse : Option ℕ → ℕ → ℕ
+orElse none n = n
+orElse (some f) n = f
+
+-- nothing that the service sees of a source has changed
+pub record SameSource (s s′ : Source) : Type 0 where
+  pub first : firstIn (s′ .span) ≡ firstIn (s .span)
+  pub holding : (n : ℕ) → n < 64 → heldAt s′ n ≡ heldAt s n
+
+-- the cue c is now held under n, and the source is open
+pub record TookSource (s s′ : Source) (n : ℕ) (c : List ℕ) : Type 0 where
+  pub first : firstIn (s′ .span) ≡ some (orElse (firstIn (s .span)) n)
+  pub there : heldAt s′ n ≡ some c
+  pub holding : (j : ℕ) → j < 64 → eqb j n ≡ false → heldAt s′ j ≡ heldAt s j
+
+-- ---- what is seen of an end
+unfoldable pub holds : End → ℕ → ℕ → Option (List ℕ)
+holds e s n = heldAt (sourceAt e (asHost s)) n
+
+unfoldable pub firstAt : End → ℕ → Option ℕ
+firstAt e s = firstIn (sourceAt e (asHost s) .span)
+
+-- nothing that the service sees has changed
+pub record Same (e e′ : End) : Type 0 where
+  pub host : e′ .host .0 ≡ e .host .0
+  pub status : e′ .status ≡ e .status
+  pub next : e′ .next ≡ e .next
+  pub firsts : (s : ℕ) → s < 8 → firstAt e′ s ≡ firstAt e s
+  pub holding : (s n : ℕ) → s < 8 → n < 64 → holds e′ s n ≡ holds e s n
+
+-- the cue c is now held under s, n, and nothing else that the service sees has changed but the next number
+pub record Took (e e′ : End) (s n : ℕ) (c : List ℕ) : Type 0 where
+  pub host : e′ .host .0 ≡ e .host .0
+  pub status : e′ .status ≡ e .status
+  pub first-there : firstAt e′ s ≡ some (orElse (firstAt e s) n)
+  pub firsts : (k : ℕ) → k < 8 → eqb k s ≡ false → firstAt e′ k ≡ firstAt e k
+  pub holds-there : holds e′ s n ≡ some c
+  pub holding : (k j : ℕ) → k < 8 → j < 64 → eqb k s && eqb j n ≡ false → holds e′ k j ≡ holds e k j
+
+-- ---- the invariant
+
+-- an end against the book. What the book has handed out counts for a member alone: the book clears it at Joined, the end at Leave
+pub record Rel (b : Book) (h : ℕ) (e : End) : Type 0 where
+  pub host : e .host .0 ≡ h
+  pub status : e .status ≡ b .status h
+  pub next : e .next ≡ length (b .filed h)
+  pub filed : (s n : ℕ) (c : List ℕ) → s < 8 → n < 64 → holds e s n ≡ some c → getElem? (b .filed s) n ≡ some c
+  pub handed : isMember (e .status) ≡ true → (s n : ℕ) → s < 8 → n < 64 → eqb h s ≡ false → isSome (holds e s n) ≡ among n (b .handed h s)
+  pub firsts : isMember (e .status) ≡ true → (s : ℕ) → s < 8 → eqb h s ≡ false → firstAt e s ≡ firstOf (b .handed h s)
+
+-- a message that carries a cue: an original or a repair
+abbrev pub carries : Meaning → Bool
+carries m = isOriginal m || isRepair m
+
+-- bytes that, if they are a message with a cue, carry the cue filed under its name
+abbrev pub Filed : Book → List ℕ → Type 0
+Filed b x = (m : Meaning) → readAs x ≡ some m → carries m ≡ true → getElem? (b .filed (source m)) (number m) ≡ some (cueIn m)
+
+-- the book b′ after b: nothing of another host than h has changed, and filed cues stay
+pub record Grows (h : ℕ) (b b′ : Book) : Type 0 where
+  pub status : (k : ℕ) → eqb k h ≡ false → b′ .status k ≡ b .status k
+  pub handed : (k s : ℕ) → eqb k h ≡ false → b′ .handed k s ≡ b .handed k s
+  pub count : (k : ℕ) → eqb k h ≡ false → length (b′ .filed k) ≡ length (b .filed k)
+  pub filed : (k n : ℕ) (c : List ℕ) → getElem? (b .filed k) n ≡ some c → getElem? (b′ .filed k) n ≡ some c
+
+-- an unrefused call of host h is by the book
+pub record Right (b : Book) (h : ℕ) (ev : Event) (r : Step) : Type 0 where
+  pub answered : Meets (due b h ev) (r .effect)
+  pub rel : Rel (after b h ev) h (r .left)
+  pub grows : Grows h b (after b h ev)
+  pub filed : (x : List ℕ) → r .effect ≡ Out x → Filed (after b h ev) x
+
+pub grows-refl : (h : ℕ) (b : Book) → Grows h b b
+grows-refl h b = record { status = λ k d. refl; handed = λ k s d. refl; count = λ k d. refl; filed = λ k n c p. p }

@@ -1,0 +1,179 @@
+-- The service's book. Document 01, "The service's book". It is fed what an onlooker sees of each call (host, event with its
+-- arguments, outcome, the end's status after it) and never sees an end.
+use mathlib.Core.Path.{_≡_}
+use mathlib.Core.Bool.{Bool, true, false, not, cond, _&&_, _||_}
+use mathlib.Core.List.{List, [], _∷_, _++_}
+use mathlib.Core.Option.{Option, none, some}
+use Prim.Native.Nat.{ℕ}
+use lib.ListN.{length, getD, getElem?}
+use lib.Dec.{leb, eqb}
+use Rattle.message.specs.Entry.{asHost, asNumber}
+use Rattle.message.specs.Message.{DATA, REPL, Meaning, meaningFrom}
+use Rattle.message.specs.Question.{readRefusal}
+use Rattle.end.specs.declared.Status.{Status}
+use Rattle.end.specs.declared.Status.the-variants.{Idle}
+use Rattle.end.specs.State.{isMember}
+use Rattle.end.specs.Arrival.{Effect, Out, Got, Done, Ignored, Nothing, nameIn, cueIn}
+use Rattle.end.specs.Event.{Moving, Join, Joined, Leave, Left, Crash, Event, Move, Send, Arrival, Else, Outcome, Refused, Did, moves, movesTo}
+
+-- a function with one value changed
+unfoldable pub put : {A : Type 0} → (ℕ → A) → ℕ → A → ℕ → A
+put f h x k = cond (eqb k h) x (f k)
+
+-- each host's status; the cues that it filed, by number; and for each host and source the numbers handed out since it joined, in
+-- the order in which they were
+pub record Book : Type 0 where
+  pub status : ℕ → Status
+  pub filed : ℕ → List (List ℕ)
+  pub handed : ℕ → ℕ → List ℕ
+
+-- "It starts with every host idle and nothing sent."
+abbrev pub emptyBook : Book
+emptyBook = record { status = λ h. Idle; filed = λ h. []; handed = λ h s. [] }
+
+-- ---- messages: the meaning of bytes that the reader accepts
+unfoldable pub readAs : List ℕ → Option Meaning
+readAs bytes = cond (eqb (readRefusal bytes) 0) (some (meaningFrom bytes)) none
+
+-- "an original is a DATA, a repair a REPL"
+abbrev pub isOriginal : Meaning → Bool
+isOriginal m = eqb (m .kind) DATA
+
+abbrev pub isRepair : Meaning → Bool
+isRepair m = eqb (m .kind) REPL
+
+abbrev pub source : Meaning → ℕ
+source m = nameIn m .source .0
+
+abbrev pub number : Meaning → ℕ
+number m = nameIn m .number .0
+
+-- ---- the limits: "the reader is a member and not the source; the name is filed; its number is not below the first one handed out
+-- from that source since joining, if any, and not handed out since joining"
+unfoldable pub among : ℕ → List ℕ → Bool
+among n [] = false
+among n (x ∷ xs) = eqb n x || among n xs
+
+unfoldable pub firstOf : List ℕ → Option ℕ
+firstOf [] = none
+firstOf (x ∷ xs) = some x
+
+unfoldable pub notBelow : Option ℕ → ℕ → Bool
+notBelow none n = true
+notBelow (some first) n = leb first n
+
+unfoldable pub isSome : {A : Type 0} → Option A → Bool
+isSome none = false
+isSome (some a) = true
+
+unfoldable pub limits : Book → ℕ → ℕ → ℕ → Bool
+limits b h s n =
+    isMember (b .status h)
+    && (not (eqb h s)
+    && (isSome (getElem? (b .filed s) n) && (notBelow (firstOf (b .handed h s)) n && not (among n (b .handed h s)))))
+
+-- "Got comes exactly when an original, or a repair where there is such a first, isn't looped and meets the limits": looped is a
+-- message whose sender is its reader
+unfoldable pub gets : Book → ℕ → Meaning → Bool
+gets b h m =
+    (isOriginal m || (isRepair m && isSome (firstOf (b .handed h (source m)))))
+    && (not (eqb (m .sender .0) h) && limits b h (source m) (number m))
+
+-- ---- what the book says of the answer to a call that was not refused
+pub data Due : Type 0 where
+  -- this one
+  Exactly : Effect → Due
+  -- Out with a DATA of this source, number and cue
+  Original : ℕ → ℕ → List ℕ → Due
+  -- any but Got
+  NeverGot : Due
+
+-- "It has the message's name and the filed cue"
+unfoldable pub dueMessage : Book → ℕ → Option Meaning → Due
+dueMessage b h none = NeverGot
+dueMessage b h (some m) = cond (gets b h m) (Exactly (Got (nameIn m) (getD (b .filed (source m)) (number m) []))) NeverGot
+
+-- "Join, Joined, Leave, Left, Crash: the status moves as under Events, with Done; where it doesn't move, Ignored." "Send: for a
+-- member .. Out, a DATA with that name and cue. Otherwise Ignored." "Other Arrivals, Fire, Report, events added later: .. never Got."
+unfoldable pub due : Book → ℕ → Event → Due
+due b h (Move m) = cond (moves m (b .status h)) (Exactly Done) (Exactly Ignored)
+due b h (Send cue) = cond (isMember (b .status h)) (Original h (length (b .filed h)) cue) (Exactly Ignored)
+due b h (Arrival bytes) = dueMessage b h (readAs bytes)
+due b h (Else o) = NeverGot
+
+-- ---- the book after a call that was not refused
+
+-- "the last move to member, which clears the host's handed-out numbers"
+unfoldable pub clearedBy : Moving → (ℕ → List ℕ) → ℕ → List ℕ
+clearedBy Join f s = f s
+clearedBy Joined f s = []
+clearedBy Leave f s = f s
+clearedBy Left f s = f s
+clearedBy Crash f s = f s
+
+unfoldable pub movedBook : Book → ℕ → Moving → Book
+movedBook b h m = record { status = put (b .status) h (movesTo m); filed = b .filed; handed = put (b .handed) h (clearedBy m (b .handed h)) }
+
+-- "the cue is filed for good under the host's next number, from 0"
+unfoldable pub file : Book → ℕ → List ℕ → Book
+file b h cue = record { status = b .status; filed = put (b .filed) h (b .filed h ++ (cue ∷ [])); handed = b .handed }
+
+-- "and the number is now handed out"
+unfoldable pub hand : Book → ℕ → ℕ → ℕ → Book
+hand b h s n = record { status = b .status; filed = b .filed; handed = put (b .handed) h (put (b .handed h) s (b .handed h s ++ (n ∷ []))) }
+
+unfoldable pub afterMessage : Book → ℕ → Option Meaning → Book
+afterMessage b h none = b
+afterMessage b h (some m) = cond (gets b h m) (hand b h (source m) (number m)) b
+
+unfoldable pub after : Book → ℕ → Event → Book
+after b h (Move m) = cond (moves m (b .status h)) (movedBook b h m) b
+after b h (Send cue) = cond (isMember (b .status h)) (file b h cue) b
+after b h (Arrival bytes) = afterMessage b h (readAs bytes)
+after b h (Else o) = b
+
+-- ---- an answer that is the book's
+
+unfoldable pub isGot : Effect → Bool
+isGot (Out bytes) = false
+isGot (Got name cue) = true
+isGot Done = false
+isGot Ignored = false
+isGot Nothing = false
+
+-- the message of a DATA that is put out
+pub record IsOriginal (bytes : List ℕ) (s n : ℕ) (cue : List ℕ) : Type 0 where
+  pub message : Meaning
+  pub reads : readAs bytes ≡ some message
+  pub original : isOriginal message ≡ true
+  pub name : nameIn message ≡ record { source = asHost s; number = asNumber n }
+  pub carried : cueIn message ≡ cue
+
+abbrev pub Meets : Due → Effect → Type 0
+Meets (Exactly a) x = x ≡ a
+Meets (Original s n cue) x = (bytes : List ℕ) × (x ≡ Out bytes) × IsOriginal bytes s n cue
+Meets NeverGot x = isGot x ≡ false
+
+-- one call as an onlooker sees it
+pub record Entry : Type 0 where
+  pub host : ℕ
+  pub event : Event
+  pub outcome : Outcome
+  pub status : Status
+
+-- "Refused: nothing changes."
+unfoldable pub bookAfter : Book → ℕ → Event → Outcome → Book
+bookAfter b h ev (Refused k) = b
+bookAfter b h ev (Did a) = after b h ev
+
+abbrev pub Answered : Book → ℕ → Event → Outcome → Type 0
+Answered b h ev (Refused k) = Unit {0}
+Answered b h ev (Did a) = Meets (due b h ev) a
+
+-- "A list is a run of the service if after every call the end's status and the answers just named, with their names and cues, are
+-- the book's."
+abbrev pub RunFrom : Book → List Entry → Type 0
+RunFrom b [] = Unit {0}
+RunFrom b (x ∷ xs) =
+    let b′ = bookAfter b (x .host) (x .event) (x .outcome) in
+    Answered b (x .host) (x .event) (x .outcome) × (x .status ≡ b′ .status (x .host)) × RunFrom b′ xs

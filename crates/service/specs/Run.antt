@@ -1,0 +1,82 @@
+-- The lists of calls that demand 3 speaks of, and demand 3. Document 01, "The service's book", first paragraph.
+use mathlib.Core.Path.{_≡_}
+use mathlib.Core.List.{List, [], _∷_, List·Memᴰ}
+use Prim.Native.Nat.{ℕ, _<_}
+use lib.ListN.{length}
+use Rattle.message.specs.Entry.{asHost}
+use Rattle.message.specs.declared.Verdict.the-variants.{Accepted}
+use Rattle.end.specs.declared.Params.{Params}
+use Rattle.end.specs.declared.End.{End}
+use Rattle.end.specs.Arrival.{Out, Got, Done, Ignored, Nothing}
+use Rattle.end.specs.Event.{Event, Move, Send, Arrival, Else, Outcome, Refused, Did, Result, eventOf}
+use Rattle.end.specs.Opening.{openingOf}
+use Rattle.service.specs.Book.{put, Entry, RunFrom, emptyBook}
+
+-- A call: the host whose end it is made on, the event with its arguments, the clock, the output that is lent and the draws; any of
+-- them may be such that the call is refused.
+pub record Call : Type 0 where
+  pub host : ℕ
+  pub event : Event
+  pub clock : ℕ
+  pub output : List ℕ
+  pub draws : List ℕ
+
+-- the ends as their last calls left them, and the bytes put out so far
+pub record World : Type 0 where
+  pub ends : ℕ → End
+  pub sent : List (List ℕ)
+
+-- "Each call gets the state that its end's last call left"
+unfoldable pub resultOf : World → Call → Result
+resultOf w c = eventOf (w .ends (c .host)) (c .event) (c .clock) (length (c .output)) (c .draws)
+
+unfoldable pub sentAfter : Outcome → List (List ℕ) → List (List ℕ)
+sentAfter (Refused k) l = l
+sentAfter (Did (Out bytes)) l = bytes ∷ l
+sentAfter (Did (Got name cue)) l = l
+sentAfter (Did Done) l = l
+sentAfter (Did Ignored) l = l
+sentAfter (Did Nothing) l = l
+
+unfoldable pub worldAfter : World → ℕ → Result → World
+worldAfter w h r = record { ends = put (w .ends) h (r .left); sent = sentAfter (r .outcome) (w .sent) }
+
+-- what an onlooker sees of a list of calls
+unfoldable pub seen : World → List Call → List Entry
+seen w [] = []
+seen w (c ∷ cs) =
+    record { host = c .host; event = c .event; outcome = resultOf w c .outcome; status = resultOf w c .left .status }
+    ∷ seen (worldAfter w (c .host) (resultOf w c)) cs
+
+-- "An unrefused Arrival brings the bytes that an earlier Out of the list, any end's, put out."
+abbrev pub Brought : List (List ℕ) → Event → Outcome → Type 0
+Brought l (Move m) o = Unit {0}
+Brought l (Send cue) o = Unit {0}
+Brought l (Arrival bytes) (Refused k) = Unit {0}
+Brought l (Arrival bytes) (Did a) = List·Memᴰ bytes l
+Brought l (Else e) o = Unit {0}
+
+-- the lists that demand 3 speaks of. A host's calls are on its own end; a cue that is sent has the 24 bytes of its declared type
+abbrev pub CueArray : Event → Type 0
+CueArray (Move m) = Unit {0}
+CueArray (Send cue) = length cue ≡ 24
+CueArray (Arrival bytes) = Unit {0}
+CueArray (Else e) = Unit {0}
+
+abbrev pub Allowed : World → List Call → Type 0
+Allowed w [] = Unit {0}
+Allowed w (c ∷ cs) =
+    (c .host < 8)
+    × CueArray (c .event)
+    × Brought (w .sent) (c .event) (resultOf w c .outcome)
+    × Allowed (worldAfter w (c .host) (resultOf w c)) cs
+
+-- "on ends from openings not refused, at most one per host": each of the eight hosts has one; a list on fewer ends never calls the
+-- others
+pub record Fresh (w : World) : Type 0 where
+  pub ends : (h : ℕ) → h < 8 → (p : Params) × (openingOf (asHost h) p ≡ record { verdict = Accepted; end = w .ends h })
+  pub sent : w .sent ≡ []
+
+-- Demand 3: "the list is a run of the reliable multicast service by document 01's book".
+abbrev pub Service : Type 0
+Service = (w : World) → Fresh w → (cs : List Call) → Allowed w cs → RunFrom emptyBook (seen w cs)

@@ -13,8 +13,8 @@ use Rattle.end.specs.State.{freshEnd}
 use Rattle.end.specs.Arrival.{Out, Got, Done, Nothing}
 use Rattle.end.specs.Event.{Event, Move, Send, Arrival, Else, Join, Joined, Fire, Outcome, Did}
 use Rattle.end.specs.Opening.{houseParams}
-use Rattle.service.specs.Book.{Entry}
-use Rattle.service.specs.Run.{World, Call, seen}
+use Rattle.end.specs.Book.{Entry}
+use Rattle.end.specs.Run.{World, Call, seen}
 
 -- the ends, freshly opened
 abbrev pub house : World

@@ -8,3 +8,5 @@ pub mod Fire
 pub mod Event
 pub mod Answer
 pub mod Opening
+pub mod Book
+pub mod Run

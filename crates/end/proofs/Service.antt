@@ -1,3 +1,4 @@
+-- Demand 3: the proof that every allowed list of calls is a run of the service, in the order in which it goes.
 pub mod Tools
 pub mod View
 pub mod Booked

@@ -17,31 +17,31 @@ use Rattle.message.specs.Question.{hostIn, reportIn, sameHost}
 use Rattle.message.proofs.QuestionLaws.{and-both}
 use Rattle.message.proofs.SectionLaws.{none, some}
 use Rattle.roundtrip.proofs.ThereAndBack.{Fits}
 use Rattle.end.specs.declared.Slot.{Slot}
 use Rattle.end.specs.declared.Slot.the-variants.{Empty, Held, Waiting}
 use Rattle.end.specs.declared.Reply.{Reply}
 use Rattle.end.specs.declared.Reply.the-variants.{No, Due}
 use Rattle.end.specs.declared.Span.{Span}
 use Rattle.end.specs.declared.Span.the-variants.{Closed, Open}
 use Rattle.end.specs.declared.Source.{Source}
 use Rattle.end.specs.declared.End.{End}
 use Rattle.end.specs.declared.Earliest.{Earliest}
 use Rattle.end.specs.declared.Earliest.the-variants.{NoWait, First}
 use Rattle.end.specs.State.{noSource, sourceAt, recordAt, distanceTo, isHeld, isNo}
 use Rattle.end.specs.Round.{Timing, requestAt, nextRound, quietAfterReply, replyDue}
 use Rattle.end.specs.Names.{asking, quieted, replying, setRound, setReply, quietReply, rise}
 use Rattle.end.specs.Messages.{requestMessage, repairMessage, sessionMessage}
 use Rattle.end.specs.Arrival.{Effect, Out, Got, Done, Ignored, Nothing, give, stepSource, passedOver, answered, backedOff, learned, requestOf, isAbove, reported, allReported, heardFrom, echoed, sessionOf, cueIn}
 use Rattle.end.specs.Fire.{fireAt, fired, earliest}
 use Rattle.end.specs.Event.{Other, Fire, Report, otherOf}
 use Rattle.end.proofs.SoundLaws.{held-cue}
-use Rattle.service.specs.Book.{readAs, source, number, isGot}
-use Rattle.service.proofs.Tools.{byCond, clash, clash′, set-elim}
-use Rattle.service.proofs.View.{heldIn, heldAt, SameSource, holds, Same, carries}
-use Rattle.service.proofs.Booked.{Quiet}
-use Rattle.service.proofs.Sources.{not-held-is, same-then, same-record, Calm, same-rise, calm-rise}
-use Rattle.service.proofs.Readings.{written-kind, written-back}
-use Rattle.service.proofs.Steps.{same-refl, same-trans, same-source, Facts, facts-calm, record-there}
+use Rattle.end.specs.Book.{readAs, source, number, isGot}
+use Rattle.end.proofs.Service.Tools.{byCond, clash, clash′, set-elim}
+use Rattle.end.proofs.Service.View.{heldIn, heldAt, SameSource, holds, Same, carries}
+use Rattle.end.proofs.Service.Booked.{Quiet}
+use Rattle.end.proofs.Service.Sources.{not-held-is, same-then, same-record, Calm, same-rise, calm-rise}
+use Rattle.end.proofs.Service.Readings.{written-kind, written-back}
+use Rattle.end.proofs.Service.Steps.{same-refl, same-trans, same-source, Facts, facts-calm, record-there}
 
 -- ---- effects
 

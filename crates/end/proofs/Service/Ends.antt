@@ -17,30 +17,30 @@ use Rattle.message.specs.Message.{DATA, RQST, REPL, Meaning, meaningFrom, bytes
 use Rattle.message.specs.Question.{ask, firstNo, readQuestions, readRefusal, sameHost, inRange, hostsFit}
 use Rattle.message.proofs.QuestionLaws.{all-passed}
 use Rattle.message.proofs.SectionLaws as sections
 use Rattle.end.specs.declared.Status.{Status}
 use Rattle.end.specs.declared.Status.the-variants.{Idle, Joining, Member, Leaving, Crashed}
 use Rattle.end.specs.declared.Span.{Span}
 use Rattle.end.specs.declared.Span.the-variants.{Closed, Open}
 use Rattle.end.specs.declared.Source.{Source}
 use Rattle.end.specs.declared.End.{End}
 use Rattle.end.specs.State.{sourceAt, recordAt, distanceTo, isMember, isHeld, withSource, withSpan, withStatus, withNext, withClock}
 use Rattle.end.specs.Round.{Timing, quietAfterReply}
 use Rattle.end.specs.Names.{hold, rise, quieted, quietReply}
 use Rattle.end.specs.Sound.{within}
 use Rattle.end.specs.Messages.{dataMessage}
 use Rattle.end.specs.Arrival.{Got, Done, Ignored, Step, give, stepSource, opened, taken, dataOf, passedOver, repairOf, nameIn, cueIn, heardOf}
 use Rattle.end.specs.Event.{Moving, Join, Joined, Leave, Left, Crash, moves, movesTo, movedEnd, moveOf, cleared, Event, Move, Send, Arrival, Else, Other, ownName, extended, sentEnd, sendOf, arrivalOf, otherOf, ifMember, actOf, ownQuestions, timing}
 use Rattle.end.proofs.SoundLaws.{own-held}
-use Rattle.service.specs.Book.{Book, readAs, isOriginal, isRepair, source, number, isSome, notBelow, due, after, Meets}
-use Rattle.service.specs.Run.{Service}
-use Rattle.service.proofs.Tools.{byCond, byTest, clash, clash′, or-left, or-right, eqb-flip}
-use Rattle.service.proofs.View.{firstIn, heldAt, orElse, SameSource, TookSource, holds, firstAt, Same, Took, Rel, Filed, Right}
-use Rattle.service.proofs.Booked.{rel-same, calm-right, Quiet, quiet-right, fresh, takes, Hears, arrival-right, Sends, send-right, Moved, move-right}
-use Rattle.service.proofs.Frame.{EventsRight, service-from, none-held}
-use Rattle.service.proofs.Sources.{held-is, not-held-is, same-took, took-same, same-record, took-held, Calm, same-rise, rise-length}
-use Rattle.service.proofs.Readings.{reads, written-reads, in-range, reports-in, original-source}
-use Rattle.service.proofs.Steps.{same-refl, took-source, Facts, facts, facts-clock, facts-calm, outside-none}
-use Rattle.service.proofs.Quiets.{isPlain, plain-not-out, done-quiet, ignored-quiet, quiet-same, others, request-quiet, session-quiet}
+use Rattle.end.specs.Book.{Book, readAs, isOriginal, isRepair, source, number, isSome, notBelow, due, after, Meets}
+use Rattle.end.specs.Run.{Service}
+use Rattle.end.proofs.Service.Tools.{byCond, byTest, clash, clash′, or-left, or-right, eqb-flip}
+use Rattle.end.proofs.Service.View.{firstIn, heldAt, orElse, SameSource, TookSource, holds, firstAt, Same, Took, Rel, Filed, Right}
+use Rattle.end.proofs.Service.Booked.{rel-same, calm-right, Quiet, quiet-right, fresh, takes, Hears, arrival-right, Sends, send-right, Moved, move-right}
+use Rattle.end.proofs.Service.Frame.{EventsRight, service-from, none-held}
+use Rattle.end.proofs.Service.Sources.{held-is, not-held-is, same-took, took-same, same-record, took-held, Calm, same-rise, rise-length}
+use Rattle.end.proofs.Service.Readings.{reads, written-reads, in-range, reports-in, original-source}
+use Rattle.end.proofs.Service.Steps.{same-refl, took-source, Facts, facts, facts-clock, facts-calm, outside-none}
+use Rattle.end.proofs.Service.Quiets.{isPlain, plain-not-out, done-quiet, ignored-quiet, quiet-same, others, request-quiet, session-quiet}
 
 -- ---- Join, Joined, Leave, Left, Crash
 

@@ -11,13 +11,13 @@ use borrow.Author.Tests.{eqb-true, eq-eqb, not-true}
 use Rattle.message.specs.Entry.{asHost, asNumber}
 use Rattle.message.specs.Message.{Meaning}
 use Rattle.message.specs.declared.Name.{Name}
 use Rattle.end.specs.declared.End.{End}
 use Rattle.end.specs.State.{isMember}
 use Rattle.end.specs.Arrival.{Effect, Out, Got, Done, Step, nameIn, cueIn}
 use Rattle.end.specs.Event.{Moving, Join, Joined, Leave, Left, Crash, moves, movesTo, Event, Move, Send, Arrival}
-use Rattle.service.specs.Book.{Book, put, readAs, isOriginal, isRepair, source, number, among, firstOf, isSome, notBelow, isGot, due, after, NeverGot, IsOriginal, Meets, limits, gets, hand, dueMessage, afterMessage, file, clearedBy, movedBook}
-use Rattle.service.proofs.Tools.{byTest, put-all, put-same, put-other, clash′, or-left, or-right, and-left, and-right, eqb-flip, getElem-getD, getElem-keeps, getElem-snoc}
-use Rattle.service.proofs.View.{holds, firstAt, orElse, Same, Took, Rel, carries, Filed, Grows, Right, grows-refl}
+use Rattle.end.specs.Book.{Book, put, readAs, isOriginal, isRepair, source, number, among, firstOf, isSome, notBelow, isGot, due, after, NeverGot, IsOriginal, Meets, limits, gets, hand, dueMessage, afterMessage, file, clearedBy, movedBook}
+use Rattle.end.proofs.Service.Tools.{byTest, put-all, put-same, put-other, clash′, or-left, or-right, and-left, and-right, eqb-flip, getElem-getD, getElem-keeps, getElem-snoc}
+use Rattle.end.proofs.Service.View.{holds, firstAt, orElse, Same, Took, Rel, carries, Filed, Grows, Right, grows-refl}
 
 -- ---- 1. Nothing that the service sees has changed.
 

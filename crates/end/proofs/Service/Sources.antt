@@ -10,17 +10,17 @@ use lib.Seq.{getD-set-same}
 use borrow.Author.Tests.{eq-eqb}
 use Rattle.message.specs.declared.CueNumber.{CueNumber}
 use Rattle.message.specs.Entry.{asNumber}
 use Rattle.end.specs.declared.Slot.{Slot}
 use Rattle.end.specs.declared.Slot.the-variants.{Empty, Held, Waiting}
 use Rattle.end.specs.declared.Record.{Record}
 use Rattle.end.specs.declared.Span.{Span}
 use Rattle.end.specs.declared.Span.the-variants.{Closed, Open}
 use Rattle.end.specs.declared.Source.{Source}
 use Rattle.end.specs.State.{noRecord, isHeld, withRecord, withSpan}
 use Rattle.end.specs.Round.{Timing, requestAt}
 use Rattle.end.specs.Names.{asking, holding, hold, requested, rise}
-use Rattle.service.proofs.Tools.{clash, clash′, set-elim}
-use Rattle.service.proofs.View.{heldIn, firstIn, heldAt, orElse, SameSource, TookSource}
+use Rattle.end.proofs.Service.Tools.{clash, clash′, set-elim}
+use Rattle.end.proofs.Service.View.{heldIn, firstIn, heldAt, orElse, SameSource, TookSource}
 
 -- ---- what a record holds
 pub held-is : (x : Slot) (c : List ℕ) → isHeld x ≡ true → heldIn x c ≡ some c

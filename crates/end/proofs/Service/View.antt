@@ -9,16 +9,16 @@ use lib.ListN.{length, getElem?}
 use lib.Dec.{eqb}
 use Rattle.message.specs.Entry.{asHost, asNumber}
 use Rattle.message.specs.Message.{Meaning}
 use Rattle.end.specs.declared.Slot.{Slot}
 use Rattle.end.specs.declared.Slot.the-variants.{Empty, Held, Waiting}
 use Rattle.end.specs.declared.Span.{Span}
 use Rattle.end.specs.declared.Span.the-variants.{Closed, Open}
 use Rattle.end.specs.declared.Source.{Source}
 use Rattle.end.specs.declared.End.{End}
 use Rattle.end.specs.State.{sourceAt, recordAt, isMember}
 use Rattle.end.specs.Arrival.{Out, Step, cueIn}
 use Rattle.end.specs.Event.{Event}
-use Rattle.service.specs.Book.{Book, readAs, isOriginal, isRepair, source, number, among, firstOf, isSome, due, after, Meets}
+use Rattle.end.specs.Book.{Book, readAs, isOriginal, isRepair, source, number, among, firstOf, isSome, due, after, Meets}
 
 -- ---- what is seen of a source
 unfoldable pub heldIn : Slot → List ℕ → Option (List ℕ)

@@ -20,9 +20,9 @@ use Rattle.message.specs.declared.Host.{Host}
 use Rattle.message.proofs.QuestionLaws.{and-both, or-either, all-passed}
 use Rattle.roundtrip.proofs.ThereAndBack.{Fits, meaning-back}
 use Rattle.roundtrip.proofs.RoundTrip.{accepted, accepts, meaning-accepted}
-use Rattle.service.specs.Book.{readAs, source, number}
-use Rattle.service.proofs.Tools.{byCond, clash′}
-use Rattle.service.proofs.Booked.{InRange}
+use Rattle.end.specs.Book.{readAs, source, number}
+use Rattle.end.proofs.Service.Tools.{byCond, clash′}
+use Rattle.end.proofs.Service.Booked.{InRange}
 
 -- bytes that are read are accepted, and the message is their meaning
 pub read-is : (x : List ℕ) (m : Meaning) → readAs x ≡ some m → (readRefusal x ≡ 0) × (meaningFrom x ≡ m)

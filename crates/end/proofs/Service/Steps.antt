@@ -12,18 +12,18 @@ use borrow.Author.Tests.{eq-eqb, lt-leb}
 use Rattle.numbers.proofs.Cases.{by-order}
 use Rattle.message.specs.declared.Host.{Host}
 use Rattle.message.specs.Entry.{asHost, asNumber}
 use Rattle.end.specs.declared.Slot.the-variants.{Empty}
 use Rattle.end.specs.declared.Record.{Record}
 use Rattle.end.specs.declared.Span.{Span}
 use Rattle.end.specs.declared.Span.the-variants.{Closed}
 use Rattle.end.specs.declared.Source.{Source}
 use Rattle.end.specs.declared.End.{End}
 use Rattle.end.specs.State.{noRecord, noSource, sourceAt, recordAt, isMember, isCrashed, withSource, withClock}
 use Rattle.end.specs.Sound.{within, recordSound, soundOf}
 use Rattle.end.proofs.SoundLaws.{sound-end, names-length, record-sound, aside-closed, outside-not-held}
-use Rattle.service.proofs.Tools.{byCond, clash, set-elim}
-use Rattle.service.proofs.View.{firstIn, heldAt, SameSource, TookSource, holds, firstAt, Same, Took}
-use Rattle.service.proofs.Sources.{not-held-is, Calm}
+use Rattle.end.proofs.Service.Tools.{byCond, clash, set-elim}
+use Rattle.end.proofs.Service.View.{firstIn, heldAt, SameSource, TookSource, holds, firstAt, Same, Took}
+use Rattle.end.proofs.Service.Sources.{not-held-is, Calm}
 
 -- ---- joining changes of ends
 pub same-refl : (e : End) → Same e e

@@ -13,21 +13,21 @@ use Rattle.message.specs.Entry.{asHost}
 use Rattle.message.specs.Question.{ask, firstNo, ticksIn, verdictFor}
 use Rattle.message.specs.declared.Verdict.the-variants as verdict
 use Rattle.message.proofs.QuestionLaws.{all-passed}
 use Rattle.end.specs.declared.Params.{Params}
 use Rattle.end.specs.declared.Status.the-variants.{Idle}
 use Rattle.end.specs.declared.Span.the-variants.{Closed}
 use Rattle.end.specs.declared.Source.{Source}
 use Rattle.end.specs.declared.End.{End}
 use Rattle.end.specs.declared.Opened.{Opened}
 use Rattle.end.specs.State.{noRecord, noSource, blankRecord, blankNames, unheard, unheardSources, freshEnd, withClock}
 use Rattle.end.specs.Sound.{soundOf}
 use Rattle.end.specs.Arrival.{Effect, Out, Got, Done, Ignored, Nothing}
 use Rattle.end.specs.Event.{Event, Move, Send, Arrival, Else, Outcome, Refused, Did, Result, done, timing, actOf, ownQuestions, questionOf, eventOf}
 use Rattle.end.specs.Opening.{openRefusal, endFor, openingOf}
-use Rattle.service.specs.Book.{Book, emptyBook, Answered, RunFrom, bookAfter, after, firstOf, isSome, among}
-use Rattle.service.specs.Run.{World, Call, resultOf, sentAfter, worldAfter, seen, CueArray, Brought, Allowed, Fresh, Service}
-use Rattle.service.proofs.Tools.{byCond, put-all, set-elim}
-use Rattle.service.proofs.View.{heldIn, heldAt, holds, firstIn, firstAt, Rel, Filed, Grows, Right, grows-refl}
+use Rattle.end.specs.Book.{Book, emptyBook, Answered, RunFrom, bookAfter, after, firstOf, isSome, among}
+use Rattle.end.specs.Run.{World, Call, resultOf, sentAfter, worldAfter, seen, CueArray, Brought, Allowed, Fresh, Service}
+use Rattle.end.proofs.Service.Tools.{byCond, put-all, set-elim}
+use Rattle.end.proofs.Service.View.{heldIn, heldAt, holds, firstIn, firstAt, Rel, Filed, Grows, Right, grows-refl}
 
 -- the ends against the book; all that was put out carries the filed cues
 pub record Inv (w : World) (b : Book) : Type 0 where

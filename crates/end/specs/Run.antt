@@ -5,12 +5,12 @@ use Prim.Native.Nat.{ℕ, _<_}
 use lib.ListN.{length}
 use Rattle.message.specs.Entry.{asHost}
 use Rattle.message.specs.declared.Verdict.the-variants.{Accepted}
 use Rattle.end.specs.declared.Params.{Params}
 use Rattle.end.specs.declared.End.{End}
 use Rattle.end.specs.Arrival.{Out, Got, Done, Ignored, Nothing}
 use Rattle.end.specs.Event.{Event, Move, Send, Arrival, Else, Outcome, Refused, Did, Result, eventOf}
 use Rattle.end.specs.Opening.{openingOf}
-use Rattle.service.specs.Book.{put, Entry, RunFrom, emptyBook}
+use Rattle.end.specs.Book.{put, Entry, RunFrom, emptyBook}
 
 -- A call: the host whose end it is made on, the event with its arguments, the clock, the output that is lent and the draws; any of
 -- them may be such that the call is refused.

@@ -1,2 +1,0 @@
-pub mod Book
-pub mod Run

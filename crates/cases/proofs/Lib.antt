@@ -1,3 +1,3 @@
 pub mod Opened
 pub mod Cases
-pub mod Listing
+pub mod Service

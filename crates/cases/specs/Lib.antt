@@ -1,3 +1,5 @@
 pub mod Case
-pub mod Rows
 pub mod Listing
+pub mod Rejoin
+pub mod NotRuns
+pub mod Rows

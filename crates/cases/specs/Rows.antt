@@ -1,5 +1,5 @@
 -- Document 01, "Cases (* is proved)", as rows of one list; "Agreed between us": "Starred cases are checked together from the
--- definitions as rows of one list". This list has the cases of the wire; each row's comment is the document's words.
+-- definitions as rows of one list". Each row's comment is the document's words.
 use Prim.Native.Nat.{ℕ}
 use mathlib.Core.List.{List, [], _∷_, _++_}
 use lib.ListN.{take, replicate}
@@ -8,7 +8,16 @@ use Rattle.numbers.specs.Number.{value, digits}
 use Rattle.numbers.specs.Signed.{signed, unsigned}
 use Rattle.message.specs.Cue.{fieldsOf, cueWith}
 use Rattle.message.specs.Entry.{asHost, asNumber}
-use Rattle.message.specs.Message.{DATA, RQST, Meaning, heldAs, bytesOf}
+use Rattle.message.specs.Message.{DATA, RQST, SESS, Meaning, heldAs, bytesOf}
+use Rattle.message.specs.declared.Echo.{Echo}
+use Rattle.end.specs.declared.Params.{Params}
+use Rattle.end.specs.declared.Status.the-variants.{Idle, Member}
+use Rattle.end.specs.declared.End.{End}
+use Rattle.end.specs.State.{freshEnd, withNext}
+use Rattle.end.specs.Arrival.{Out, measured}
+use Rattle.end.specs.Event.{Event, Send, Else, Report, Refused, Did, Result, eventOf}
+use Rattle.end.specs.Opening.{houseParams, openRefusal, openingOf}
+use Rattle.cases.specs.Listing.{message3, script, printed, played}
 use Rattle.message.specs.Question.{readRefusal, readOf, writeRefusal, outputOf}
 use Rattle.message.specs.declared.Verdict.the-variants.{Accepted}
 use Rattle.cases.specs.Case.{Case, case}
@@ -17,17 +26,20 @@ use Rattle.cases.specs.Case.{Case, case}
 abbrev pub cueOfFocus : ℤ → List ℕ
 cueOfFocus z = cueWith (record { focus = z; zoom = pos 0; sideways = pos 0; upright = pos 0; lamp = 0 })
 
--- host 0's DATA of its cue number 0, at clock 0
-abbrev pub dataOf : List ℕ → Meaning
-dataOf cue = record {
+-- host 0's DATA of a cue number, at clock 0
+abbrev pub dataNumbered : ℕ → List ℕ → Meaning
+dataNumbered n cue = record {
   kind = DATA;
   sender = asHost 0;
   stamp = 0;
-  names = record { name = record { source = asHost 0; number = asNumber 0 }; host = asHost 0 } ∷ [];
+  names = record { name = record { source = asHost 0; number = asNumber n }; host = asHost 0 } ∷ [];
   cues = cue ∷ [];
   reports = [];
   echoes = [];
 }
+
+abbrev pub dataOf : List ℕ → Meaning
+dataOf cue = dataNumbered 0 cue
 
 -- the RQST of end 1 at clock 392 for name 0,1, and its bytes
 abbrev pub rqst : Meaning
@@ -48,10 +60,44 @@ rqstBytes = 0x02 ∷ 0x01 ∷ 0x00 ∷ 0x00 ∷ 0x00 ∷ 0x00 ∷ 0x01 ∷ 0x88 
 abbrev pub output : List ℕ
 output = replicate 128 170
 
+-- parameters in the order C1, C2, C3, D1, D2, D3
+abbrev pub params : ℕ → ℕ → ℕ → ℕ → ℕ → ℕ → Params
+params c1 c2 c3 d1 d2 d3 = record { c1 = c1; c2 = c2; c3 = c3; d1 = d1; d2 = d2; d3 = d3 }
+
+-- host 0's member with a next number, of which nothing else is kept
+abbrev pub memberAt : ℕ → End
+memberAt next = withNext (freshEnd (asHost 0) houseParams Member) next
+
+-- an event at clock 0, with the output above and draws 0
+abbrev pub at0 : End → Event → Result
+at0 e ev = eventOf e ev 0 128 (replicate 64 0)
+
+-- an echo of oneself, host 0, by which e ticks have passed
+abbrev pub echoOfMe : ℕ → List Echo
+echoOfMe held = record { host = asHost 0; stamp = 0; held = held } ∷ []
+
 unfoldable pub rows : List Case
 rows =
+    -- "Parameters 8,8,4,4,4,7 (order as above): 13; 9,8,4,4,4,8 open; the last as 10: 13"
+    case (openRefusal (asHost 0) (params 8 8 4 4 4 7)) 13
+    ∷ case (openingOf (asHost 0) (params 9 8 4 4 4 8)) (record { verdict = Accepted; end = freshEnd (asHost 0) houseParams Idle })
+    ∷ case (openRefusal (asHost 0) (params 9 8 4 4 4 10)) 13
+    -- "−2001: 6 at Send"
+    ∷ case (at0 (memberAt 0) (Send (cueOfFocus (negsuc 2000))) .outcome) (Refused 6)
+    -- "Cue 63 is sent; a next send: 7"
+    ∷ case (at0 (memberAt 63) (Send (cueOfFocus (pos 0))) .outcome) (Did (Out (bytesOf (dataNumbered 63 (cueOfFocus (pos 0))))))
+    ∷ case (at0 (at0 (memberAt 63) (Send (cueOfFocus (pos 0))) .left) (Send (cueOfFocus (pos 0))) .outcome) (Refused 7)
+    -- "Fresh member's Report: 12 bytes"
+    ∷ case (at0 (memberAt 0) (Else Report) .outcome) (Did (Out (SESS ∷ replicate 11 0)))
+    -- "e = 80 gives 10 ms; e = 0 gives 1": at clock 100, from a distance of 40
+    ∷ case (measured (asHost 0) 100 (echoOfMe 20) 40) 10
+    ∷ case (measured (asHost 0) 100 (echoOfMe 100) 40) 1
+    -- the listing of "house"
+    ∷ case (played script) printed
+    -- and the RQST in it, which goes out of Fire at clock 392
+    ∷ case message3 rqstBytes
     -- "Focus −2 is FF FE"
-    case (take 2 (cueOfFocus (negsuc 1))) (0xFF ∷ 0xFE ∷ [])
+    ∷ case (take 2 (cueOfFocus (negsuc 1))) (0xFF ∷ 0xFE ∷ [])
     ∷ case (fieldsOf (0xFF ∷ 0xFE ∷ replicate 22 0) .focus) (negsuc 1)
     -- "exact at −2000, −1, 0 and 2000"
     ∷ case (digits 2 (unsigned (negsuc 1999))) (0xF8 ∷ 0x30 ∷ [])

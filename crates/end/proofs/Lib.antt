@@ -1,2 +1,3 @@
 pub mod SoundLaws
+pub mod Bounds
 pub mod Service

@@ -1,5 +1,5 @@
 // The types of one SRM end, in the forms that document 01 names. All rules of the end are definitions on these types, in
-// specs/: State, Sound, Round, Names, Messages, Arrival, Fire, Event, Answer, Opening, in this order.
+// specs/: State, Sound, Round, Names, Messages, Arrival, Fire, Event, Answer, Opening, in this order; then the service: Book, Run.
 use message::CueNumber;
 use message::Host;
 use message::Name;

@@ -20,7 +20,7 @@ use Rattle.end.specs.declared.Span.the-variants.{Closed, Open}
 use Rattle.end.specs.declared.Source.{Source}
 use Rattle.end.specs.declared.End.{End}
 use Rattle.end.specs.State.{noRecord, noSource, isMember, isHeld}
-use Rattle.end.specs.Sound.{allFrom, allOf, allBelow, heldTests, insideSound, outsideSound, within, recordSound, asideTests, isClosed, sourceTests, sourceSound, soundTests, soundOf}
+use Rattle.end.specs.Sound.{allFrom, allOf, allBelow, heldTests, insideSound, outsideSound, within, recordSound, nonMemberTests, isClosed, sourceTests, sourceSound, soundTests, soundOf}
 
 -- ---- the tests
 
@@ -82,10 +82,10 @@ module _ (e : End) (h : Host) (s : Source) (sound : sourceSound e h s ≡ true) 
   -- a non-member has no first
   pub aside-closed : isMember (e .status) ≡ false → s .span ≡ Closed
   aside-closed m =
-      let t : (isMember (e .status) || allOf (asideTests (sameHost h (e .host)) s)) ≡ true = nth (sourceTests e h s) 3 sound in
-      closed-is (s .span) (nth (asideTests (sameHost h (e .host)) s) 0 (alone (isMember (e .status)) m t))
+      let t : (isMember (e .status) || allOf (nonMemberTests (sameHost h (e .host)) s)) ≡ true = nth (sourceTests e h s) 3 sound in
+      closed-is (s .span) (nth (nonMemberTests (sameHost h (e .host)) s) 0 (alone (isMember (e .status)) m t))
     where
-      alone : (a : Bool) → a ≡ false → (a || allOf (asideTests (sameHost h (e .host)) s)) ≡ true → allOf (asideTests (sameHost h (e .host)) s) ≡ true
+      alone : (a : Bool) → a ≡ false → (a || allOf (nonMemberTests (sameHost h (e .host)) s)) ≡ true → allOf (nonMemberTests (sameHost h (e .host)) s) ≡ true
       alone true p q = absurd (true≢false p)
       alone false p q = q
 

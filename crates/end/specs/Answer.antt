@@ -18,27 +18,27 @@ answerOf (Did Ignored) = answer.Ignored
 answerOf (Did Nothing) = answer.Nothing
 
 -- the output that a call leaves
-unfoldable pub outputOf : Outcome → List ℕ → List ℕ
-outputOf (Refused k) out = out
-outputOf (Did (Out bytes)) out = bytes ++ drop (length bytes) out
-outputOf (Did (Got name cue)) out = cue ++ drop (length cue) out
-outputOf (Did Done) out = out
-outputOf (Did Ignored) out = out
-outputOf (Did Nothing) out = out
+unfoldable pub bufferOf : Outcome → List ℕ → List ℕ
+bufferOf (Refused k) out = out
+bufferOf (Did (Out bytes)) out = bytes ++ drop (length bytes) out
+bufferOf (Did (Got name cue)) out = cue ++ drop (length cue) out
+bufferOf (Did Done) out = out
+bufferOf (Did Ignored) out = out
+bufferOf (Did Nothing) out = out
 
 -- document 01's number of an answer, 0 where the call was not refused, and its values: the length of Out, the name of Got
-abbrev pub refusalOf : Answer → ℕ
-refusalOf (answer.Refused k) = k
-refusalOf (answer.Out n) = 0
-refusalOf (answer.Got name) = 0
-refusalOf answer.Done = 0
-refusalOf answer.Ignored = 0
-refusalOf answer.Nothing = 0
+abbrev pub answerNumber : Answer → ℕ
+answerNumber (answer.Refused k) = k
+answerNumber (answer.Out n) = 0
+answerNumber (answer.Got name) = 0
+answerNumber answer.Done = 0
+answerNumber answer.Ignored = 0
+answerNumber answer.Nothing = 0
 
-abbrev pub valuesOf : Answer → List ℕ
-valuesOf (answer.Refused k) = []
-valuesOf (answer.Out n) = n ∷ []
-valuesOf (answer.Got name) = name .source .0 ∷ name .number .0 ∷ []
-valuesOf answer.Done = []
-valuesOf answer.Ignored = []
-valuesOf answer.Nothing = []
+abbrev pub answerValues : Answer → List ℕ
+answerValues (answer.Refused k) = []
+answerValues (answer.Out n) = n ∷ []
+answerValues (answer.Got name) = name .source .0 ∷ name .number .0 ∷ []
+answerValues answer.Done = []
+answerValues answer.Ignored = []
+answerValues answer.Nothing = []

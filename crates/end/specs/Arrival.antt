@@ -64,13 +64,14 @@ passedOver e name first last =
     ltb (name .number .0) first || (sameHost (name .source) (e .host) && ltb last (name .number .0))
 
 -- RQST of a held cue: "with no reply waiting and clock ≥ reply-quiet, set a reply .., Done; otherwise Ignored"
-unfoldable pub answered : Timing → Host → Name → End → Step
-answered tm requester name e =
+unfoldable pub heldRequest : Timing → Host → Name → End → Step
+heldRequest tm requester name e =
     cond (isNo (recordAt (sourceAt e (name .source)) (name .number) .reply) && leb (recordAt (sourceAt e (name .source)) (name .number) .quiet) (e .clock))
     (give Done (stepSource e name (setReply tm (name .number) (distanceTo e requester) requester)))
     (give Ignored e)
 
--- RQST of a cue not held, up to last: "clock above quiet-until .. sets the next round, Done; otherwise Ignored"
+-- RQST of a cue not held, up to last: "clock above quiet-until .. sets the next round, Done; otherwise Ignored". In a sound state such
+-- a name has a request
 unfoldable pub backedOff : Timing → Name → End → Slot → Step
 backedOff tm name e Empty = give Ignored e
 backedOff tm name e Held = give Ignored e
@@ -87,7 +88,7 @@ unfoldable pub requestOf : Timing → Host → Name → End → Span → Step
 requestOf tm requester name e Closed = give Ignored e
 requestOf tm requester name e (Open first last) =
     cond (passedOver e name (first .0) (last .0)) (give Ignored e)
-    (cond (isHeld (recordAt (sourceAt e (name .source)) (name .number) .slot)) (answered tm requester name e)
+    (cond (isHeld (recordAt (sourceAt e (name .source)) (name .number) .slot)) (heldRequest tm requester name e)
     (cond (ltb (last .0) (name .number .0)) (give Done (stepSource e name (learned tm name)))
     (backedOff tm name e (recordAt (sourceAt e (name .source)) (name .number) .slot))))
 
@@ -140,18 +141,18 @@ abbrev pub sessionOf : Timing → Meaning → End → Step
 sessionOf tm m e = give Done (echoed m (allReported tm (m .reports) e))
 
 -- ---- a message by its kind
-abbrev pub nameIn : Meaning → Name
-nameIn m = getD (m .names) 0 blankName .name
+abbrev pub messageName : Meaning → Name
+messageName m = getD (m .names) 0 blankName .name
 
-abbrev pub hostIn : Meaning → Host
-hostIn m = getD (m .names) 0 blankName .host
+abbrev pub messageHost : Meaning → Host
+messageHost m = getD (m .names) 0 blankName .host
 
-abbrev pub cueIn : Meaning → List ℕ
-cueIn m = getD (m .cues) 0 blankCue
+abbrev pub messageCue : Meaning → List ℕ
+messageCue m = getD (m .cues) 0 blankCue
 
-unfoldable pub heardOf : Timing → Meaning → End → Step
-heardOf tm m e =
-    cond (eqb (m .kind) DATA) (dataOf tm (nameIn m) (cueIn m) e (sourceAt e (nameIn m .source) .span))
-    (cond (eqb (m .kind) RQST) (requestOf tm (m .sender) (nameIn m) e (sourceAt e (nameIn m .source) .span))
-    (cond (eqb (m .kind) REPL) (repairOf tm (hostIn m) (nameIn m) (cueIn m) e (sourceAt e (nameIn m .source) .span))
+unfoldable pub messageStep : Timing → Meaning → End → Step
+messageStep tm m e =
+    cond (eqb (m .kind) DATA) (dataOf tm (messageName m) (messageCue m) e (sourceAt e (messageName m .source) .span))
+    (cond (eqb (m .kind) RQST) (requestOf tm (m .sender) (messageName m) e (sourceAt e (messageName m .source) .span))
+    (cond (eqb (m .kind) REPL) (repairOf tm (messageHost m) (messageName m) (messageCue m) e (sourceAt e (messageName m .source) .span))
     (sessionOf tm m e)))

@@ -13,7 +13,7 @@ use Rattle.message.specs.Question.{readRefusal}
 use Rattle.end.specs.declared.Status.{Status}
 use Rattle.end.specs.declared.Status.the-variants.{Idle}
 use Rattle.end.specs.State.{isMember}
-use Rattle.end.specs.Arrival.{Effect, Out, Got, Done, Ignored, Nothing, nameIn, cueIn}
+use Rattle.end.specs.Arrival.{Effect, Out, Got, Done, Ignored, Nothing, messageName, messageCue}
 use Rattle.end.specs.Event.{Moving, Join, Joined, Leave, Left, Crash, Event, Move, Send, Arrival, Else, Outcome, Refused, Did, moves, movesTo}
 
 -- a function with one value changed
@@ -43,10 +43,10 @@ abbrev pub isRepair : Meaning → Bool
 isRepair m = eqb (m .kind) REPL
 
 abbrev pub source : Meaning → ℕ
-source m = nameIn m .source .0
+source m = messageName m .source .0
 
 abbrev pub number : Meaning → ℕ
-number m = nameIn m .number .0
+number m = messageName m .number .0
 
 -- ---- the limits: "the reader is a member and not the source; the name is filed; its number is not below the first one handed out
 -- from that source since joining, if any, and not handed out since joining"
@@ -91,7 +91,7 @@ pub data Due : Type 0 where
 -- "It has the message's name and the filed cue"
 unfoldable pub dueMessage : Book → ℕ → Option Meaning → Due
 dueMessage b h none = NeverGot
-dueMessage b h (some m) = cond (gets b h m) (Exactly (Got (nameIn m) (getD (b .filed (source m)) (number m) []))) NeverGot
+dueMessage b h (some m) = cond (gets b h m) (Exactly (Got (messageName m) (getD (b .filed (source m)) (number m) []))) NeverGot
 
 -- "Join, Joined, Leave, Left, Crash: the status moves as under Events, with Done; where it doesn't move, Ignored." "Send: for a
 -- member .. Out, a DATA with that name and cue. Otherwise Ignored." "Other Arrivals, Fire, Report, events added later: .. never Got."
@@ -146,8 +146,8 @@ pub record IsOriginal (bytes : List ℕ) (s n : ℕ) (cue : List ℕ) : Type 0 w
   pub message : Meaning
   pub reads : readAs bytes ≡ some message
   pub original : isOriginal message ≡ true
-  pub name : nameIn message ≡ record { source = asHost s; number = asNumber n }
-  pub carried : cueIn message ≡ cue
+  pub name : messageName message ≡ record { source = asHost s; number = asNumber n }
+  pub carried : messageCue message ≡ cue
 
 abbrev pub Meets : Due → Effect → Type 0
 Meets (Exactly a) x = x ≡ a

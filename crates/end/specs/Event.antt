@@ -14,12 +14,12 @@ use Rattle.end.specs.declared.Status.the-variants.{Idle, Joining, Member
 use Rattle.end.specs.declared.Span.{Span}
 use Rattle.end.specs.declared.Span.the-variants.{Closed, Open}
 use Rattle.end.specs.declared.End.{End}
-use Rattle.end.specs.State.{unheardSources, isMember, sourceAt, withSource, withStatus, withNext, withClock, withSpan}
+use Rattle.end.specs.State.{unheardSources, isMember, isCrashed, sourceAt, withSource, withStatus, withNext, withClock, withSpan}
 use Rattle.end.specs.Sound.{soundOf}
 use Rattle.end.specs.Round.{Timing}
 use Rattle.end.specs.Names.{hold}
 use Rattle.end.specs.Messages.{dataMessage, sessionMessage}
-use Rattle.end.specs.Arrival.{Effect, Out, Done, Ignored, Step, give, heardOf}
+use Rattle.end.specs.Arrival.{Effect, Out, Done, Ignored, Step, give, messageStep}
 use Rattle.end.specs.Fire.{fireOf}
 
 -- ---- the events
@@ -31,6 +31,7 @@ pub data Moving : Type 0 where
 pub data Other : Type 0 where
   Fire Report : Other
 
+-- the cue of a Send is the 24 bytes of its declared type, and a message is any bytes
 pub data Event : Type 0 where
   Move : Moving → Event
   Send : List ℕ → Event
@@ -77,12 +78,15 @@ movesTo Crash = Crashed
 abbrev pub cleared : End → Status → End
 cleared e status = record { host = e .host; params = e .params; clock = e .clock; status = status; next = e .next; sources = unheardSources (e .host .0) }
 
+abbrev pub clears : Moving → Bool
+clears Join = false
+clears Joined = false
+clears Leave = true
+clears Left = false
+clears Crash = true
+
 unfoldable pub movedEnd : Moving → End → End
-movedEnd Join e = withStatus e Joining
-movedEnd Joined e = withStatus e Member
-movedEnd Leave e = cleared e Leaving
-movedEnd Left e = withStatus e Idle
-movedEnd Crash e = cleared e Crashed
+movedEnd m e = cond (clears m) (cleared e (movesTo m)) (withStatus e (movesTo m))
 
 unfoldable pub moveOf : Moving → End → Step
 moveOf m e = cond (moves m (e .status)) (give Done (movedEnd m e)) (give Ignored e)
@@ -104,7 +108,7 @@ sendOf cue e = give (Out (bytesOf (dataMessage e (ownName e) cue))) (sentEnd cue
 
 -- ---- "Send, Fire, Report, Arrival outside membership, and an arrival whose sender is oneself: Ignored."
 unfoldable pub arrivalOf : Timing → Meaning → End → Step
-arrivalOf tm m e = cond (sameHost (m .sender) (e .host)) (give Ignored e) (heardOf tm m e)
+arrivalOf tm m e = cond (sameHost (m .sender) (e .host)) (give Ignored e) (messageStep tm m e)
 
 abbrev pub otherOf : Timing → Other → End → Step
 otherOf tm Fire e = fireOf tm e
@@ -113,12 +117,16 @@ otherOf tm Report e = give (Out (bytesOf (sessionMessage e))) e
 abbrev pub ifMember : End → Step → Step
 ifMember e step = cond (isMember (e .status)) step (give Ignored e)
 
--- what an event does whose questions were all answered yes, on an end whose clock is set
+-- what an event does on an end that is not crashed and whose clock is set
 unfoldable pub actOf : Timing → Event → End → Step
 actOf tm (Move m) e = moveOf m e
 actOf tm (Send cue) e = ifMember e (sendOf cue e)
 actOf tm (Arrival bytes) e = ifMember e (arrivalOf tm (meaningFrom bytes) e)
 actOf tm (Else o) e = ifMember e (otherOf tm o e)
+
+-- "An unrefused event sets the clock. On a crashed end everything unrefused is Ignored and nothing changes, clock included."
+unfoldable pub stepOf : Timing → Event → End → Step
+stepOf tm ev e = cond (isCrashed (e .status)) (give Ignored e) (actOf tm ev (withClock e (tm .clock)))
 
 -- ---- the questions
 
@@ -128,7 +136,7 @@ abbrev pub anyQuestions : End → ℕ → ℕ → ℕ → List Question
 anyQuestions e clock room draws =
     ask (leb 128 room) 1 ∷ ask (eqb draws 64) 2 ∷ ask (soundOf e) 3 ∷ ask (ticksIn clock) 4 ∷ ask (leb (e .clock) clock) 5 ∷ []
 
--- "Send: are offsets and lamp in range? 6. For a member, is the next number below 64? 7." "Arrival ..: 8, 9, 10, 11"
+-- "Send: are offsets and lamp in range? 6. For a member, is the next number below 64? 7." Arrival asks the reader's questions
 abbrev pub ownQuestions : Event → End → List Question
 ownQuestions (Move m) e = []
 ownQuestions (Send cue) e = ask (cueIn cue) 6 ∷ ask (not (isMember (e .status)) || ltb (e .next) 64) 7 ∷ []
@@ -157,5 +165,5 @@ timing e clock draws = record { params = e .params; clock = clock; draws = draws
 unfoldable pub eventOf : End → Event → ℕ → ℕ → List ℕ → Result
 eventOf e ev clock room draws =
     cond (eqb (questionOf e ev clock room (length draws)) 0)
-    (done (actOf (timing e clock draws) ev (withClock e clock)))
+    (done (stepOf (timing e clock draws) ev e))
     (record { outcome = Refused (questionOf e ev clock room (length draws)); left = e })

@@ -54,7 +54,8 @@ earliestName h clock names best k =
 unfoldable pub earliest : End → ℕ → Earliest
 earliest e k = foldUp (λ h x. earliestName (asHost h) (e .clock) (getD (e .sources) h noSource .names) x 64) NoWait k
 
--- the wait under a name goes out
+-- the wait under a name goes out. A sound state has at most one wait under a name, a request or a reply, so what stands there is what
+-- was chosen
 unfoldable pub fireAt : Timing → Name → End → Slot → Reply → Step
 fireAt tm name e Empty reply = give Nothing e
 fireAt tm name e (Waiting q) reply = give (Out (bytesOf (requestMessage e name))) (stepSource e name (setRound tm (name .number) (nextRound (q .round))))

@@ -57,7 +57,7 @@ requested tm d zero n names = names
 requested tm d (suc k) n names =
     requested tm d k (n + 1) (set names (place n) (asking (getD names (place n) noRecord) (requestAt tm d (asNumber n) 1)))
 
--- all that happens when last of a source rises to n: the numbers above last get round 1, n among them, and last is n. Where n is
+-- all that happens when last of a source rises to n: the numbers above last, up to n, get round 1, and last is n. Where n is
 -- not above last, nothing happens; a source with no first stays as it is
 unfoldable pub rise : Timing → CueNumber → Source → Span → Source
 rise tm n s Closed = s

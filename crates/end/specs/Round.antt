@@ -7,7 +7,7 @@ use Rattle.end.specs.declared.Params.{Params}
 use Rattle.end.specs.declared.Request.{Request}
 use Rattle.end.specs.State.{place}
 
--- What times a wait: the parameters, the clock given with the call, and its draws.
+-- What times a wait: the end's parameters, the clock given with the call, which is the end's clock by then, and the call's draws.
 pub record Timing : Type 0 where
   pub params : Params
   pub clock : ℕ

@@ -1,5 +1,5 @@
 -- When a state is sound. Document 01, "What an end keeps", second paragraph, clause by clause; the ranges are those of the first
--- paragraph and of "The link and its edge". A test is a list of parts, in the order in which the code joins them.
+-- paragraph and of "The link and its edge". A test is a list of its parts.
 use Prim.Native.Nat.{ℕ, zero, suc, _+_}
 use mathlib.Core.Bool.{Bool, true, false, cond, not, _&&_, _||_}
 use mathlib.Core.List.{List, [], _∷_}
@@ -108,8 +108,8 @@ isNever (At stamp when) = false
 
 -- "a non-member has no first, request, reply or heard stamp, and distances to others at 40": a source with no first has neither
 -- request nor reply
-abbrev pub asideTests : Bool → Source → List Bool
-asideTests own s = isClosed (s .span) ∷ isNever (s .heard) ∷ (own || eqb (s .distance) firstDistance) ∷ []
+abbrev pub nonMemberTests : Bool → Source → List Bool
+nonMemberTests own s = isClosed (s .span) ∷ isNever (s .heard) ∷ (own || eqb (s .distance) firstDistance) ∷ []
 
 abbrev pub namesSound : Host → Host → Span → List Record → ℕ → Bool
 namesSound me source span names k = allBelow (λ n. recordSound me source span n (getD names n noRecord)) k
@@ -119,7 +119,7 @@ sourceTests e h s =
     allOf (spanTests (sameHost h (e .host)) (e .next) (s .span))
     ∷ distanceSound (sameHost h (e .host)) (s .distance)
     ∷ allOf (heardTests (sameHost h (e .host)) (e .clock) (s .heard))
-    ∷ (isMember (e .status) || allOf (asideTests (sameHost h (e .host)) s))
+    ∷ (isMember (e .status) || allOf (nonMemberTests (sameHost h (e .host)) s))
     ∷ eqb (length (s .names)) 64
     ∷ namesSound (e .host) h (s .span) (s .names) 64
     ∷ []

@@ -1,6 +1,6 @@
 -- An end's state: its parts, and the state with a part changed. Document 01, "What an end keeps".
 use Prim.Native.Nat.{ℕ}
-use mathlib.Core.Bool.{Bool, true, false, cond}
+use mathlib.Core.Bool.{Bool, true, false}
 use mathlib.Core.List.{List, []}
 use lib.ListN.{getD, set, replicate}
 use Rattle.message.specs.declared.Host.{Host}
@@ -103,9 +103,5 @@ withRecord s n r = record { span = s .span; distance = s .distance; heard = s .h
 abbrev pub withSpan : Source → Span → Source
 withSpan s span = record { span = span; distance = s .distance; heard = s .heard; names = s .names }
 
-abbrev pub withNames : Source → List Record → Source
-withNames s names = record { span = s .span; distance = s .distance; heard = s .heard; names = names }
-
--- "An unrefused event sets the clock. On a crashed end .. nothing changes, clock included."
 abbrev pub withClock : End → ℕ → End
-withClock e t = record { host = e .host; params = e .params; clock = cond (isCrashed (e .status)) (e .clock) t; status = e .status; next = e .next; sources = e .sources }
+withClock e t = record { host = e .host; params = e .params; clock = t; status = e .status; next = e .next; sources = e .sources }

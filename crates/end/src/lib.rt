@@ -5,7 +5,7 @@ use message::Host;
 use message::Name;
 use message::Verdict;
 
-// C1, C2, C3 time a request, D1, D2, D3 a reply; each in quarters, 0..32.
+// C1, C2, C3 time a request and its quiet time, D1, D2, D3 a reply and its quiet time; each in quarters, 0..32.
 pub struct Params {
     pub c1: u64,
     pub c2: u64,
@@ -92,7 +92,7 @@ pub enum Answer {
     Nothing,
 }
 
-// A wait that is due, as Fire compares it: a request or a reply, and for which name.
+// A wait that is due, as Fire compares it: a request, or a reply where `reply` is true, and for which name.
 pub struct Wait {
     pub due: u64,
     pub reply: bool,

@@ -13,7 +13,7 @@ use Rattle.message.specs.Message.{Meaning}
 use Rattle.message.specs.declared.Name.{Name}
 use Rattle.end.specs.declared.End.{End}
 use Rattle.end.specs.State.{isMember}
-use Rattle.end.specs.Arrival.{Effect, Out, Got, Done, Step, nameIn, cueIn}
+use Rattle.end.specs.Arrival.{Effect, Out, Got, Done, Step, messageName, messageCue}
 use Rattle.end.specs.Event.{Moving, Join, Joined, Leave, Left, Crash, moves, movesTo, Event, Move, Send, Arrival}
 use Rattle.end.specs.Book.{Book, put, readAs, isOriginal, isRepair, source, number, among, firstOf, isSome, notBelow, isGot, due, after, NeverGot, IsOriginal, Meets, limits, gets, hand, dueMessage, afterMessage, file, clearedBy, movedBook}
 use Rattle.end.proofs.Service.Tools.{byTest, put-all, put-same, put-other, clash′, or-left, or-right, and-left, and-right, eqb-flip, getElem-getD, getElem-keeps, getElem-snoc}
@@ -45,7 +45,7 @@ calm-right {b} {h} {ev} {e} {r} q v k a f = record {
 pub record Quiet (e : End) (r : Step) : Type 0 where
   pub same : Same e (r .left)
   pub not-got : isGot (r .effect) ≡ false
-  pub out : (x : List ℕ) → r .effect ≡ Out x → (m : Meaning) → readAs x ≡ some m → carries m ≡ true → holds e (source m) (number m) ≡ some (cueIn m)
+  pub out : (x : List ℕ) → r .effect ≡ Out x → (m : Meaning) → readAs x ≡ some m → carries m ≡ true → holds e (source m) (number m) ≡ some (messageCue m)
 
 -- the name in a message that was read is in range
 pub record InRange (m : Meaning) : Type 0 where
@@ -56,7 +56,7 @@ module _ (in-range : (x : List ℕ) (m : Meaning) → readAs x ≡ some m → In
   pub quiet-right : {b : Book} {h : ℕ} {ev : Event} {e : End} {r : Step} → Rel b h e → Quiet e r → after b h ev ≡ b → due b h ev ≡ NeverGot → Right b h ev r
   quiet-right {b} {h} {ev} {e} {r} q v k d =
       calm-right q (v .same) k (rw d (v .not-got))
-      (λ x p m y z. q .filed (source m) (number m) (cueIn m) (in-range x m y .source) (in-range x m y .number) (v .out x p m y z))
+      (λ x p m y z. q .filed (source m) (number m) (messageCue m) (in-range x m y .source) (in-range x m y .number) (v .out x p m y z))
 
 -- ---- 2. A cue was handed out.
 
@@ -141,7 +141,7 @@ takes h e m = (isOriginal m || (isRepair m && isSome (firstAt e (source m)))) &&
 
 -- what an end does with a message
 pub record Hears (h : ℕ) (e : End) (m : Meaning) (r : Step) : Type 0 where
-  pub hands : takes h e m ≡ true → (r .effect ≡ Got (nameIn m) (cueIn m)) × (r .left .next ≡ e .next) × Took e (r .left) (source m) (number m) (cueIn m)
+  pub hands : takes h e m ≡ true → (r .effect ≡ Got (messageName m) (messageCue m)) × (r .left .next ≡ e .next) × Took e (r .left) (source m) (number m) (messageCue m)
   pub else : takes h e m ≡ false → Quiet e r
 
 -- the end's decision is the book's
@@ -159,13 +159,13 @@ module _ (b : Book) (h : ℕ) (e : End) (q : Rel b h e) (s n : ℕ) (hs : s < 8)
       let m = and-left (isMember (e .status)) _ t in
       q .firsts m s hs (not-true (eqb h s) (and-left (not (eqb h s)) _ (and-right (isMember (e .status)) _ t)))
 
-gets-takes : (b : Book) (h : ℕ) (e : End) → Rel b h e → (m : Meaning) → InRange m → (carries m ≡ true → getElem? (b .filed (source m)) (number m) ≡ some (cueIn m)) → gets b h m ≡ takes h e m
+gets-takes : (b : Book) (h : ℕ) (e : End) → Rel b h e → (m : Meaning) → InRange m → (carries m ≡ true → getElem? (b .filed (source m)) (number m) ≡ some (messageCue m)) → gets b h m ≡ takes h e m
 unfolding gets takes
 gets-takes b h e q m r f = byTest (carries m)
     (λ c.
-    let l = limits-fresh b h e q (source m) (number m) (r .source) (r .number) (cueIn m) (f c) in
+    let l = limits-fresh b h e q (source m) (number m) (r .source) (r .number) (messageCue m) (f c) in
     byTest (fresh h e (source m) (number m))
-    (λ t. rw (l, first-agrees b h e q (source m) (number m) (r .source) (r .number) (cueIn m) (f c) t))
+    (λ t. rw (l, first-agrees b h e q (source m) (number m) (r .source) (r .number) (messageCue m) (f c) t))
     (λ t. simp (l, t, and-false)))
     (λ c. rw (or-left (isOriginal m) (isRepair m) c, or-right (isOriginal m) (isRepair m) c))
 
@@ -191,12 +191,12 @@ module _ (in-range : (x : List ℕ) (m : Meaning) → readAs x ≡ some m → In
       byTest (takes h e m)
       (λ t.
       let d = v .hands t in
-      let k : getElem? (b .filed (source m)) (number m) ≡ some (cueIn m) = f m p (takes-carries h e m t) in
+      let k : getElem? (b .filed (source m)) (number m) ≡ some (messageCue m) = f m p (takes-carries h e m t) in
       record {
-        answered = rw (p, g, t) (d .0 ∙ ap (Got (nameIn m)) (sym (getElem-getD (b .filed (source m)) (number m) (cueIn m) [] k)));
-        rel = rw (p, g, t) (took-rel b h e (r .left) (source m) (number m) (cueIn m) q (d .2) (i .source) (i .number) (d .1) k);
+        answered = rw (p, g, t) (d .0 ∙ ap (Got (messageName m)) (sym (getElem-getD (b .filed (source m)) (number m) (messageCue m) [] k)));
+        rel = rw (p, g, t) (took-rel b h e (r .left) (source m) (number m) (messageCue m) q (d .2) (i .source) (i .number) (d .1) k);
         grows = rw (p, g, t) (hand-grows b h (source m) (number m));
-        filed = λ y z. absurd (got-not-out (r .effect) (nameIn m) (cueIn m) y (d .0) z);
+        filed = λ y z. absurd (got-not-out (r .effect) (messageName m) (messageCue m) y (d .0) z);
       })
       (λ t. quiet-right in-range q (v .else t) (rw (p, g, t)) (rw (p, g, t)))
 
@@ -245,10 +245,10 @@ sent-rel b h c e r q v = record {
 sent-filed : (b : Book) (h : ℕ) (c : List ℕ) (e : End) (bytes : List ℕ) → Rel b h e → IsOriginal bytes h (e .next) c → Filed (file b h c) bytes
 sent-filed b h c e bytes q o m y z =
     let same : o .message ≡ m = cc (o .reads, y) in
-    let name : nameIn m ≡ record { source = asHost h; number = asNumber (e .next) } = ap nameIn (sym same) ∙ o .name in
+    let name : messageName m ≡ record { source = asHost h; number = asNumber (e .next) } = ap messageName (sym same) ∙ o .name in
     let s : source m ≡ h = ap (λ (x : Name). x .source .0) name in
     let n : number m ≡ e .next = ap (λ (x : Name). x .number .0) name in
-    let carried : cueIn m ≡ c = ap cueIn (sym same) ∙ o .carried in
+    let carried : messageCue m ≡ c = ap messageCue (sym same) ∙ o .carried in
     rw (s, n, carried) (filed-new b h c e q)
 
 pub send-right : (b : Book) (h : ℕ) (c : List ℕ) (e : End) (r : Step) → Rel b h e → isMember (e .status) ≡ true → Sends h c e r → Right b h (Send c) r

@@ -2,7 +2,7 @@
 use mathlib.Core.Path.{_≡_, refl, sym, ap, _∙_, subst}
 use mathlib.Core.Bool.{Bool, true, false, not, _&&_, _||_, and-false}
 use mathlib.Core.List.{List, [], _∷_}
-use mathlib.Core.Option.{none, some}
+use mathlib.Core.Option.{Option, none, some}
 use Prim.Native.Nat.{ℕ, _+_, _<_}
 use native.Mathlib.Omega.{arith}
 use lib.ListN.{length}
@@ -23,20 +23,20 @@ use Rattle.end.specs.declared.Span.{Span}
 use Rattle.end.specs.declared.Span.the-variants.{Closed, Open}
 use Rattle.end.specs.declared.Source.{Source}
 use Rattle.end.specs.declared.End.{End}
-use Rattle.end.specs.State.{sourceAt, recordAt, distanceTo, isMember, isHeld, withSource, withSpan, withStatus, withNext, withClock}
+use Rattle.end.specs.State.{sourceAt, recordAt, distanceTo, isMember, isCrashed, isHeld, withSource, withSpan, withStatus, withNext, withClock}
 use Rattle.end.specs.Round.{Timing, quietAfterReply}
 use Rattle.end.specs.Names.{hold, rise, quieted, quietReply}
 use Rattle.end.specs.Sound.{within}
 use Rattle.end.specs.Messages.{dataMessage}
-use Rattle.end.specs.Arrival.{Got, Done, Ignored, Step, give, stepSource, opened, taken, dataOf, passedOver, repairOf, nameIn, cueIn, heardOf}
-use Rattle.end.specs.Event.{Moving, Join, Joined, Leave, Left, Crash, moves, movesTo, movedEnd, moveOf, cleared, Event, Move, Send, Arrival, Else, Other, ownName, extended, sentEnd, sendOf, arrivalOf, otherOf, ifMember, actOf, ownQuestions, timing}
+use Rattle.end.specs.Arrival.{Got, Done, Ignored, Step, give, stepSource, opened, taken, dataOf, passedOver, repairOf, messageName, messageCue, messageStep}
+use Rattle.end.specs.Event.{Moving, Join, Joined, Leave, Left, Crash, moves, movesTo, movedEnd, moveOf, cleared, Event, Move, Send, Arrival, Else, Other, ownName, extended, sentEnd, sendOf, arrivalOf, otherOf, ifMember, actOf, stepOf, ownQuestions, timing}
 use Rattle.end.proofs.SoundLaws.{own-held}
-use Rattle.end.specs.Book.{Book, readAs, isOriginal, isRepair, source, number, isSome, notBelow, due, after, Meets}
-use Rattle.end.specs.Run.{Service}
+use Rattle.end.specs.Book.{Book, dueMessage, afterMessage, readAs, isOriginal, isRepair, source, number, isSome, notBelow, due, after, Meets}
+use Rattle.end.specs.Run.{CueArray, Service}
 use Rattle.end.proofs.Service.Tools.{byCond, byTest, clash, clash′, or-left, or-right, eqb-flip}
 use Rattle.end.proofs.Service.View.{firstIn, heldAt, orElse, SameSource, TookSource, holds, firstAt, Same, Took, Rel, Filed, Right}
 use Rattle.end.proofs.Service.Booked.{rel-same, calm-right, Quiet, quiet-right, fresh, takes, Hears, arrival-right, Sends, send-right, Moved, move-right}
-use Rattle.end.proofs.Service.Frame.{EventsRight, service-from, none-held}
+use Rattle.end.proofs.Service.Frame.{Passed, EventsRight, service-from, none-held}
 use Rattle.end.proofs.Service.Sources.{held-is, not-held-is, same-took, took-same, same-record, took-held, Calm, same-rise, rise-length}
 use Rattle.end.proofs.Service.Readings.{reads, written-reads, in-range, reports-in, original-source}
 use Rattle.end.proofs.Service.Steps.{same-refl, took-source, Facts, facts, facts-clock, facts-calm, outside-none}
@@ -139,7 +139,7 @@ sends c e f l fits long = record {
 hears-quiet : {h : ℕ} {e : End} {m : Meaning} {r : Step} → takes h e m ≡ false → Quiet e r → Hears h e m r
 hears-quiet t v = record { hands = λ x. clash (sym x ∙ t); else = λ _. v }
 
-hears-got : (h : ℕ) (e e′ : End) (m : Meaning) → takes h e m ≡ true → e′ .next ≡ e .next → Took e e′ (source m) (number m) (cueIn m) → Hears h e m (give (Got (nameIn m) (cueIn m)) e′)
+hears-got : (h : ℕ) (e e′ : End) (m : Meaning) → takes h e m ≡ true → e′ .next ≡ e .next → Took e e′ (source m) (number m) (messageCue m) → Hears h e m (give (Got (messageName m) (messageCue m)) e′)
 hears-got h e e′ m t n v = record { hands = λ x. (refl, n, v); else = λ x. clash (sym t ∙ x) }
 
 -- of the limits, those of the number: what is below first or held is not fresh
@@ -159,69 +159,69 @@ number-fresh e name first last p =
 module _ (tm : Timing) (e : End) (f : Facts e) (m : Meaning) (member : isMember (e .status) ≡ true) (other : eqb (m .sender .0) (e .host .0) ≡ false)
     (hs : source m < 8) (hn : number m < 64) where
   s : Source
-  s = sourceAt e (nameIn m .source)
+  s = sourceAt e (messageName m .source)
 
   there : source m < length (e .sources)
   there = omega (arith, f .sources)
 
-  room : number m < length (sourceAt e (nameIn m .source) .names)
+  room : number m < length (sourceAt e (messageName m .source) .names)
   room = omega (arith, f .names (source m) hs)
 
-  calm : Calm (sourceAt e (nameIn m .source))
+  calm : Calm (sourceAt e (messageName m .source))
   calm = facts-calm e f (source m) hs
 
   -- the first cue of a source
-  opened-took : sourceAt e (nameIn m .source) .span ≡ Closed → Took e (stepSource e (nameIn m) (opened (nameIn m) (cueIn m))) (source m) (number m) (cueIn m)
+  opened-took : sourceAt e (messageName m .source) .span ≡ Closed → Took e (stepSource e (messageName m) (opened (messageName m) (messageCue m))) (source m) (number m) (messageCue m)
   unfolding firstIn orElse
-  opened-took p = took-source e (nameIn m .source) _ (number m) (cueIn m) there
-      (took-held (sourceAt e (nameIn m .source)) (Open (nameIn m .number) (nameIn m .number)) (number m) (cueIn m) room (ap (λ (x : Span). some (orElse (firstIn x) (number m))) (sym p)))
+  opened-took p = took-source e (messageName m .source) _ (number m) (messageCue m) there
+      (took-held (sourceAt e (messageName m .source)) (Open (messageName m .number) (messageName m .number)) (number m) (messageCue m) room (ap (λ (x : Span). some (orElse (firstIn x) (number m))) (sym p)))
 
   -- a later one
-  taken-took : (first last : ℕ) → sourceAt e (nameIn m .source) .span ≡ Open (asNumber first) (asNumber last)
-      → TookSource (sourceAt e (nameIn m .source)) (taken tm (nameIn m) (cueIn m) (sourceAt e (nameIn m .source))) (number m) (cueIn m)
+  taken-took : (first last : ℕ) → sourceAt e (messageName m .source) .span ≡ Open (asNumber first) (asNumber last)
+      → TookSource (sourceAt e (messageName m .source)) (taken tm (messageName m) (messageCue m) (sourceAt e (messageName m .source))) (number m) (messageCue m)
   unfolding firstIn orElse
   taken-took first last p =
-      let x = sourceAt e (nameIn m .source) in
-      let risen = rise tm (nameIn m .number) x (x .span) in
-      let same : SameSource x risen = same-rise tm (nameIn m .number) x calm (x .span) refl in
+      let x = sourceAt e (messageName m .source) in
+      let risen = rise tm (messageName m .number) x (x .span) in
+      let same : SameSource x risen = same-rise tm (messageName m .number) x calm (x .span) refl in
       let open-now : firstIn (risen .span) ≡ some first = same .first ∙ ap firstIn p in
-      same-took same (took-held risen (risen .span) (number m) (cueIn m) (omega (arith, rise-length tm (nameIn m .number) x (x .span), room)) (rw open-now))
+      same-took same (took-held risen (risen .span) (number m) (messageCue m) (omega (arith, rise-length tm (messageName m .number) x (x .span), room)) (rw open-now))
 
-  data-hears : isOriginal m ≡ true → eqb (e .host .0) (source m) ≡ false → (x : Span) → sourceAt e (nameIn m .source) .span ≡ x → Hears (e .host .0) e m (dataOf tm (nameIn m) (cueIn m) e x)
+  data-hears : isOriginal m ≡ true → eqb (e .host .0) (source m) ≡ false → (x : Span) → sourceAt e (messageName m .source) .span ≡ x → Hears (e .host .0) e m (dataOf tm (messageName m) (messageCue m) e x)
   unfolding dataOf takes fresh firstAt firstIn notBelow isSome holds
   data-hears k d Closed p =
       let bare : holds e (source m) (number m) ≡ none = outside-none e f (source m) (number m) hs hn (ap (λ (y : Span). within y (number m)) p) in
       hears-got (e .host .0) e _ m (rw (k, other, member, d, p, bare)) refl (opened-took p)
   data-hears k d (Open first last) p =
       let n = number m in
-      byCond (Hears (e .host .0) e m) (ltb n (first .0) || isHeld (recordAt (sourceAt e (nameIn m .source)) (nameIn m .number) .slot))
-      (λ t. hears-quiet (rw (k, other, member, d) (number-fresh e (nameIn m) (first .0) (last .0) p ∙ ap not t)) (ignored-quiet e))
-      (λ t. hears-got (e .host .0) e _ m (rw (k, other, member, d) (number-fresh e (nameIn m) (first .0) (last .0) p ∙ ap not t)) refl
-      (took-source e (nameIn m .source) _ n (cueIn m) there (taken-took (first .0) (last .0) p)))
+      byCond (Hears (e .host .0) e m) (ltb n (first .0) || isHeld (recordAt (sourceAt e (messageName m .source)) (messageName m .number) .slot))
+      (λ t. hears-quiet (rw (k, other, member, d) (number-fresh e (messageName m) (first .0) (last .0) p ∙ ap not t)) (ignored-quiet e))
+      (λ t. hears-got (e .host .0) e _ m (rw (k, other, member, d) (number-fresh e (messageName m) (first .0) (last .0) p ∙ ap not t)) refl
+      (took-source e (messageName m .source) _ n (messageCue m) there (taken-took (first .0) (last .0) p)))
 
   -- a cue not held that is neither below first nor own above last is of another source
-  not-own : (first last : ℕ) → sourceAt e (nameIn m .source) .span ≡ Open (asNumber first) (asNumber last) → isHeld (recordAt (sourceAt e (nameIn m .source)) (nameIn m .number) .slot) ≡ false
-      → passedOver e (nameIn m) first last ≡ false → eqb (source m) (e .host .0) ≡ false
+  not-own : (first last : ℕ) → sourceAt e (messageName m .source) .span ≡ Open (asNumber first) (asNumber last) → isHeld (recordAt (sourceAt e (messageName m .source)) (messageName m .number) .slot) ≡ false
+      → passedOver e (messageName m) first last ≡ false → eqb (source m) (e .host .0) ≡ false
   not-own first last p u t = byTest (eqb (source m) (e .host .0))
       (λ i.
       let n = number m in
-      let x = sourceAt e (nameIn m .source) in
+      let x = sourceAt e (messageName m .source) in
       let not-below : ltb n first ≡ false = or-left (ltb n first) (eqb (source m) (e .host .0) && ltb last n) t in
       let not-above : ltb last n ≡ false = sym (ap (λ (b : Bool). b && ltb last n) i) ∙ or-right (ltb n first) (eqb (source m) (e .host .0) && ltb last n) t in
       let inside : within (x .span) n ≡ true = ap (λ (y : Span). within y n) p ∙ (λ j. le-leb first n (ltb-false n first not-below) j && le-leb n last (ltb-false last n not-above) j) in
-      clash (sym (own-held (e .host) (nameIn m .source) (x .span) n (recordAt x (nameIn m .number)) (f .records (source m) n hs hn) inside i) ∙ u))
+      clash (sym (own-held (e .host) (messageName m .source) (x .span) n (recordAt x (messageName m .number)) (f .records (source m) n hs hn) inside i) ∙ u))
       (λ i. i)
 
-  has-first : (first last : ℕ) → sourceAt e (nameIn m .source) .span ≡ Open (asNumber first) (asNumber last) → isSome (firstAt e (source m)) ≡ true
+  has-first : (first last : ℕ) → sourceAt e (messageName m .source) .span ≡ Open (asNumber first) (asNumber last) → isSome (firstAt e (source m)) ≡ true
   unfolding firstAt firstIn isSome
   has-first first last p = ap (λ (x : Span). isSome (firstIn x)) p
 
   -- a repair of an open source is handed out where its number is fresh and its source another
-  repair-takes : (first last : ℕ) → isOriginal m ≡ false → isRepair m ≡ true → sourceAt e (nameIn m .source) .span ≡ Open (asNumber first) (asNumber last)
-      → takes (e .host .0) e m ≡ not (eqb (e .host .0) (source m)) && not (ltb (number m) first || isHeld (recordAt (sourceAt e (nameIn m .source)) (nameIn m .number) .slot))
+  repair-takes : (first last : ℕ) → isOriginal m ≡ false → isRepair m ≡ true → sourceAt e (messageName m .source) .span ≡ Open (asNumber first) (asNumber last)
+      → takes (e .host .0) e m ≡ not (eqb (e .host .0) (source m)) && not (ltb (number m) first || isHeld (recordAt (sourceAt e (messageName m .source)) (messageName m .number) .slot))
   unfolding takes fresh
   repair-takes first last o r p =
-      rw (o, r, has-first first last p, other, member) (ap (λ (t : Bool). not (eqb (e .host .0) (source m)) && t) (number-fresh e (nameIn m) first last p))
+      rw (o, r, has-first first last p, other, member) (ap (λ (t : Bool). not (eqb (e .host .0) (source m)) && t) (number-fresh e (messageName m) first last p))
 
   -- what is passed over is not
   passed-over : (a b c d : Bool) → a || (b && d) ≡ true → not b && not (a || c) ≡ false
@@ -237,31 +237,31 @@ module _ (tm : Timing) (e : End) (f : Facts e) (m : Meaning) (member : isMember 
   turned : eqb (e .host .0) (source m) ≡ eqb (source m) (e .host .0)
   turned = byTest (eqb (source m) (e .host .0)) (λ t. eq-eqb (e .host .0) (source m) (sym (eqb-true (source m) (e .host .0) t)) ∙ sym t) (λ t. eqb-flip (source m) (e .host .0) t ∙ sym t)
 
-  repaired-took : (k : Host) (first last : ℕ) → sourceAt e (nameIn m .source) .span ≡ Open (asNumber first) (asNumber last)
-      → Took e (stepSource e (nameIn m) (λ s. quietReply tm (nameIn m .number) (distanceTo e k) (taken tm (nameIn m) (cueIn m) s))) (source m) (number m) (cueIn m)
+  repaired-took : (k : Host) (first last : ℕ) → sourceAt e (messageName m .source) .span ≡ Open (asNumber first) (asNumber last)
+      → Took e (stepSource e (messageName m) (λ s. quietReply tm (messageName m .number) (distanceTo e k) (taken tm (messageName m) (messageCue m) s))) (source m) (number m) (messageCue m)
   unfolding heldAt
   repaired-took k first last p =
-      let x = taken tm (nameIn m) (cueIn m) (sourceAt e (nameIn m .source)) in
-      took-source e (nameIn m .source) _ (number m) (cueIn m) there
-      (took-same hn (taken-took first last p) (same-record x (number m) (quieted (recordAt x (nameIn m .number)) (quietAfterReply tm (distanceTo e k))) refl))
+      let x = taken tm (messageName m) (messageCue m) (sourceAt e (messageName m .source)) in
+      took-source e (messageName m .source) _ (number m) (messageCue m) there
+      (took-same hn (taken-took first last p) (same-record x (number m) (quieted (recordAt x (messageName m .number)) (quietAfterReply tm (distanceTo e k))) refl))
 
   -- a repair never opens a source
-  closed-takes : isOriginal m ≡ false → isRepair m ≡ true → sourceAt e (nameIn m .source) .span ≡ Closed → takes (e .host .0) e m ≡ false
+  closed-takes : isOriginal m ≡ false → isRepair m ≡ true → sourceAt e (messageName m .source) .span ≡ Closed → takes (e .host .0) e m ≡ false
   unfolding takes firstAt firstIn isSome
   closed-takes o r p = rw (o, r, p)
 
-  repair-hears : (k : Host) → isOriginal m ≡ false → isRepair m ≡ true → (x : Span) → sourceAt e (nameIn m .source) .span ≡ x → Hears (e .host .0) e m (repairOf tm k (nameIn m) (cueIn m) e x)
+  repair-hears : (k : Host) → isOriginal m ≡ false → isRepair m ≡ true → (x : Span) → sourceAt e (messageName m .source) .span ≡ x → Hears (e .host .0) e m (repairOf tm k (messageName m) (messageCue m) e x)
   unfolding repairOf
   repair-hears k o r Closed p = hears-quiet (closed-takes o r p) (ignored-quiet e)
   repair-hears k o r (Open first last) p =
       let n = number m in
-      let x = sourceAt e (nameIn m .source) in
-      let held = isHeld (recordAt x (nameIn m .number) .slot) in
+      let x = sourceAt e (messageName m .source) in
+      let held = isHeld (recordAt x (messageName m .number) .slot) in
       let decision = repair-takes (first .0) (last .0) o r p in
-      byCond (Hears (e .host .0) e m) (passedOver e (nameIn m) (first .0) (last .0))
+      byCond (Hears (e .host .0) e m) (passedOver e (messageName m) (first .0) (last .0))
       (λ t. hears-quiet (decision ∙ ap (λ (b : Bool). not b && not (ltb n (first .0) || held)) turned ∙ passed-over (ltb n (first .0)) (eqb (source m) (e .host .0)) held (ltb (last .0) n) t) (ignored-quiet e))
       (λ t. byCond (Hears (e .host .0) e m) held
-      (λ u. hears-quiet (decision ∙ held-over (ltb n (first .0)) (eqb (e .host .0) (source m)) held u) (done-quiet e _ (quiet-same tm e (nameIn m) (distanceTo e k))))
+      (λ u. hears-quiet (decision ∙ held-over (ltb n (first .0)) (eqb (e .host .0) (source m)) held u) (done-quiet e _ (quiet-same tm e (messageName m) (distanceTo e k))))
       (λ u.
       let mine : eqb (e .host .0) (source m) ≡ false = turned ∙ not-own (first .0) (last .0) p u t in
       let below : ltb n (first .0) ≡ false = or-left (ltb n (first .0)) (eqb (source m) (e .host .0) && ltb (last .0) n) t in
@@ -277,8 +277,8 @@ other-kind : (k : ℕ) → eqb k RQST ≡ true → eqb k REPL ≡ false
 other-kind k t = ap (λ (i : ℕ). eqb i REPL) (eqb-true k RQST t)
 
 heard-hears : (tm : Timing) (e : End) → Facts e → (x : List ℕ) (m : Meaning) → readAs x ≡ some m → isMember (e .status) ≡ true → eqb (m .sender .0) (e .host .0) ≡ false
-    → Hears (e .host .0) e m (heardOf tm m e)
-unfolding heardOf
+    → Hears (e .host .0) e m (messageStep tm m e)
+unfolding messageStep
 heard-hears tm e f x m p member other =
     let hs = in-range x m p .source in
     let hn = in-range x m p .number in
@@ -286,7 +286,7 @@ heard-hears tm e f x m p member other =
     byCond (Hears h e m) (eqb (m .kind) DATA)
     (λ k. data-hears tm e f m member other hs hn k (eqb-flip (source m) h (sym (ap (λ (i : ℕ). eqb i h) (original-source x m p k)) ∙ other)) _ refl)
     (λ k. byCond (Hears h e m) (eqb (m .kind) RQST)
-    (λ r. hears-quiet (not-carried m h e k (other-kind (m .kind) r)) (request-quiet tm e f (m .sender) (nameIn m) hs hn _ refl))
+    (λ r. hears-quiet (not-carried m h e k (other-kind (m .kind) r)) (request-quiet tm e f (m .sender) (messageName m) hs hn _ refl))
     (λ r. byCond (Hears h e m) (eqb (m .kind) REPL)
     (λ q. repair-hears tm e f m member other hs hn _ k q _ refl)
     (λ q. hears-quiet (not-carried m h e k q) (session-quiet tm m e f (reports-in x m p)))))
@@ -357,13 +357,51 @@ unfolding due after
 other-event b h tm e o f q =
     quiet-right in-range q (byCond (Quiet e) (isMember (e .status)) (λ _. others tm o e f) (λ _. ignored-quiet e)) refl refl
 
-pub events : EventsRight
+-- a crashed end, whose events are all Ignored
+crashed-is : (x : Status) → isCrashed x ≡ true → x ≡ Crashed
+crashed-is Idle t = clash′ t
+crashed-is Joining t = clash′ t
+crashed-is Member t = clash′ t
+crashed-is Leaving t = clash′ t
+crashed-is Crashed t = refl
+
+crashed-stays : (m : Moving) → moves m Crashed ≡ false
+crashed-stays Join = refl
+crashed-stays Joined = refl
+crashed-stays Leave = refl
+crashed-stays Left = refl
+crashed-stays Crash = refl
+
+crashed-event : (b : Book) (h : ℕ) (e : End) (ev : Event) → e .status ≡ Crashed → Rel b h e → ((x : List ℕ) → ev ≡ Arrival x → Filed b x) → Right b h ev (give Ignored e)
+unfolding due after afterMessage dueMessage
+crashed-event b h e (Move m) c q f =
+    let bt : moves m (b .status h) ≡ false = ap (moves m) (sym (q .status) ∙ c) ∙ crashed-stays m in
+    ignored-right b h (Move m) e q (rw bt) (rw bt)
+crashed-event b h e (Send cue) c q f =
+    let bm : isMember (b .status h) ≡ false = ap isMember (sym (q .status) ∙ c) in
+    ignored-right b h (Send cue) e q (rw bm) (rw bm)
+crashed-event b h e (Arrival x) c q f = go (readAs x) refl
+  where
+    go : (o : Option Meaning) → readAs x ≡ o → Right b h (Arrival x) (give Ignored e)
+    go none p = quiet-right in-range q (ignored-quiet e) (ap (afterMessage b h) p) (ap (dueMessage b h) p)
+    go (some m) p = arrival-right in-range b h e x m (give Ignored e) q (f x refl) p (hears-quiet (aside-takes m h e (ap isMember c)) (ignored-quiet e))
+crashed-event b h e (Else o) c q f = quiet-right in-range q (ignored-quiet e) refl refl
+
+-- an end that is not
+acting : (b : Book) (e : End) (h t : ℕ) (us : List ℕ) (ev : Event) → CueArray ev → Passed e ev t → Rel b h e → ((x : List ℕ) → ev ≡ Arrival x → Filed b x)
+    → Right b h ev (actOf (timing e t us) ev (withClock e t))
 unfolding actOf
-events b e h t us (Move m) hh array z q f = move-event b h (withClock e t) m (facts-clock e t (z .ticks) (facts e (z .sound))) (rel-same q (clock-same e t))
-events b e h t us (Send c) hh array z q f = send-event b h (withClock e t) c (facts-clock e t (z .ticks) (facts e (z .sound))) (rel-same q (clock-same e t)) array (z .own)
-events b e h t us (Arrival x) hh array z q f =
+acting b e h t us (Move m) array z q f = move-event b h (withClock e t) m (facts-clock e t (z .ticks) (facts e (z .sound))) (rel-same q (clock-same e t))
+acting b e h t us (Send c) array z q f = send-event b h (withClock e t) c (facts-clock e t (z .ticks) (facts e (z .sound))) (rel-same q (clock-same e t)) array (z .own)
+acting b e h t us (Arrival x) array z q f =
     arrival-event b h (timing e t us) (withClock e t) x (facts-clock e t (z .ticks) (facts e (z .sound))) (rel-same q (clock-same e t)) (f x refl) (z .own)
-events b e h t us (Else o) hh array z q f = other-event b h (timing e t us) (withClock e t) o (facts-clock e t (z .ticks) (facts e (z .sound))) (rel-same q (clock-same e t))
+acting b e h t us (Else o) array z q f = other-event b h (timing e t us) (withClock e t) o (facts-clock e t (z .ticks) (facts e (z .sound))) (rel-same q (clock-same e t))
+
+pub events : EventsRight
+unfolding stepOf
+events b e h t us ev hh array z q f = byCond (Right b h ev) (isCrashed (e .status))
+    (λ c. crashed-event b h e ev (crashed-is (e .status) c) q f)
+    (λ _. acting b e h t us ev array z q f)
 
 -- Demand 3: every allowed list of calls on freshly opened ends is a run of the service.
 pub service : Service

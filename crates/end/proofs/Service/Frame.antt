@@ -19,10 +19,10 @@ use Rattle.end.specs.declared.Span.the-variants.{Closed}
 use Rattle.end.specs.declared.Source.{Source}
 use Rattle.end.specs.declared.End.{End}
 use Rattle.end.specs.declared.Opened.{Opened}
-use Rattle.end.specs.State.{noRecord, noSource, blankRecord, blankNames, unheard, unheardSources, freshEnd, withClock}
+use Rattle.end.specs.State.{noRecord, noSource, blankRecord, blankNames, unheard, unheardSources, freshEnd}
 use Rattle.end.specs.Sound.{soundOf}
 use Rattle.end.specs.Arrival.{Effect, Out, Got, Done, Ignored, Nothing}
-use Rattle.end.specs.Event.{Event, Move, Send, Arrival, Else, Outcome, Refused, Did, Result, done, timing, actOf, ownQuestions, questionOf, eventOf}
+use Rattle.end.specs.Event.{Event, Move, Send, Arrival, Else, Outcome, Refused, Did, Result, done, timing, stepOf, ownQuestions, questionOf, eventOf}
 use Rattle.end.specs.Opening.{openRefusal, endFor, openingOf}
 use Rattle.end.specs.Book.{Book, emptyBook, Answered, RunFrom, bookAfter, after, firstOf, isSome, among}
 use Rattle.end.specs.Run.{World, Call, resultOf, sentAfter, worldAfter, seen, CueArray, Brought, Allowed, Fresh, Service}
@@ -93,7 +93,7 @@ pub record Stepped (w : World) (b : Book) (h : ℕ) (ev : Event) (r : Result) : 
 -- what is to be shown of the events: on an end that passed the questions and agrees with the book, each is by the book
 abbrev pub EventsRight : Type 0
 EventsRight = (b : Book) (e : End) (h clock : ℕ) (draws : List ℕ) (ev : Event) → h < 8 → CueArray ev → Passed e ev clock → Rel b h e
-    → ((x : List ℕ) → ev ≡ Arrival x → Filed b x) → Right b h ev (actOf (timing e clock draws) ev (withClock e clock))
+    → ((x : List ℕ) → ev ≡ Arrival x → Filed b x) → Right b h ev (stepOf (timing e clock draws) ev e)
 
 -- what an Arrival brings carries the filed cue
 brought-filed : (w : World) (b : Book) (ev : Event) (a : Effect) → Inv w b → Brought (w .sent) ev (Did a) → (x : List ℕ) → ev ≡ Arrival x → Filed b x
@@ -113,7 +113,7 @@ module _ (events : EventsRight) where
       let h = c .host in
       let ev = c .event in
       let e = w .ends h in
-      let step = actOf (timing e (c .clock) (c .draws)) ev (withClock e (c .clock)) in
+      let step = stepOf (timing e (c .clock) (c .draws)) ev e in
       byCond (λ r. Brought (w .sent) ev (r .outcome) → Stepped w b h ev r) (eqb (questionOf e ev (c .clock) (length (c .output)) (length (c .draws))) 0)
       (λ t br.
       let z : Passed e ev (c .clock) = passes e ev (c .clock) (length (c .output)) (length (c .draws)) (eqb-true _ _ t) in

@@ -31,7 +31,7 @@ use Rattle.end.specs.State.{noSource, sourceAt, recordAt, distanceTo, is
 use Rattle.end.specs.Round.{Timing, requestAt, nextRound, quietAfterReply, replyDue}
 use Rattle.end.specs.Names.{asking, quieted, replying, setRound, setReply, quietReply, rise}
 use Rattle.end.specs.Messages.{requestMessage, repairMessage, sessionMessage}
-use Rattle.end.specs.Arrival.{Effect, Out, Got, Done, Ignored, Nothing, give, stepSource, passedOver, answered, backedOff, learned, requestOf, isAbove, reported, allReported, heardFrom, echoed, sessionOf, cueIn}
+use Rattle.end.specs.Arrival.{Effect, Out, Got, Done, Ignored, Nothing, give, stepSource, passedOver, heldRequest, backedOff, learned, requestOf, isAbove, reported, allReported, heardFrom, echoed, sessionOf, messageCue}
 use Rattle.end.specs.Fire.{fireAt, fired, earliest}
 use Rattle.end.specs.Event.{Other, Fire, Report, otherOf}
 use Rattle.end.proofs.SoundLaws.{held-cue}
@@ -96,7 +96,7 @@ bare-quiet e e′ y n v = record {
 }
 
 -- a message put out that carries a cue which the end holds under its name
-pub carrying-quiet : (e e′ : End) (y : Meaning) → Fits 1 y → holds e (source y) (number y) ≡ some (cueIn y) → Same e e′ → Quiet e (give (Out (bytesOf y)) e′)
+pub carrying-quiet : (e e′ : End) (y : Meaning) → Fits 1 y → holds e (source y) (number y) ≡ some (messageCue y) → Same e e′ → Quiet e (give (Out (bytesOf y)) e′)
 unfolding isGot
 carrying-quiet e e′ y f h v = record {
   same = v;
@@ -169,9 +169,9 @@ module _ (tm : Timing) (e : End) (f : Facts e) (k : Host) (name : Name) (hs : na
   calm : Calm (sourceAt e (name .source))
   calm = facts-calm e f (name .source .0) hs
 
-  answered-quiet : Quiet e (answered tm k name e)
-  unfolding answered
-  answered-quiet = byCond (Quiet e) (isNo (recordAt (sourceAt e (name .source)) (name .number) .reply) && leb (recordAt (sourceAt e (name .source)) (name .number) .quiet) (e .clock))
+  held-request-quiet : Quiet e (heldRequest tm k name e)
+  unfolding heldRequest
+  held-request-quiet = byCond (Quiet e) (isNo (recordAt (sourceAt e (name .source)) (name .number) .reply) && leb (recordAt (sourceAt e (name .source)) (name .number) .quiet) (e .clock))
       (λ _. done-quiet e _ (reply-same tm e name (distanceTo e k) k)) (λ _. ignored-quiet e)
 
   backed-quiet : (x : Slot) → recordAt (sourceAt e (name .source)) (name .number) .slot ≡ x → Quiet e (backedOff tm name e x)
@@ -196,7 +196,7 @@ module _ (tm : Timing) (e : End) (f : Facts e) (k : Host) (name : Name) (hs : na
   request-quiet Closed p = ignored-quiet e
   request-quiet (Open first last) p =
       byCond (Quiet e) (passedOver e name (first .0) (last .0)) (λ _. ignored-quiet e)
-      (λ _. byCond (Quiet e) (isHeld (recordAt (sourceAt e (name .source)) (name .number) .slot)) (λ _. answered-quiet)
+      (λ _. byCond (Quiet e) (isHeld (recordAt (sourceAt e (name .source)) (name .number) .slot)) (λ _. held-request-quiet)
       (λ n. byCond (Quiet e) (ltb (last .0) (name .number .0))
       (λ _. done-quiet e _ (same-source e (name .source) _ (learned-same (Open first last) p n)))
       (λ _. backed-quiet (recordAt (sourceAt e (name .source)) (name .number) .slot) refl)))

@@ -18,10 +18,10 @@ use Rattle.end.specs.declared.Span.{Span}
 use Rattle.end.specs.declared.Span.the-variants.{Closed}
 use Rattle.end.specs.declared.Source.{Source}
 use Rattle.end.specs.declared.End.{End}
-use Rattle.end.specs.State.{noRecord, noSource, sourceAt, recordAt, isMember, isCrashed, withSource, withClock}
+use Rattle.end.specs.State.{noRecord, noSource, sourceAt, recordAt, isMember, withSource, withClock}
 use Rattle.end.specs.Sound.{within, recordSound, soundOf}
 use Rattle.end.proofs.SoundLaws.{sound-end, names-length, record-sound, aside-closed, outside-not-held}
-use Rattle.end.proofs.Service.Tools.{byCond, clash, set-elim}
+use Rattle.end.proofs.Service.Tools.{clash, set-elim}
 use Rattle.end.proofs.Service.View.{firstIn, heldAt, SameSource, TookSource, holds, firstAt, Same, Took}
 use Rattle.end.proofs.Service.Sources.{not-held-is, Calm}
 
@@ -88,7 +88,7 @@ facts e h =
 pub facts-clock : (e : End) (t : ℕ) → t < 281474976710656 → Facts e → Facts (withClock e t)
 facts-clock e t l f = record {
   host = f .host;
-  clock = byCond (λ (x : ℕ). x < 281474976710656) (isCrashed (e .status)) (λ _. f .clock) (λ _. l);
+  clock = l;
   sources = f .sources;
   names = f .names;
   records = f .records;

@@ -16,7 +16,7 @@ use Rattle.end.specs.declared.Span.the-variants.{Closed, Open}
 use Rattle.end.specs.declared.Source.{Source}
 use Rattle.end.specs.declared.End.{End}
 use Rattle.end.specs.State.{sourceAt, recordAt, isMember}
-use Rattle.end.specs.Arrival.{Out, Step, cueIn}
+use Rattle.end.specs.Arrival.{Out, Step, messageCue}
 use Rattle.end.specs.Event.{Event}
 use Rattle.end.specs.Book.{Book, readAs, isOriginal, isRepair, source, number, among, firstOf, isSome, due, after, Meets}
 
@@ -89,7 +89,7 @@ carries m = isOriginal m || isRepair m
 
 -- bytes that, if they are a message with a cue, carry the cue filed under its name
 abbrev pub Filed : Book → List ℕ → Type 0
-Filed b x = (m : Meaning) → readAs x ≡ some m → carries m ≡ true → getElem? (b .filed (source m)) (number m) ≡ some (cueIn m)
+Filed b x = (m : Meaning) → readAs x ≡ some m → carries m ≡ true → getElem? (b .filed (source m)) (number m) ≡ some (messageCue m)
 
 -- the book b′ after b: nothing of another host than h has changed, and filed cues stay
 pub record Grows (h : ℕ) (b b′ : Book) : Type 0 where

@@ -1,6 +1,7 @@
 -- What a sound state says: the laws of its tests, and the facts that the theorems and the code's proofs use.
 use mathlib.Core.Path.{_≡_, refl, sym, ap, _∙_}
-use Prim.Native.Nat.{ℕ, zero, suc, _≤_, _<_}
+use Prim.Native.Nat.{ℕ, zero, suc, _+_, _≤_, _<_}
+use native.Mathlib.Numerals.{add-one}
 use native.Mathlib.Omega.{arith}
 use mathlib.Core.Bool.{Bool, true, false, cond, not, _&&_, _||_, true≢false}
 use mathlib.Core.List.{List, [], _∷_}
@@ -41,6 +42,11 @@ nth [] i h = refl
 nth (b ∷ bs) zero h = all-parts b bs h .0
 nth (b ∷ bs) (suc i) h = all-parts b bs h .1 i
 
+-- a test for each number below n, and for one number more
+pub all-more : (f : ℕ → Bool) (n : ℕ) → allBelow f (n + 1) ≡ (allBelow f n && f n)
+unfolding allBelow
+all-more f n = rw (add-one n)
+
 -- of a test for each number below n, the one at a number
 pub all-at : (f : ℕ → Bool) (n i : ℕ) → allBelow f n ≡ true → i < n → f i ≡ true
 unfolding allBelow
@@ -55,25 +61,25 @@ pub record SoundEnd (e : End) : Type 0 where
   pub clock : e .clock < 281474976710656
   pub next : e .next ≤ 64
   pub sources : length (e .sources) ≡ 8
-  pub each : (h : ℕ) → h < 8 → sourceSound e (asHost h) (getD (e .sources) h noSource) ≡ true
+  pub each : (h : ℕ) → h < 8 → sourceSound (e .host) (e .next) (e .clock) (isMember (e .status)) (asHost h) (getD (e .sources) h noSource) ≡ true
 
 pub sound-end : (e : End) → soundOf e ≡ true → SoundEnd e
 unfolding soundOf
 sound-end e h = record {
-  host = ltb-true (e .host .0) 8 (nth (soundTests e) 0 h);
-  clock = ltb-true (e .clock) 281474976710656 (nth (soundTests e) 2 h);
-  next = leb-true (e .next) 64 (nth (soundTests e) 3 h);
-  sources = eqb-true (length (e .sources)) 8 (nth (soundTests e) 4 h);
-  each = λ k l. all-at (λ h. sourceSound e (asHost h) (getD (e .sources) h noSource)) 8 k (nth (soundTests e) 5 h) l;
+  host = ltb-true (e .host .0) 8 (nth (soundTests e) 1 h);
+  clock = ltb-true (e .clock) 281474976710656 (nth (soundTests e) 3 h);
+  next = leb-true (e .next) 64 (nth (soundTests e) 4 h);
+  sources = eqb-true (length (e .sources)) 8 (nth (soundTests e) 0 h);
+  each = λ k l. all-at (λ h. sourceSound (e .host) (e .next) (e .clock) (isMember (e .status)) (asHost h) (getD (e .sources) h noSource)) 8 k (nth (soundTests e) 5 h) l;
 }
 
 -- ---- one source
-module _ (e : End) (h : Host) (s : Source) (sound : sourceSound e h s ≡ true) where
+module _ (e : End) (h : Host) (s : Source) (sound : sourceSound (e .host) (e .next) (e .clock) (isMember (e .status)) h s ≡ true) where
   pub names-length : length (s .names) ≡ 64
-  names-length = eqb-true (length (s .names)) 64 (nth (sourceTests e h s) 4 sound)
+  names-length = eqb-true (length (s .names)) 64 (nth (sourceTests (e .host) (e .next) (e .clock) (isMember (e .status)) h s) 0 sound)
 
   pub record-sound : (n : ℕ) → n < 64 → recordSound (e .host) h (s .span) n (getD (s .names) n noRecord) ≡ true
-  record-sound n l = all-at (λ n. recordSound (e .host) h (s .span) n (getD (s .names) n noRecord)) 64 n (nth (sourceTests e h s) 5 sound) l
+  record-sound n l = all-at (λ n. recordSound (e .host) h (s .span) n (getD (s .names) n noRecord)) 64 n (nth (sourceTests (e .host) (e .next) (e .clock) (isMember (e .status)) h s) 5 sound) l
 
   closed-is : (x : Span) → isClosed x ≡ true → x ≡ Closed
   closed-is Closed p = refl
@@ -82,7 +88,7 @@ module _ (e : End) (h : Host) (s : Source) (sound : sourceSound e h s ≡ true) 
   -- a non-member has no first
   pub aside-closed : isMember (e .status) ≡ false → s .span ≡ Closed
   aside-closed m =
-      let t : (isMember (e .status) || allOf (nonMemberTests (sameHost h (e .host)) s)) ≡ true = nth (sourceTests e h s) 3 sound in
+      let t : (isMember (e .status) || allOf (nonMemberTests (sameHost h (e .host)) s)) ≡ true = nth (sourceTests (e .host) (e .next) (e .clock) (isMember (e .status)) h s) 4 sound in
       closed-is (s .span) (nth (nonMemberTests (sameHost h (e .host)) s) 0 (alone (isMember (e .status)) m t))
     where
       alone : (a : Bool) → a ≡ false → (a || allOf (nonMemberTests (sameHost h (e .host)) s)) ≡ true → allOf (nonMemberTests (sameHost h (e .host)) s) ≡ true

@@ -114,18 +114,19 @@ nonMemberTests own s = isClosed (s .span) ∷ isNever (s .heard) ∷ (own || eqb
 abbrev pub namesSound : Host → Host → Span → List Record → ℕ → Bool
 namesSound me source span names k = allBelow (λ n. recordSound me source span n (getD names n noRecord)) k
 
-abbrev pub sourceTests : End → Host → Source → List Bool
-sourceTests e h s =
-    allOf (spanTests (sameHost h (e .host)) (e .next) (s .span))
-    ∷ distanceSound (sameHost h (e .host)) (s .distance)
-    ∷ allOf (heardTests (sameHost h (e .host)) (e .clock) (s .heard))
-    ∷ (isMember (e .status) || allOf (nonMemberTests (sameHost h (e .host)) s))
-    ∷ eqb (length (s .names)) 64
-    ∷ namesSound (e .host) h (s .span) (s .names) 64
+-- of the end it takes its host, its next number, its clock and whether it is a member
+abbrev pub sourceTests : Host → ℕ → ℕ → Bool → Host → Source → List Bool
+sourceTests me next clock member h s =
+    eqb (length (s .names)) 64
+    ∷ allOf (spanTests (sameHost h me) next (s .span))
+    ∷ distanceSound (sameHost h me) (s .distance)
+    ∷ allOf (heardTests (sameHost h me) clock (s .heard))
+    ∷ (member || allOf (nonMemberTests (sameHost h me) s))
+    ∷ namesSound me h (s .span) (s .names) 64
     ∷ []
 
-abbrev pub sourceSound : End → Host → Source → Bool
-sourceSound e h s = allOf (sourceTests e h s)
+abbrev pub sourceSound : Host → ℕ → ℕ → Bool → Host → Source → Bool
+sourceSound me next clock member h s = allOf (sourceTests me next clock member h s)
 
 -- ---- the end
 
@@ -134,17 +135,17 @@ abbrev pub paramsTests : Params → List Bool
 paramsTests p = leb (p .c1) 32 ∷ leb (p .c2) 32 ∷ leb (p .c3) 32 ∷ leb (p .d1) 32 ∷ leb (p .d2) 32 ∷ leb (p .d3) 32 ∷ []
 
 abbrev pub sourcesSound : End → ℕ → Bool
-sourcesSound e k = allBelow (λ h. sourceSound e (asHost h) (getD (e .sources) h noSource)) k
+sourcesSound e k = allBelow (λ h. sourceSound (e .host) (e .next) (e .clock) (isMember (e .status)) (asHost h) (getD (e .sources) h noSource)) k
 
 -- "fields are in range" and each source is sound. The lengths of the arrays are among the tests since a definition's array is a
 -- list; every value of the declared type has them.
 abbrev pub soundTests : End → List Bool
 soundTests e =
-    hostIn (e .host)
+    eqb (length (e .sources)) 8
+    ∷ hostIn (e .host)
     ∷ allOf (paramsTests (e .params))
     ∷ ticksIn (e .clock)
     ∷ leb (e .next) 64
-    ∷ eqb (length (e .sources)) 8
     ∷ sourcesSound e 8
     ∷ []
 

@@ -1,0 +1,257 @@
+// Question 3: whether a state is sound, as a test of any state value whatever. Its promise is `soundOf` of the crate end,
+// specs/Sound.antt; each function here is one definition of that file. The state is gone through once.
+use end::End;
+use end::Heard;
+use end::Params;
+use end::Record;
+use end::Reply;
+use end::Request;
+use end::Slot;
+use end::Source;
+use end::Span;
+use end::Status;
+use message::Host;
+ghost use mathlib.Core.Path.{_≡_};
+ghost use Prim.Native.Nat.{_<_};
+ghost use lib.ListN.{length, getD};
+ghost use Rattle.end.specs.State.{isMember, isNo};
+ghost use Rattle.end.specs.Sound.{allOf, requestTests, replyTests, heldTests, waitingTests, insideSound, outsideSound, within, isClosed, isNever, recordSound, namesSound, spanTests, distanceSound, heardTests, nonMemberTests, sourceSound, paramsTests, sourcesSound, soundOf};
+
+// "due and quiet times are below 2^48+2^32"
+const TIME_LIMIT: u64 = 281479271677952;
+
+fn request_sound(q: Request) -> bool
+    ensures { λ r. ⌜ r ≡ allOf (requestTests q) ⌝ }
+{
+    (1 <= q.round) & (q.round <= 16) & (q.due < TIME_LIMIT) & (q.quiet < TIME_LIMIT)
+}
+
+fn reply_sound(me: Host, source: Host, reply: Reply) -> bool
+    ensures { λ r. ⌜ r ≡ allOf (replyTests me source reply) ⌝ }
+{
+    match reply {
+        Reply::No => true,
+        Reply::Due(due, requester) => {
+            (due < TIME_LIMIT)
+                & (requester.0 < 8)
+                & !(requester.0 == me.0)
+                & !(requester.0 == source.0)
+        }
+    }
+}
+
+fn is_no(reply: Reply) -> bool
+    ensures { λ r. ⌜ r ≡ isNo reply ⌝ }
+{
+    match reply {
+        Reply::No => true,
+        Reply::Due(_, _) => false,
+    }
+}
+
+// An array of a value has its length: what the definition asks of its lists.
+fn sized_cue(cue: [u8; 24]) -> [u8; 24]
+    ensures { λ r. ⌜ (r ≡ cue) × (length cue ≡ 24) ⌝ }
+{
+    cue
+}
+
+fn held_sound(me: Host, source: Host, r: Record) -> bool
+    ensures { λ b. ⌜ b ≡ allOf (heldTests me source r) ⌝ }
+{
+    let cue = r.cue;
+    let bytes = sized_cue(cue);
+    let reply = r.reply;
+    message::cue_in(&bytes) & reply_sound(me, source, reply) & (r.quiet < TIME_LIMIT)
+}
+
+fn waiting_sound(r: Record, q: Request) -> bool
+    ensures { λ b. ⌜ b ≡ allOf (waitingTests r q) ⌝ }
+{
+    let reply = r.reply;
+    request_sound(q) & is_no(reply) & (r.quiet < TIME_LIMIT)
+}
+
+fn inside_sound(me: Host, source: Host, r: Record, slot: Slot) -> bool
+    ensures { λ b. ⌜ b ≡ insideSound me source r slot ⌝ }
+{
+    match slot {
+        Slot::Empty => false,
+        Slot::Held => held_sound(me, source, r),
+        Slot::Waiting(q) => !(source.0 == me.0) & waiting_sound(r, q),
+    }
+}
+
+fn outside_sound(r: Record, slot: Slot) -> bool
+    ensures { λ b. ⌜ b ≡ outsideSound r slot ⌝ }
+{
+    match slot {
+        Slot::Empty => {
+            let reply = r.reply;
+            is_no(reply) & (r.quiet == 0)
+        }
+        Slot::Held => false,
+        Slot::Waiting(_) => false,
+    }
+}
+
+fn is_within(span: Span, n: usize) -> bool
+    ensures { λ r. ⌜ r ≡ within span n ⌝ }
+{
+    match span {
+        Span::Closed => false,
+        Span::Open(first, last) => (first.0 as usize <= n) & (n <= last.0 as usize),
+    }
+}
+
+fn record_sound(me: Host, source: Host, span: Span, n: usize, r: Record) -> bool
+    ensures { λ b. ⌜ b ≡ recordSound me source span n r ⌝ }
+{
+    let slot = r.slot;
+    if is_within(span, n) {
+        inside_sound(me, source, r, slot)
+    } else {
+        outside_sound(r, slot)
+    }
+}
+
+fn names_sound(me: Host, source: Host, span: Span, names: [Record; 64]) -> bool
+    ensures { λ r. ⌜ r ≡ namesSound me source span names 64 ⌝ }
+{
+    let mut ok = true;
+    let mut n: usize = 0;
+    while n < 64 {
+        let r = names[n];
+        ok = ok & record_sound(me, source, span, n, r);
+        n += 1;
+    }
+    ok
+}
+
+fn span_sound(own: bool, next: u32, span: Span) -> bool
+    ensures { λ r. ⌜ r ≡ allOf (spanTests own next span) ⌝ }
+{
+    match span {
+        Span::Closed => true,
+        Span::Open(first, last) => {
+            (first.0 <= last.0) & (last.0 < 64) & (!own | (last.0 as u32 + 1 == next))
+        }
+    }
+}
+
+fn distance_sound(own: bool, d: u64) -> bool
+    ensures { λ r. ⌜ r ≡ distanceSound own d ⌝ }
+{
+    if own { d == 0 } else { (1 <= d) & (d <= 1000) }
+}
+
+fn heard_sound(own: bool, clock: u64, heard: Heard) -> bool
+    ensures { λ r. ⌜ r ≡ allOf (heardTests own clock heard) ⌝ }
+{
+    match heard {
+        Heard::Never => true,
+        Heard::At(stamp, when) => !own & (stamp < 281474976710656) & (when <= clock),
+    }
+}
+
+fn params_sound(p: Params) -> bool
+    ensures { λ r. ⌜ r ≡ allOf (paramsTests p) ⌝ }
+{
+    (p.c1 <= 32) & (p.c2 <= 32) & (p.c3 <= 32) & (p.d1 <= 32) & (p.d2 <= 32) & (p.d3 <= 32)
+}
+
+fn is_member(status: Status) -> bool
+    ensures { λ r. ⌜ r ≡ isMember status ⌝ }
+{
+    match status {
+        Status::Idle => false,
+        Status::Joining => false,
+        Status::Member => true,
+        Status::Leaving => false,
+        Status::Crashed => false,
+    }
+}
+
+fn is_closed(span: Span) -> bool
+    ensures { λ r. ⌜ r ≡ isClosed span ⌝ }
+{
+    match span {
+        Span::Closed => true,
+        Span::Open(_, _) => false,
+    }
+}
+
+fn is_never(heard: Heard) -> bool
+    ensures { λ r. ⌜ r ≡ isNever heard ⌝ }
+{
+    match heard {
+        Heard::Never => true,
+        Heard::At(_, _) => false,
+    }
+}
+
+fn non_member_sound(own: bool, s: Source) -> bool
+    ensures { λ r. ⌜ r ≡ allOf (nonMemberTests own s) ⌝ }
+{
+    let span = s.span;
+    let heard = s.heard;
+    is_closed(span) & is_never(heard) & (own | (s.distance == 40))
+}
+
+fn sized_names(names: [Record; 64]) -> [Record; 64]
+    ensures { λ r. ⌜ (r ≡ names) × (length names ≡ 64) ⌝ }
+{
+    names
+}
+
+// One source, for the end of host me with this next number and clock.
+fn source_sound(me: Host, next: u32, clock: u64, member: bool, h: Host, s: Source) -> bool
+    ensures { λ r. ⌜ r ≡ sourceSound me next clock member h s ⌝ }
+{
+    let own = h.0 == me.0;
+    let span = s.span;
+    let heard = s.heard;
+    let names = s.names;
+    let records = sized_names(names);
+    span_sound(own, next, span)
+        & distance_sound(own, s.distance)
+        & heard_sound(own, clock, heard)
+        & (member | non_member_sound(own, s))
+        & names_sound(me, h, span, records)
+}
+
+fn sized_sources(sources: [Source; 8]) -> [Source; 8]
+    ensures { λ r. ⌜ (r ≡ sources) × (length sources ≡ 8) ⌝ }
+{
+    sources
+}
+
+fn sources_sound(e: End) -> bool
+    ensures { λ r. ⌜ r ≡ sourcesSound e 8 ⌝ }
+{
+    let status = e.status;
+    let member = is_member(status);
+    let sources = e.sources;
+    let mut ok = true;
+    let mut h: u8 = 0;
+    while h < 8 {
+        let at = h as usize;
+        let s = sources[at];
+        ok = ok & source_sound(e.host, e.next, e.clock, member, Host(h), s);
+        h += 1;
+    }
+    ok
+}
+
+// Whether a state is sound, of any state value.
+pub fn sound(e: End) -> bool
+    ensures { λ r. ⌜ r ≡ soundOf e ⌝ }
+{
+    let sources = e.sources;
+    let eight = sized_sources(sources);
+    (e.host.0 < 8)
+        & params_sound(e.params)
+        & (e.clock < 281474976710656)
+        & (e.next <= 64)
+        & sources_sound(e)
+}

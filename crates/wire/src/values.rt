@@ -1,0 +1,220 @@
+// A message as a value, made of the decimal numbers of a line.
+use message::Counts;
+use message::CueNumber;
+use message::Echo;
+use message::Host;
+use message::Message;
+use message::Name;
+use message::NameEntry;
+use message::Report;
+
+// Where each part of a line has its numbers: kind, sender, stamp and counts at 0, the sections after them.
+const NAME_AT: usize = 7;
+
+const CUE_AT: usize = 10;
+
+const REPORTS_AT: usize = 15;
+
+const ECHOES_AT: usize = 31;
+
+const END: usize = 52;
+
+// The numbers so far, and 0 where none was given. `at` is the place of the next one or of the one begun, and `section` the part of
+// the line. `in_number` says that one is begun, and `negative` that a minus stood before it.
+pub struct Values {
+    pub numbers: [u64; 52],
+    at: usize,
+    section: usize,
+    in_number: bool,
+    negative: bool,
+}
+
+fn place_of(section: usize) -> usize {
+    match section {
+        0 => 0,
+        1 => NAME_AT,
+        2 => CUE_AT,
+        3 => REPORTS_AT,
+        4 => ECHOES_AT,
+        _ => END,
+    }
+}
+
+// A number with one more digit. The largest that a line has is 2^63.
+fn with_digit(n: u64, digit: u8) -> u64 {
+    if n < 1000000000000000000 {
+        n * 10 + (digit as u64)
+    } else {
+        n
+    }
+}
+
+// The 16 bits of a number below 0.
+fn minus(n: u64) -> u64 {
+    if n < 65536 { 65536 - n } else { n }
+}
+
+impl Values {
+    pub fn none() -> Values {
+        Values {
+            numbers: [0u64; 52],
+            at: 0,
+            section: 0,
+            in_number: false,
+            negative: false,
+        }
+    }
+
+    fn digit(self, digit: u8) -> Values {
+        let mut v = self;
+        let at = v.at;
+        if at < END {
+            let n = v.numbers[at];
+            v.numbers[at] = with_digit(n, digit);
+        }
+        v.in_number = true;
+        v
+    }
+
+    // With the number that was begun, if any, as a whole.
+    pub fn ended(self) -> Values {
+        let mut v = self;
+        let at = v.at;
+        if v.in_number {
+            if at < END {
+                let n = v.numbers[at];
+                if v.negative {
+                    v.numbers[at] = minus(n);
+                }
+                v.at = at + 1;
+            }
+        }
+        v.in_number = false;
+        v.negative = false;
+        v
+    }
+
+    fn next_section(self) -> Values {
+        let mut v = self.ended();
+        let section = v.section;
+        if section < 5 {
+            v.section = section + 1;
+            v.at = place_of(section + 1);
+        }
+        v
+    }
+
+    // With what a character of a table adds.
+    pub fn character(self, character: u8) -> Values {
+        match character {
+            b'0'..=b'9' => self.digit(character - b'0'),
+            b'-' => {
+                let mut v = self;
+                v.negative = true;
+                v
+            }
+            b'/' => self.next_section(),
+            _ => self.ended(),
+        }
+    }
+}
+
+fn byte_of(n: u64) -> u8 {
+    (n % 256) as u8
+}
+
+fn counts(numbers: &[u64; 52]) -> Counts {
+    Counts {
+        names: numbers[3] as usize,
+        cues: numbers[4] as usize,
+        reports: numbers[5] as usize,
+        echoes: numbers[6] as usize,
+    }
+}
+
+fn name(numbers: &[u64; 52]) -> NameEntry {
+    let source = byte_of(numbers[NAME_AT]);
+    let number = byte_of(numbers[NAME_AT + 1]);
+    let host = byte_of(numbers[NAME_AT + 2]);
+    NameEntry {
+        name: Name {
+            source: Host(source),
+            number: CueNumber(number),
+        },
+        host: Host(host),
+    }
+}
+
+fn offset(n: u64) -> i16 {
+    numbers::to_i16((n % 65536) as u16)
+}
+
+fn cue(numbers: &[u64; 52]) -> [u8; 24] {
+    let focus = offset(numbers[CUE_AT]);
+    let zoom = offset(numbers[CUE_AT + 1]);
+    let sideways = offset(numbers[CUE_AT + 2]);
+    let upright = offset(numbers[CUE_AT + 3]);
+    message::cue_with(
+        focus,
+        zoom,
+        sideways,
+        upright,
+        (numbers[CUE_AT + 4] % 65536) as u16,
+    )
+}
+
+fn reports(numbers: &[u64; 52]) -> [Report; 8] {
+    let mut reports = [Report {
+        source: Host(0),
+        last: CueNumber(0),
+    }; 8];
+    let mut i: usize = 0;
+    while i < 8 {
+        let at = REPORTS_AT + i * 2;
+        let source = byte_of(numbers[at]);
+        let last = byte_of(numbers[at + 1]);
+        reports[i] = Report {
+            source: Host(source),
+            last: CueNumber(last),
+        };
+        i += 1;
+    }
+    reports
+}
+
+fn echoes(numbers: &[u64; 52]) -> [Echo; 7] {
+    let mut echoes = [Echo {
+        host: Host(0),
+        stamp: 0,
+        held: 0,
+    }; 7];
+    let mut i: usize = 0;
+    while i < 7 {
+        let at = ECHOES_AT + i * 3;
+        let host = byte_of(numbers[at]);
+        let stamp = numbers[at + 1];
+        let held = numbers[at + 2];
+        echoes[i] = Echo {
+            host: Host(host),
+            stamp,
+            held,
+        };
+        i += 1;
+    }
+    echoes
+}
+
+pub fn message_of(numbers: &[u64; 52]) -> Message {
+    let sender = byte_of(numbers[1]);
+    let entry = name(numbers);
+    Message {
+        kind: byte_of(numbers[0]),
+        sender: Host(sender),
+        stamp: numbers[2],
+        counts: counts(numbers),
+        names: [entry; 1],
+        cue: cue(numbers),
+        reports: reports(numbers),
+        echoes: echoes(numbers),
+    }
+}

@@ -4,6 +4,7 @@ use Prim.Native.Nat.{ℕ, _+_, _-_, _*_, _≤_, _<_}
 use native.Mathlib.Nat.{mul-le-mul, pow-le-pow-right}
 use native.Mathlib.Omega.{arith}
 use Rattle.message.specs.declared.CueNumber.{CueNumber}
+use Rattle.end.specs.declared.Params.{Params}
 use Rattle.end.specs.Round.{Timing, drawAt, factor, share, requestAt, nextRound, replyDue, quietAfterReply, halfTrip}
 
 -- a round's factor is 1, 2, 4, .. 32768
@@ -26,15 +27,15 @@ share-most x u h =
     let p : x * u ≤ x * 255 = mul-le-mul (omega arith) h in
     omega arith
 
--- what a wait is made of
-pub record Ranges (tm : Timing) (d : ℕ) : Type 0 where
-  pub c1 : tm .params .c1 ≤ 32
-  pub c2 : tm .params .c2 ≤ 32
-  pub c3 : tm .params .c3 ≤ 32
-  pub d1 : tm .params .d1 ≤ 32
-  pub d2 : tm .params .d2 ≤ 32
-  pub d3 : tm .params .d3 ≤ 32
-  pub clock : tm .clock < 281474976710656
+-- what a wait is made of: parameters, clock and distance in their ranges
+pub record Ranges (p : Params) (t d : ℕ) : Type 0 where
+  pub c1 : p .c1 ≤ 32
+  pub c2 : p .c2 ≤ 32
+  pub c3 : p .c3 ≤ 32
+  pub d1 : p .d1 ≤ 32
+  pub d2 : p .d2 ≤ 32
+  pub d3 : p .d3 ≤ 32
+  pub clock : t < 281474976710656
   pub distance : d ≤ 1000
 
 -- the products of a round, and of a reply
@@ -47,7 +48,7 @@ drawn-product x u m hx hu = mul-le-mul hx hu
 pub reply-product : (c d : ℕ) → c ≤ 32 → d ≤ 1000 → c * d ≤ 32000
 reply-product c d hc hd = mul-le-mul hc hd
 
-module _ (tm : Timing) (d : ℕ) (r : Ranges tm d) (n : CueNumber) (draw : drawAt tm n ≤ 255) where
+module _ (tm : Timing) (d : ℕ) (r : Ranges (tm .params) (tm .clock) d) (n : CueNumber) (draw : drawAt tm n ≤ 255) where
   -- "due and quiet times are below 2^48+2^32"
   pub request-in : (k : ℕ) → k ≤ 16 → (requestAt tm d n k .due < 281479271677952) × (requestAt tm d n k .quiet < 281479271677952)
   request-in k hk =

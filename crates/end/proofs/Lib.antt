@@ -1,3 +1,4 @@
 pub mod SoundLaws
 pub mod Bounds
+pub mod NameLaws
 pub mod Service

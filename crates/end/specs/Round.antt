@@ -26,24 +26,33 @@ unfoldable pub share : ℕ → ℕ → ℕ
 share wait u = wait * u / 255
 
 -- "due = t + F×C1×d + floor(F×C2×d×u/255); quiet-until = t + F×C3×d"
-abbrev pub requestAt : Timing → ℕ → CueNumber → ℕ → Request
-requestAt tm d n k = record {
+abbrev pub requestWith : Params → ℕ → ℕ → ℕ → ℕ → Request
+requestWith p clock u d k = record {
   round = k;
-  due = tm .clock + factor k * tm .params .c1 * d + share (factor k * tm .params .c2 * d) (drawAt tm n);
-  quiet = tm .clock + factor k * tm .params .c3 * d;
+  due = clock + factor k * p .c1 * d + share (factor k * p .c2 * d) u;
+  quiet = clock + factor k * p .c3 * d;
 }
+
+abbrev pub requestAt : Timing → ℕ → CueNumber → ℕ → Request
+requestAt tm d n k = requestWith (tm .params) (tm .clock) (drawAt tm n) d k
 
 -- "After 16 comes 16."
 abbrev pub nextRound : ℕ → ℕ
 nextRound k = min (k + 1) 16
 
 -- "a reply due at t + D1×d + floor(D2×d×u/255), d to the requester"
+abbrev pub replyWith : Params → ℕ → ℕ → ℕ → ℕ
+replyWith p clock u d = clock + p .d1 * d + share (p .d2 * d) u
+
 abbrev pub replyDue : Timing → ℕ → CueNumber → ℕ
-replyDue tm d n = tm .clock + tm .params .d1 * d + share (tm .params .d2 * d) (drawAt tm n)
+replyDue tm d n = replyWith (tm .params) (tm .clock) (drawAt tm n) d
 
 -- "reply-quiet = t + D3×d, d to the requester"
+abbrev pub quietWith : Params → ℕ → ℕ → ℕ
+quietWith p clock d = clock + p .d3 * d
+
 abbrev pub quietAfterReply : Timing → ℕ → ℕ
-quietAfterReply tm d = tm .clock + tm .params .d3 * d
+quietAfterReply tm d = quietWith (tm .params) (tm .clock) d
 
 -- "floor(e/8), brought into 1..1000"
 abbrev pub halfTrip : ℕ → ℕ

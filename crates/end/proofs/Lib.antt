@@ -1,4 +1,5 @@
 pub mod SoundLaws
 pub mod Bounds
 pub mod NameLaws
+pub mod Ready
 pub mod Service

@@ -5,7 +5,8 @@ use mathlib.Core.List.{List, [], _∷_, _++_}
 use lib.ListN.{length, drop}
 use Rattle.end.specs.declared.Answer.{Answer}
 use Rattle.end.specs.declared.Answer.the-variants as answer
-use Rattle.end.specs.Arrival.{Out, Got, Done, Ignored, Nothing}
+use Rattle.end.specs.declared.Stepped.{Stepped}
+use Rattle.end.specs.Arrival.{Out, Got, Done, Ignored, Nothing, Step}
 use Rattle.end.specs.Event.{Outcome, Refused, Did}
 
 -- the answer that a call returns
@@ -16,6 +17,10 @@ answerOf (Did (Got name cue)) = answer.Got name
 answerOf (Did Done) = answer.Done
 answerOf (Did Ignored) = answer.Ignored
 answerOf (Did Nothing) = answer.Nothing
+
+-- what an event that is not refused gives: its answer, and the end that it leaves
+abbrev pub steppedOf : Step → Stepped
+steppedOf step = record { answer = answerOf (Did (step .effect)); end = step .left }
 
 -- the output that a call leaves
 unfoldable pub bufferOf : Outcome → List ℕ → List ℕ

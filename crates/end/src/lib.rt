@@ -105,6 +105,12 @@ pub enum Earliest {
     First(Wait),
 }
 
+// What a call gives: its answer, and the end that it leaves.
+pub struct Stepped {
+    pub answer: Answer,
+    pub end: End,
+}
+
 // What an opening answers: whether it was refused, and the end.
 pub struct Opened {
     pub verdict: Verdict,

@@ -23,10 +23,6 @@ fn digit_of(character: u8) -> u8 {
     }
 }
 
-fn byte_of(high: u8, low: u8) -> u8 {
-    high % 16 * 16 + low % 16
-}
-
 impl Draft {
     pub fn empty() -> Draft {
         Draft {
@@ -43,7 +39,7 @@ impl Draft {
         if high == NO_DIGIT {
             d.high = digit;
         } else if at < ROOM {
-            d.bytes[at] = byte_of(high, digit);
+            d.bytes[at] = high % 16 * 16 + digit % 16;
             d.len = at + 1;
             d.high = NO_DIGIT;
         }
@@ -72,21 +68,17 @@ impl Draft {
             b'q' => self.hex(b"FFFE FFFF 0000 07D0 01F4 0000000000000000000000000000"),
             b'r' => self.hex(b"003F 0100 0201 0302 041F 0520 063E 073F"),
             b'h' => self.hex(b"000000000009 000000000009"),
-            b'e' => self.echoes(),
+            b'e' => self.hex(
+                b"00 000000000000 000000000000 01 FFFFFFFFFFFF FFFFFFFFFFFF \
+                  02 000000000000 FFFFFFFFFFFF 03 FFFFFFFFFFFF 000000000000 \
+                  04 000000000001 000000000100 05 000000010000 000001000000 \
+                  06 000100000000 010000000000",
+            ),
             _ => {
                 show::text(b"UNKNOWN LETTER ");
                 self
             }
         }
-    }
-
-    fn echoes(self) -> Draft {
-        self.hex(
-            b"00 000000000000 000000000000 01 FFFFFFFFFFFF FFFFFFFFFFFF \
-              02 000000000000 FFFFFFFFFFFF 03 FFFFFFFFFFFF 000000000000 \
-              04 000000000001 000000000100 05 000000010000 000001000000 \
-              06 000100000000 010000000000",
-        )
     }
 
     // With what a character of a table adds.

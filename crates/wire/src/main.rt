@@ -8,7 +8,7 @@ mod values;
 mod write_cases;
 mod writer_table;
 
-fn try_reader() {
+fn main() {
     reader_table::accepted();
     reader_table::lengths();
     reader_table::section_counts();
@@ -19,9 +19,6 @@ fn try_reader() {
     reader_table::lamps_and_sections();
     reader_table::name_hosts();
     reader_table::section_orders();
-}
-
-fn try_writer() {
     writer_table::rooms();
     writer_table::accepted();
     writer_table::unused_places();
@@ -30,9 +27,4 @@ fn try_writer() {
     writer_table::ticks_and_hosts();
     writer_table::cue_fields();
     writer_table::hosts();
-}
-
-fn main() {
-    try_reader();
-    try_writer();
 }

@@ -7,12 +7,6 @@ use crate::show;
 use message::Message;
 use message::Verdict;
 
-// Where the walk of a line stands: in its label, or behind it with the bytes so far.
-struct Line {
-    in_label: bool,
-    draft: Draft,
-}
-
 // Whether the writer puts the very same bytes at the front of an output and leaves what follows them.
 fn writes_back(m: Message, bytes: &[u8]) -> bool {
     let mut out = [FILL; 128];
@@ -37,7 +31,7 @@ fn show_message(m: Message, bytes: &[u8]) {
 }
 
 // The answer to the first `len` bytes.
-fn run(all: &[u8], len: usize) {
+fn show_answer(all: &[u8], len: usize) {
     if all.len() < len {
         return;
     }
@@ -51,35 +45,28 @@ fn run(all: &[u8], len: usize) {
     show::text(b"\n");
 }
 
-fn start(in_label: bool) -> Line {
-    Line {
-        in_label,
-        draft: Draft::empty(),
-    }
+fn run(draft: Draft) {
+    let bytes = draft.bytes;
+    show_answer(&bytes, draft.len);
 }
 
-fn step(line: Line, character: u8) -> Line {
-    let draft = line.draft;
-    if line.in_label {
-        show::character(character);
-        return start(character != b':');
-    }
-    if character == b'\n' {
-        let bytes = draft.bytes;
-        run(&bytes, draft.len);
-        return start(true);
-    }
-    Line {
-        in_label: false,
-        draft: draft.character(character),
-    }
-}
-
+// A line is passed through character by character: its label up to a colon is printed, and what follows is put into a draft.
 pub fn read_cases(table: &[u8]) {
-    let mut line = start(true);
+    let mut in_label = true;
+    let mut draft = Draft::empty();
     let mut i: usize = 0;
     while i < table.len() {
-        line = step(line, table[i]);
+        let character = table[i];
+        if in_label {
+            show::character(character);
+            in_label = character != b':';
+        } else if character == b'\n' {
+            run(draft);
+            draft = Draft::empty();
+            in_label = true;
+        } else {
+            draft = draft.character(character);
+        }
         i += 1;
     }
 }

@@ -19,39 +19,14 @@ const ECHOES_AT: usize = 31;
 
 const END: usize = 52;
 
-// The numbers so far, and 0 where none was given. `at` is the place of the next one or of the one begun, and `section` the part of
-// the line. `in_number` says that one is begun, and `negative` that a minus stood before it.
+// The numbers so far, and 0 where none was given. `at` is the place of the next one or of the one begun, and `next` that of the
+// next section. `in_number` says that a number is begun, and `negative` that a minus stood before it.
 pub struct Values {
     pub numbers: [u64; 52],
     at: usize,
-    section: usize,
+    next: usize,
     in_number: bool,
     negative: bool,
-}
-
-fn place_of(section: usize) -> usize {
-    match section {
-        0 => 0,
-        1 => NAME_AT,
-        2 => CUE_AT,
-        3 => REPORTS_AT,
-        4 => ECHOES_AT,
-        _ => END,
-    }
-}
-
-// A number with one more digit. The largest that a line has is 2^63.
-fn with_digit(n: u64, digit: u8) -> u64 {
-    if n < 1000000000000000000 {
-        n * 10 + (digit as u64)
-    } else {
-        n
-    }
-}
-
-// The 16 bits of a number below 0.
-fn minus(n: u64) -> u64 {
-    if n < 65536 { 65536 - n } else { n }
 }
 
 impl Values {
@@ -59,32 +34,35 @@ impl Values {
         Values {
             numbers: [0u64; 52],
             at: 0,
-            section: 0,
+            next: NAME_AT,
             in_number: false,
             negative: false,
         }
     }
 
+    // With one more digit. The largest number of a line is 2^63.
     fn digit(self, digit: u8) -> Values {
         let mut v = self;
         let at = v.at;
         if at < END {
             let n = v.numbers[at];
-            v.numbers[at] = with_digit(n, digit);
+            if n < 1000000000000000000 {
+                v.numbers[at] = n * 10 + (digit as u64);
+            }
         }
         v.in_number = true;
         v
     }
 
-    // With the number that was begun, if any, as a whole.
+    // With the number that was begun, if any, as a whole. One below 0 becomes the 16 bits that stand for it.
     pub fn ended(self) -> Values {
         let mut v = self;
         let at = v.at;
         if v.in_number {
             if at < END {
-                let n = v.numbers[at];
                 if v.negative {
-                    v.numbers[at] = minus(n);
+                    let n = v.numbers[at];
+                    v.numbers[at] = 65536 - n % 65536;
                 }
                 v.at = at + 1;
             }
@@ -96,11 +74,13 @@ impl Values {
 
     fn next_section(self) -> Values {
         let mut v = self.ended();
-        let section = v.section;
-        if section < 5 {
-            v.section = section + 1;
-            v.at = place_of(section + 1);
-        }
+        let at = v.next;
+        v.at = at;
+        v.next = match at {
+            NAME_AT => CUE_AT,
+            CUE_AT => REPORTS_AT,
+            _ => ECHOES_AT,
+        };
         v
     }
 
@@ -121,15 +101,6 @@ impl Values {
 
 fn byte_of(n: u64) -> u8 {
     (n % 256) as u8
-}
-
-fn counts(numbers: &[u64; 52]) -> Counts {
-    Counts {
-        names: numbers[3] as usize,
-        cues: numbers[4] as usize,
-        reports: numbers[5] as usize,
-        echoes: numbers[6] as usize,
-    }
 }
 
 fn name(numbers: &[u64; 52]) -> NameEntry {
@@ -211,7 +182,12 @@ pub fn message_of(numbers: &[u64; 52]) -> Message {
         kind: byte_of(numbers[0]),
         sender: Host(sender),
         stamp: numbers[2],
-        counts: counts(numbers),
+        counts: Counts {
+            names: numbers[3] as usize,
+            cues: numbers[4] as usize,
+            reports: numbers[5] as usize,
+            echoes: numbers[6] as usize,
+        },
         names: [entry; 1],
         cue: cue(numbers),
         reports: reports(numbers),

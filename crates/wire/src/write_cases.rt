@@ -7,12 +7,6 @@ use crate::values::message_of;
 use message::Message;
 use message::Written;
 
-// Where the walk of a line stands: in its label, or behind it with the numbers so far.
-struct Line {
-    in_label: bool,
-    values: Values,
-}
-
 // Writes into the first `room` bytes of an output, so that a change past them is seen too.
 fn write_into(m: Message, out: &mut [u8], room: usize) -> Written {
     if room < out.len() {
@@ -53,35 +47,23 @@ fn run(values: Values, room: usize) {
     show_output(&out, written.len);
 }
 
-fn start(in_label: bool) -> Line {
-    Line {
-        in_label,
-        values: Values::none(),
-    }
-}
-
-fn step(line: Line, character: u8, room: usize) -> Line {
-    let values = line.values;
-    if line.in_label {
-        show::character(character);
-        return start(character != b':');
-    }
-    if character == b'\n' {
-        run(values.ended(), room);
-        return start(true);
-    }
-    Line {
-        in_label: false,
-        values: values.character(character),
-    }
-}
-
-// The cases of a table, each with an output of `room` bytes, 200 at most.
+// The cases of a table, each with an output of `room` bytes, 200 at most. Its lines are passed through as the reader's are.
 pub fn write_cases(room: usize, table: &[u8]) {
-    let mut line = start(true);
+    let mut in_label = true;
+    let mut values = Values::none();
     let mut i: usize = 0;
     while i < table.len() {
-        line = step(line, table[i], room);
+        let character = table[i];
+        if in_label {
+            show::character(character);
+            in_label = character != b':';
+        } else if character == b'\n' {
+            run(values.ended(), room);
+            values = Values::none();
+            in_label = true;
+        } else {
+            values = values.character(character);
+        }
         i += 1;
     }
 }

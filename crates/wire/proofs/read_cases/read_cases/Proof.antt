@@ -6,22 +6,31 @@ use Rattle.wire.proofs.read_cases.read_cases.Statement.{statement}
 use Rattle.wire.proofs.read_cases.read_cases.Tie as tie
 
 abbrev Inv-loop : tie.InvT-loop
-Inv-loop table line₀ i₀ line i = Unit
+Inv-loop table in-label₀ draft₀ i₀ in-label draft i = Unit
 
 abbrev μ-loop : tie.MeasureT-loop
-μ-loop table line₀ i₀ line i = length table - i
+μ-loop table in-label₀ draft₀ i₀ in-label draft i = length table - i
 
-start-requires : tie.Need-start-requires Inv-loop μ-loop
-start-requires c κs = tt
+empty-requires : tie.Need-empty-requires Inv-loop μ-loop
+empty-requires c κs = tt
 
 loop-holds : tie.Need-loop-holds Inv-loop μ-loop
 loop-holds c = tt
 
-shared-slice-read-step : tie.Need-shared-slice-read-step Inv-loop μ-loop
-shared-slice-read-step c = omega arith
+shared-slice-read-character : tie.Need-shared-slice-read-character Inv-loop μ-loop
+shared-slice-read-character c = omega arith
 
-step-requires : tie.Need-step-requires Inv-loop μ-loop
-step-requires c κs = tt
+character-requires : tie.Need-character-requires Inv-loop μ-loop
+character-requires c κs = tt
+
+run-requires : tie.Need-run-requires Inv-loop μ-loop
+run-requires c κs = tt
+
+empty-requires-2 : tie.Need-empty-requires-2 Inv-loop μ-loop
+empty-requires-2 c κs = tt
+
+character-requires-2 : tie.Need-character-requires-2 Inv-loop μ-loop
+character-requires-2 c κs = tt
 
 add-i : tie.Need-add-i Inv-loop μ-loop
 add-i c = omega arith
@@ -41,10 +50,13 @@ read-cases-spec =
     (tie.spec
     Inv-loop
     μ-loop
-    start-requires
+    empty-requires
     loop-holds
-    shared-slice-read-step
-    step-requires
+    shared-slice-read-character
+    character-requires
+    run-requires
+    empty-requires-2
+    character-requires-2
     add-i
     loop-less
     loop-again

@@ -1,5 +1,6 @@
 pub mod SoundLaws
 pub mod Bounds
 pub mod NameLaws
+pub mod FireLaws
 pub mod Ready
 pub mod Service

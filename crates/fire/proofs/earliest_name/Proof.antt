@@ -1,0 +1,60 @@
+-- `fire::earliest_name` meets its contract: after n turns the earliest of the first n names is found.
+use mathlib.Core.Path.{_≡_, refl}
+use Prim.Native.Nat.{_-_, _≤_}
+use native.Mathlib.Omega.{arith}
+use Rattle.end.proofs.FireLaws.{fold-more}
+use Rattle.end.specs.Fire.{foldUp, earliestName}
+use Rattle.fire.proofs.earliest_name.Statement.{statement}
+use Rattle.fire.proofs.earliest_name.Tie as tie
+
+abbrev Inv-loop : tie.InvT-loop
+Inv-loop h clock names out₀ n₀ out n = (n ≤ 64) × (out ≡ earliestName h clock names out₀ n)
+
+abbrev μ-loop : tie.MeasureT-loop
+μ-loop h clock names out₀ n₀ out n = 64 - n
+
+loop-holds : tie.Need-loop-holds Inv-loop μ-loop
+unfolding foldUp
+loop-holds c = (omega arith, refl)
+
+cast-at : tie.Need-cast-at Inv-loop μ-loop
+cast-at c = omega arith
+
+mul-r : tie.Need-mul-r Inv-loop μ-loop
+mul-r c = omega arith
+
+array-copy-out-r : tie.Need-array-copy-out-r Inv-loop μ-loop
+array-copy-out-r c = omega arith
+
+offer-requires : tie.Need-offer-requires Inv-loop μ-loop
+offer-requires c κs = tt
+
+add-n : tie.Need-add-n Inv-loop μ-loop
+add-n c = omega arith
+
+loop-less : tie.Need-loop-less Inv-loop μ-loop
+loop-less c = omega arith
+
+loop-again : tie.Need-loop-again Inv-loop μ-loop
+loop-again c = (omega arith, rw (fold-more, ← (c .before .before .before .loop .inv .1)) (c .offer .ensures))
+
+returns : tie.Need-returns Inv-loop μ-loop
+returns c =
+    let e : c .before .loop .n ≡ 64 = omega arith in
+    rw e at (c .before .loop .inv .1)
+
+pub earliest-name-spec : {M : Type 1} → statement M
+earliest-name-spec =
+    tie.close
+    (tie.spec
+    Inv-loop
+    μ-loop
+    loop-holds
+    cast-at
+    mul-r
+    array-copy-out-r
+    offer-requires
+    add-n
+    loop-less
+    loop-again
+    returns)

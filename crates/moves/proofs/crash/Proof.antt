@@ -1,0 +1,27 @@
+-- `moves::crash` meets its contract: the status says which case of `moveOf` holds.
+use mathlib.Core.Path.{sym, _∙_}
+use Rattle.end.specs.Event.{Crash, movedEnd}
+use Rattle.moves.proofs.MoveLaws.{move-done, move-ignored}
+use borrow.Author.Needs.{needs}
+use Rattle.moves.proofs.crash.Statement.{statement}
+use Rattle.moves.proofs.crash.Tie as tie
+
+may-crash-requires : tie.Need-may-crash-requires
+may-crash-requires c κs = search needs
+
+cleared-to-requires : tie.Need-cleared-to-requires
+cleared-to-requires c κs = search needs
+
+ignored-requires : tie.Need-ignored-requires
+ignored-requires c κs = search needs
+
+returns : tie.Need-returns
+unfolding movedEnd
+returns c = c .cleared-to .ensures ∙ sym (move-done Crash (c .before .before .before .args .e) (sym (c .before .before .may-crash .ensures) ∙ c .before .if1 .taken))
+
+returns-2 : tie.Need-returns-2
+returns-2 c = c .ignored .ensures ∙ sym (move-ignored Crash (c .before .before .before .args .e) (sym (c .before .before .may-crash .ensures) ∙ c .before .if1 .left))
+
+pub crash-spec : {M : Type 1} → statement M
+crash-spec =
+    tie.close (tie.spec may-crash-requires cleared-to-requires ignored-requires returns returns-2)

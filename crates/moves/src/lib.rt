@@ -1,0 +1,318 @@
+// Opening an end, and the five moves of its membership: each function is one definition of the crate end, specs/Opening.antt and
+// specs/Event.antt. The moves are helpers of the crates above and no calls of the product: they come after the questions, and ask in
+// their `requires` for what soundness gives.
+use end::Answer;
+use end::End;
+use end::Heard;
+use end::Opened;
+use end::Params;
+use end::Record;
+use end::Reply;
+use end::Slot;
+use end::Source;
+use end::Span;
+use end::Status;
+use end::Stepped;
+use message::Host;
+use message::Verdict;
+ghost use mathlib.Core.Path.{_≡_};
+ghost use mathlib.Core.Bool.{_&&_, true};
+ghost use Prim.Native.Nat.{_<_};
+ghost use Rattle.end.specs.State.{unheard, unheardSources, freshEnd, withStatus};
+ghost use Rattle.end.specs.Sound.{allOf, paramsTests};
+ghost use Rattle.end.specs.Opening.{constrainedTests, houseParams, openingOf};
+ghost use Rattle.message.specs.Entry.{asHost};
+ghost use Rattle.message.specs.declared.Verdict.the-variants.{Refused};
+ghost use Rattle.end.specs.declared.Status.the-variants.{Crashed};
+ghost use Rattle.end.specs.declared.Answer.the-variants.{Done, Ignored};
+ghost use Rattle.end.specs.Event.{Join, Joined, Leave, Left, Crash, cleared, moves, moveOf};
+ghost use Rattle.end.specs.Answer.{steppedOf};
+
+// A source of which nothing is kept.
+fn unheard_source(distance: u64) -> Source
+    ensures { λ r. ⌜ r ≡ unheard distance ⌝ }
+{
+    let blank = Record {
+        slot: Slot::Empty,
+        cue: [0; 24],
+        reply: Reply::No,
+        quiet: 0,
+    };
+    Source {
+        span: Span::Closed,
+        distance,
+        heard: Heard::Never,
+        names: [blank; 64],
+    }
+}
+
+// The eight sources of which nothing is kept: 0 to oneself, 40 to the others.
+fn unheard_sources(me: Host) -> [Source; 8]
+    requires { ⌜ me .0 < 8 ⌝ }
+    ensures { λ r. ⌜ r ≡ unheardSources (me .0) ⌝ }
+{
+    let other = unheard_source(40);
+    let own = unheard_source(0);
+    let mut sources = [other; 8];
+    let at = me.0 as usize;
+    sources[at] = own;
+    sources
+}
+
+fn fresh_end(me: Host, params: Params, status: Status) -> End
+    requires { ⌜ me .0 < 8 ⌝ }
+    ensures { λ r. ⌜ r ≡ freshEnd me params status ⌝ }
+{
+    let sources = unheard_sources(me);
+    End {
+        host: me,
+        params,
+        clock: 0,
+        status,
+        next: 0,
+        sources,
+    }
+}
+
+// "Parameters are 0..32 quarters".
+fn params_small(p: Params) -> bool
+    ensures { λ r. ⌜ r ≡ allOf (paramsTests p) ⌝ }
+{
+    (p.c1 <= 32) & (p.c2 <= 32) & (p.c3 <= 32) & (p.d1 <= 32) & (p.d2 <= 32) & (p.d3 <= 32)
+}
+
+// "C3 < C1, D1+D2+8 < 2×C1, D1+D2+D3 < 2×C1".
+fn params_constrained(p: Params) -> bool
+    requires { ⌜ allOf (paramsTests p) ≡ true ⌝ }
+    ensures { λ r. ⌜ r ≡ allOf (constrainedTests p) ⌝ }
+{
+    let replies = p.d1 + p.d2;
+    let requests = 2 * p.c1;
+    (p.c3 < p.c1) & (replies + 8 < requests) & (replies + p.d3 < requests)
+}
+
+// Question 13.
+fn params_open(p: Params) -> bool
+    ensures { λ r. ⌜ r ≡ (allOf (paramsTests p) && allOf (constrainedTests p)) ⌝ }
+{
+    let small = params_small(p);
+    if small { params_constrained(p) } else { false }
+}
+
+// What a refused opening gives: host 0's crashed end, otherwise fresh.
+fn refused_opening(number: u8) -> Opened
+    ensures { λ r. ⌜ r ≡ record { verdict = Refused number; end = freshEnd (asHost 0) houseParams Crashed } ⌝ }
+{
+    let params = Params {
+        c1: 9,
+        c2: 8,
+        c3: 4,
+        d1: 4,
+        d2: 4,
+        d3: 8,
+    };
+    let end = fresh_end(Host(0), params, Status::Crashed);
+    Opened {
+        verdict: Verdict::Refused(number),
+        end,
+    }
+}
+
+// Questions 12 and 13, and the end that an opening gives.
+pub fn opening(me: Host, params: Params) -> Opened
+    ensures { λ r. ⌜ r ≡ openingOf me params ⌝ }
+{
+    let good = params_open(params);
+    if me.0 < 8 {
+        if good {
+            let end = fresh_end(me, params, Status::Idle);
+            Opened {
+                verdict: Verdict::Accepted,
+                end,
+            }
+        } else {
+            refused_opening(13)
+        }
+    } else {
+        refused_opening(12)
+    }
+}
+
+// An end that moves to a status and keeps the rest.
+fn moved(e: End, status: Status) -> Stepped
+    ensures { λ r. ⌜ r ≡ record { answer = Done; end = withStatus e status } ⌝ }
+{
+    let me = e.host;
+    let params = e.params;
+    let sources = e.sources;
+    let end = End {
+        host: me,
+        params,
+        clock: e.clock,
+        status,
+        next: e.next,
+        sources,
+    };
+    Stepped {
+        answer: Answer::Done,
+        end,
+    }
+}
+
+// An end that moves to a status and forgets what it heard; its next own number stays.
+fn cleared_to(e: End, status: Status) -> Stepped
+    requires { ⌜ e .host .0 < 8 ⌝ }
+    ensures { λ r. ⌜ r ≡ record { answer = Done; end = cleared e status } ⌝ }
+{
+    let me = e.host;
+    let params = e.params;
+    let sources = unheard_sources(me);
+    let end = End {
+        host: me,
+        params,
+        clock: e.clock,
+        status,
+        next: e.next,
+        sources,
+    };
+    Stepped {
+        answer: Answer::Done,
+        end,
+    }
+}
+
+fn ignored(end: End) -> Stepped
+    ensures { λ r. ⌜ r ≡ record { answer = Ignored; end = end } ⌝ }
+{
+    Stepped {
+        answer: Answer::Ignored,
+        end,
+    }
+}
+
+// Join: idle to joining.
+fn may_join(status: Status) -> bool
+    ensures { λ r. ⌜ r ≡ moves Join status ⌝ }
+{
+    match status {
+        Status::Idle => true,
+        Status::Joining => false,
+        Status::Member => false,
+        Status::Leaving => false,
+        Status::Crashed => false,
+    }
+}
+
+pub fn join(e: End) -> Stepped
+    ensures { λ r. ⌜ r ≡ steppedOf (moveOf Join e) ⌝ }
+{
+    let status = e.status;
+    let may = may_join(status);
+    if may {
+        moved(e, Status::Joining)
+    } else {
+        ignored(e)
+    }
+}
+
+// Joined: joining to member.
+fn may_joined(status: Status) -> bool
+    ensures { λ r. ⌜ r ≡ moves Joined status ⌝ }
+{
+    match status {
+        Status::Idle => false,
+        Status::Joining => true,
+        Status::Member => false,
+        Status::Leaving => false,
+        Status::Crashed => false,
+    }
+}
+
+pub fn joined(e: End) -> Stepped
+    ensures { λ r. ⌜ r ≡ steppedOf (moveOf Joined e) ⌝ }
+{
+    let status = e.status;
+    let may = may_joined(status);
+    if may {
+        moved(e, Status::Member)
+    } else {
+        ignored(e)
+    }
+}
+
+// Leave: joining or member to leaving.
+fn may_leave(status: Status) -> bool
+    ensures { λ r. ⌜ r ≡ moves Leave status ⌝ }
+{
+    match status {
+        Status::Idle => false,
+        Status::Joining => true,
+        Status::Member => true,
+        Status::Leaving => false,
+        Status::Crashed => false,
+    }
+}
+
+pub fn leave(e: End) -> Stepped
+    requires { ⌜ e .host .0 < 8 ⌝ }
+    ensures { λ r. ⌜ r ≡ steppedOf (moveOf Leave e) ⌝ }
+{
+    let status = e.status;
+    let may = may_leave(status);
+    if may {
+        cleared_to(e, Status::Leaving)
+    } else {
+        ignored(e)
+    }
+}
+
+// Left: leaving to idle.
+fn may_left(status: Status) -> bool
+    ensures { λ r. ⌜ r ≡ moves Left status ⌝ }
+{
+    match status {
+        Status::Idle => false,
+        Status::Joining => false,
+        Status::Member => false,
+        Status::Leaving => true,
+        Status::Crashed => false,
+    }
+}
+
+pub fn left(e: End) -> Stepped
+    ensures { λ r. ⌜ r ≡ steppedOf (moveOf Left e) ⌝ }
+{
+    let status = e.status;
+    let may = may_left(status);
+    if may {
+        moved(e, Status::Idle)
+    } else {
+        ignored(e)
+    }
+}
+
+// Crash: to crashed.
+fn may_crash(status: Status) -> bool
+    ensures { λ r. ⌜ r ≡ moves Crash status ⌝ }
+{
+    match status {
+        Status::Idle => true,
+        Status::Joining => true,
+        Status::Member => true,
+        Status::Leaving => true,
+        Status::Crashed => false,
+    }
+}
+
+pub fn crash(e: End) -> Stepped
+    requires { ⌜ e .host .0 < 8 ⌝ }
+    ensures { λ r. ⌜ r ≡ steppedOf (moveOf Crash e) ⌝ }
+{
+    let status = e.status;
+    let may = may_crash(status);
+    if may {
+        cleared_to(e, Status::Crashed)
+    } else {
+        ignored(e)
+    }
+}

@@ -1,0 +1,39 @@
+// The questions that every event asks before it moves an end: each function is one definition of the crate end, specs/Event.antt.
+use end::End;
+ghost use mathlib.Core.Path.{_≡_};
+ghost use Rattle.message.specs.Question.{ask, firstNo, ticksIn};
+ghost use Rattle.end.specs.Event.{anyQuestions};
+ghost use Rattle.end.specs.Sound.{soundOf};
+ghost use mathlib.Core.List.{[], _∷_};
+ghost use lib.Dec.{leb};
+
+// Questions 3, 4 and 5: the number of the first no, 0 where every answer is yes.
+fn state_refusal(e: End, clock: u64) -> u8
+    ensures { λ r. ⌜ r ≡ firstNo (ask (soundOf e) 3 ∷ ask (ticksIn clock) 4 ∷ ask (leb (e .clock) clock) 5 ∷ []) ⌝ }
+{
+    let good = sound::sound(e);
+    if good {
+        if clock < 281474976710656 {
+            if e.clock <= clock { 0 } else { 5 }
+        } else {
+            4
+        }
+    } else {
+        3
+    }
+}
+
+// Questions 1 to 5, in this order. The state is tested once, and only where the output and the draws are as they must be.
+pub fn any_refusal(e: End, clock: u64, room: usize, draws: usize) -> u8
+    ensures { λ r. ⌜ r ≡ firstNo (anyQuestions e clock room draws) ⌝ }
+{
+    if 128 <= room {
+        if draws == 64 {
+            state_refusal(e, clock)
+        } else {
+            2
+        }
+    } else {
+        1
+    }
+}

@@ -7,7 +7,7 @@ use Rattle.end.specs.declared.Answer.{Answer}
 use Rattle.end.specs.declared.Answer.the-variants as answer
 use Rattle.end.specs.declared.Stepped.{Stepped}
 use Rattle.end.specs.Arrival.{Out, Got, Done, Ignored, Nothing, Step}
-use Rattle.end.specs.Event.{Outcome, Refused, Did}
+use Rattle.end.specs.Event.{Outcome, Refused, Did, Result}
 
 -- the answer that a call returns
 unfoldable pub answerOf : Outcome → Answer
@@ -21,6 +21,10 @@ answerOf (Did Nothing) = answer.Nothing
 -- what an event that is not refused gives: its answer, and the end that it leaves
 abbrev pub steppedOf : Step → Stepped
 steppedOf step = record { answer = answerOf (Did (step .effect)); end = step .left }
+
+-- what a call gives, refused or not: its answer, and the end that it leaves
+abbrev pub calledOf : Result → Stepped
+calledOf r = record { answer = answerOf (r .outcome); end = r .left }
 
 -- the output that a call leaves
 unfoldable pub bufferOf : Outcome → List ℕ → List ℕ

@@ -2,7 +2,6 @@
 // helpers of the crates above and no calls of the product: each asks in its `requires` for what soundness and the questions give.
 use end::Answer;
 use end::End;
-use end::Reply;
 use end::Slot;
 use end::Source;
 use end::Span;
@@ -13,33 +12,14 @@ use message::Name;
 ghost use mathlib.Core.Path.{_≡_};
 ghost use Prim.Native.Nat.{_<_};
 ghost use lib.ListN.{length};
-ghost use Rattle.end.specs.State.{sourceAt, recordAt, distanceTo, withSource, isHeld, isNo};
+ghost use Rattle.end.specs.State.{sourceAt, distanceTo, withSource};
 ghost use Rattle.end.specs.Round.{nextRound};
 ghost use Rattle.end.specs.Names.{setRound, quietReply};
 ghost use Rattle.end.specs.declared.Span.the-variants.{Open};
 ghost use Rattle.end.specs.Arrival.{stepSource, opened, taken, dataOf, passedOver, heldRequest, backedOff, learned, requestOf, repairOf};
 ghost use Rattle.end.specs.Answer.{steppedOf};
 ghost use Rattle.end.proofs.Ready.{Ready};
-ghost use Rattle.arrival.specs.Timed.{timed, Names};
-
-fn is_held(slot: Slot) -> bool
-    ensures { λ r. ⌜ r ≡ isHeld slot ⌝ }
-{
-    match slot {
-        Slot::Empty => false,
-        Slot::Held => true,
-        Slot::Waiting(_) => false,
-    }
-}
-
-fn is_no(reply: Reply) -> bool
-    ensures { λ r. ⌜ r ≡ isNo reply ⌝ }
-{
-    match reply {
-        Reply::No => true,
-        Reply::Due(_, _) => false,
-    }
-}
+ghost use Rattle.parts.specs.Timed.{timed, Names};
 
 // The first cue of a source.
 fn open_source(s: Source, name: Name, cue: [u8; 24]) -> Source
@@ -58,51 +38,13 @@ fn open_source(s: Source, name: Name, cue: [u8; 24]) -> Source
     names::hold_cue(open, n, cue)
 }
 
-// The end with one source changed.
-fn with_source(e: End, h: Host, s: Source) -> End
-    requires { ⌜ h .0 < 8 ⌝ }
-    ensures { λ r. ⌜ r ≡ withSource e h s ⌝ }
-{
-    let at = h.0 as usize;
-    let mut out = e;
-    out.sources[at] = s;
-    out
-}
-
-fn source_of(e: End, h: Host) -> Source
-    requires { ⌜ h .0 < 8 ⌝ }
-    ensures { λ r. ⌜ r ≡ sourceAt e h ⌝ }
-{
-    let at = h.0 as usize;
-    e.sources[at]
-}
-
-fn span_of(e: End, h: Host) -> Span
-    requires { ⌜ h .0 < 8 ⌝ }
-    ensures { λ r. ⌜ r ≡ sourceAt e h .span ⌝ }
-{
-    let at = h.0 as usize;
-    let s = e.sources[at];
-    s.span
-}
-
-fn slot_of(e: End, name: Name) -> Slot
-    requires { ⌜ (name .source .0 < 8) × (name .number .0 < 64) ⌝ }
-    ensures { λ r. ⌜ r ≡ recordAt (sourceAt e (name .source)) (name .number) .slot ⌝ }
-{
-    let s = source_of(e, name.source);
-    let at = name.number.0 as usize;
-    let r = s.names[at];
-    r.slot
-}
-
 // A later cue of an open source: the numbers between are asked for, and it is held.
 fn take_cue(e: End, draws: &[u8], name: Name, cue: [u8; 24]) -> Source
     requires { ⌜ Ready e ⌝ }
     requires { ⌜ Names name (length (now draws)) ⌝ }
     ensures { λ r. ⌜ r ≡ taken (timed e (now (draws .entry))) name cue (sourceAt e (name .source)) ⌝ }
 {
-    let s = source_of(e, name.source);
+    let s = parts::source_of(e, name.source);
     let risen = names::rise_to(s, e.params, e.clock, draws, name.number);
     names::hold_cue(risen, name.number, cue)
 }
@@ -113,21 +55,21 @@ pub fn data(e: End, draws: &[u8], name: Name, cue: [u8; 24]) -> Stepped
     requires { ⌜ Names name (length (now draws)) ⌝ }
     ensures { λ r. ⌜ r ≡ steppedOf (dataOf (timed e (now (draws .entry))) name cue e (sourceAt e (name .source) .span)) ⌝ }
 {
-    let s = source_of(e, name.source);
+    let s = parts::source_of(e, name.source);
     let span = s.span;
     match span {
         Span::Closed => {
             let s1 = open_source(s, name, cue);
             Stepped {
                 answer: Answer::Got(name),
-                end: with_source(e, name.source, s1),
+                end: parts::with_source(e, name.source, s1),
             }
         }
         Span::Open(first, last) => {
             let at = name.number.0 as usize;
             let r = s.names[at];
             let slot = r.slot;
-            if (name.number.0 < first.0) | is_held(slot) {
+            if (name.number.0 < first.0) | parts::is_held(slot) {
                 return Stepped {
                     answer: Answer::Ignored,
                     end: e,
@@ -136,18 +78,10 @@ pub fn data(e: End, draws: &[u8], name: Name, cue: [u8; 24]) -> Stepped
             let s1 = take_cue(e, draws, name, cue);
             Stepped {
                 answer: Answer::Got(name),
-                end: with_source(e, name.source, s1),
+                end: parts::with_source(e, name.source, s1),
             }
         }
     }
-}
-
-fn distance_of(e: End, h: Host) -> u64
-    requires { ⌜ h .0 < 8 ⌝ }
-    ensures { λ r. ⌜ r ≡ distanceTo e h ⌝ }
-{
-    let at = h.0 as usize;
-    e.sources[at].distance
 }
 
 // RQST of a held cue.
@@ -157,16 +91,16 @@ fn held_request(e: End, draws: &[u8], requester: Host, name: Name) -> Stepped
     requires { ⌜ requester .0 < 8 ⌝ }
     ensures { λ r. ⌜ r ≡ steppedOf (heldRequest (timed e (now (draws .entry))) requester name e) ⌝ }
 {
-    let s = source_of(e, name.source);
+    let s = parts::source_of(e, name.source);
     let at = name.number.0 as usize;
     let r = s.names[at];
     let reply = r.reply;
-    if is_no(reply) & (r.quiet <= e.clock) {
-        let d = distance_of(e, requester);
+    if parts::is_no(reply) & (r.quiet <= e.clock) {
+        let d = parts::distance_of(e, requester);
         let s1 = names::set_reply(s, e.params, e.clock, draws, name.number, d, requester);
         Stepped {
             answer: Answer::Done,
-            end: with_source(e, name.source, s1),
+            end: parts::with_source(e, name.source, s1),
         }
     } else {
         Stepped {
@@ -177,15 +111,15 @@ fn held_request(e: End, draws: &[u8], requester: Host, name: Name) -> Stepped
 }
 
 // The next round of a name that waits, with the source's distance.
-fn back_off(e: End, draws: &[u8], name: Name, round: u8) -> End
+pub fn back_off(e: End, draws: &[u8], name: Name, round: u8) -> End
     requires { ⌜ Ready e ⌝ }
     requires { ⌜ Names name (length (now draws)) ⌝ }
     ensures { λ r. ⌜ r ≡ stepSource e name (setRound (timed e (now (draws .entry))) (name .number) (nextRound round)) ⌝ }
 {
-    let s = source_of(e, name.source);
+    let s = parts::source_of(e, name.source);
     let k = rounds::next_round(round);
     let s1 = names::set_round(s, e.params, e.clock, draws, name.number, k);
-    with_source(e, name.source, s1)
+    parts::with_source(e, name.source, s1)
 }
 
 // RQST of a cue not held, up to last.
@@ -225,7 +159,7 @@ fn learn(e: End, draws: &[u8], name: Name) -> Source
     requires { ⌜ Names name (length (now draws)) ⌝ }
     ensures { λ r. ⌜ r ≡ learned (timed e (now (draws .entry))) name (sourceAt e (name .source)) ⌝ }
 {
-    let s = source_of(e, name.source);
+    let s = parts::source_of(e, name.source);
     let risen = names::rise_to(s, e.params, e.clock, draws, name.number);
     names::set_round(risen, e.params, e.clock, draws, name.number, 2)
 }
@@ -257,15 +191,15 @@ fn open_request(
             end: e,
         };
     }
-    let slot = slot_of(e, name);
-    if is_held(slot) {
+    let slot = parts::slot_of(e, name);
+    if parts::is_held(slot) {
         return held_request(e, draws, requester, name);
     }
     if last.0 < name.number.0 {
         let s1 = learn(e, draws, name);
         return Stepped {
             answer: Answer::Done,
-            end: with_source(e, name.source, s1),
+            end: parts::with_source(e, name.source, s1),
         };
     }
     waiting_request(e, draws, name, slot)
@@ -278,7 +212,7 @@ pub fn request(e: End, draws: &[u8], requester: Host, name: Name) -> Stepped
     requires { ⌜ requester .0 < 8 ⌝ }
     ensures { λ r. ⌜ r ≡ steppedOf (requestOf (timed e (now (draws .entry))) requester name e (sourceAt e (name .source) .span)) ⌝ }
 {
-    let span = span_of(e, name.source);
+    let span = parts::span_of(e, name.source);
     match span {
         Span::Closed => Stepped {
             answer: Answer::Ignored,
@@ -289,15 +223,15 @@ pub fn request(e: End, draws: &[u8], requester: Host, name: Name) -> Stepped
 }
 
 // The source of a repair with its cue taken, if it was not held, and without a reply.
-fn repaired(e: End, draws: &[u8], requester: Host, name: Name, s: Source) -> End
+pub fn repaired(e: End, draws: &[u8], requester: Host, name: Name, s: Source) -> End
     requires { ⌜ Ready e ⌝ }
     requires { ⌜ Names name (length (now draws)) ⌝ }
     requires { ⌜ requester .0 < 8 ⌝ }
     ensures { λ r. ⌜ r ≡ withSource e (name .source) (quietReply (timed e (now (draws .entry))) (name .number) (distanceTo e requester) s) ⌝ }
 {
-    let d = distance_of(e, requester);
+    let d = parts::distance_of(e, requester);
     let s1 = names::quiet_reply(s, e.params, e.clock, draws, name.number, d);
-    with_source(e, name.source, s1)
+    parts::with_source(e, name.source, s1)
 }
 
 // REPL of an open source.
@@ -321,9 +255,9 @@ fn open_repair(
             end: e,
         };
     }
-    let slot = slot_of(e, name);
-    if is_held(slot) {
-        let s = source_of(e, name.source);
+    let slot = parts::slot_of(e, name);
+    if parts::is_held(slot) {
+        let s = parts::source_of(e, name.source);
         return Stepped {
             answer: Answer::Done,
             end: repaired(e, draws, requester, name, s),
@@ -343,7 +277,7 @@ pub fn repair(e: End, draws: &[u8], requester: Host, name: Name, cue: [u8; 24]) 
     requires { ⌜ requester .0 < 8 ⌝ }
     ensures { λ r. ⌜ r ≡ steppedOf (repairOf (timed e (now (draws .entry))) requester name cue e (sourceAt e (name .source) .span)) ⌝ }
 {
-    let span = span_of(e, name.source);
+    let span = parts::span_of(e, name.source);
     match span {
         Span::Closed => Stepped {
             answer: Answer::Ignored,

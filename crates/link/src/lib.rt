@@ -1,65 +1,22 @@
-// The calls of the product, begun: opening an end, and the five moves of its membership. No call asks anything of its caller: what is
+// The calls of the product: opening an end, and its nine events. No call asks anything of its caller: what is
 // bad is refused by its number, and a refusal changes no byte. Each contract gives the answer and the end by `calledOf` and the output
 // by `bufferOf` of what the rules give for the event: the crate end, specs/Event.antt and specs/Answer.antt.
-use end::Answer;
 use end::End;
 use end::Opened;
 use end::Params;
-use end::Status;
 use end::Stepped;
 use message::Host;
 ghost use mathlib.Core.Path.{_≡_};
 ghost use lib.ListN.{length};
-ghost use Rattle.end.specs.State.{isCrashed, withClock};
 ghost use Rattle.end.specs.Opening.{openingOf};
-ghost use Rattle.end.specs.Event.{Move, Join, Joined, Leave, Left, Crash, eventOf};
+ghost use Rattle.end.specs.Event.{Move, Join, Joined, Leave, Left, Crash, Send, Arrival, Else, Fire, Report, eventOf};
 ghost use Rattle.end.specs.Answer.{calledOf, bufferOf};
-ghost use Rattle.end.specs.declared.Answer.the-variants.{Refused, Ignored};
 
 // Opens an end: questions 12 and 13. Refused, it gives host 0's crashed end beside the number.
 pub fn open(me: Host, params: Params) -> Opened
     ensures { λ r. ⌜ r ≡ openingOf me params ⌝ }
 {
     moves::opening(me, params)
-}
-
-fn is_crashed(status: Status) -> bool
-    ensures { λ r. ⌜ r ≡ isCrashed status ⌝ }
-{
-    match status {
-        Status::Idle => false,
-        Status::Joining => false,
-        Status::Member => false,
-        Status::Leaving => false,
-        Status::Crashed => true,
-    }
-}
-
-// The end as an unrefused event finds it.
-fn at_clock(e: End, clock: u64) -> End
-    ensures { λ r. ⌜ r ≡ withClock e clock ⌝ }
-{
-    let mut end = e;
-    end.clock = clock;
-    end
-}
-
-fn refused(end: End, number: u8) -> Stepped
-    ensures { λ r. ⌜ r ≡ record { answer = Refused number; end = end } ⌝ }
-{
-    Stepped {
-        answer: Answer::Refused(number),
-        end,
-    }
-}
-
-fn ignored(end: End) -> Stepped
-    ensures { λ r. ⌜ r ≡ record { answer = Ignored; end = end } ⌝ }
-{
-    Stepped {
-        answer: Answer::Ignored,
-        end,
-    }
 }
 
 // Join: idle to joining.
@@ -69,14 +26,14 @@ pub fn join(e: End, clock: u64, draws: &[u8], out: &mut [u8]) -> Stepped
 {
     let q = questions::any_refusal(e, clock, out.len(), draws.len());
     if q != 0 {
-        refused(e, q)
+        parts::refused(e, q)
     } else {
         let status = e.status;
-        let over = is_crashed(status);
+        let over = parts::is_crashed(status);
         if over {
-            ignored(e)
+            parts::ignored(e)
         } else {
-            let end = at_clock(e, clock);
+            let end = parts::at_clock(e, clock);
             moves::join(end)
         }
     }
@@ -89,14 +46,14 @@ pub fn joined(e: End, clock: u64, draws: &[u8], out: &mut [u8]) -> Stepped
 {
     let q = questions::any_refusal(e, clock, out.len(), draws.len());
     if q != 0 {
-        refused(e, q)
+        parts::refused(e, q)
     } else {
         let status = e.status;
-        let over = is_crashed(status);
+        let over = parts::is_crashed(status);
         if over {
-            ignored(e)
+            parts::ignored(e)
         } else {
-            let end = at_clock(e, clock);
+            let end = parts::at_clock(e, clock);
             moves::joined(end)
         }
     }
@@ -109,14 +66,14 @@ pub fn leave(e: End, clock: u64, draws: &[u8], out: &mut [u8]) -> Stepped
 {
     let q = questions::any_refusal(e, clock, out.len(), draws.len());
     if q != 0 {
-        refused(e, q)
+        parts::refused(e, q)
     } else {
         let status = e.status;
-        let over = is_crashed(status);
+        let over = parts::is_crashed(status);
         if over {
-            ignored(e)
+            parts::ignored(e)
         } else {
-            let end = at_clock(e, clock);
+            let end = parts::at_clock(e, clock);
             moves::leave(end)
         }
     }
@@ -129,14 +86,14 @@ pub fn left(e: End, clock: u64, draws: &[u8], out: &mut [u8]) -> Stepped
 {
     let q = questions::any_refusal(e, clock, out.len(), draws.len());
     if q != 0 {
-        refused(e, q)
+        parts::refused(e, q)
     } else {
         let status = e.status;
-        let over = is_crashed(status);
+        let over = parts::is_crashed(status);
         if over {
-            ignored(e)
+            parts::ignored(e)
         } else {
-            let end = at_clock(e, clock);
+            let end = parts::at_clock(e, clock);
             moves::left(end)
         }
     }
@@ -149,15 +106,110 @@ pub fn crash(e: End, clock: u64, draws: &[u8], out: &mut [u8]) -> Stepped
 {
     let q = questions::any_refusal(e, clock, out.len(), draws.len());
     if q != 0 {
-        refused(e, q)
+        parts::refused(e, q)
     } else {
         let status = e.status;
-        let over = is_crashed(status);
+        let over = parts::is_crashed(status);
         if over {
-            ignored(e)
+            parts::ignored(e)
         } else {
-            let end = at_clock(e, clock);
+            let end = parts::at_clock(e, clock);
             moves::crash(end)
         }
+    }
+}
+
+// Send: a member's cue goes out under its next number.
+pub fn send(e: End, clock: u64, draws: &[u8], cue: [u8; 24], out: &mut [u8]) -> Stepped
+    ensures { λ r. ⌜ r ≡ calledOf (eventOf e (Send cue) clock (length (now (out .entry))) (now (draws .entry))) ⌝ }
+    ensures { λ _. ⌜ now (out .exit) ≡ bufferOf (eventOf e (Send cue) clock (length (now (out .entry))) (now (draws .entry)) .outcome) (now (out .entry)) ⌝ }
+{
+    let q = questions::any_refusal(e, clock, out.len(), draws.len());
+    if q != 0 {
+        return parts::refused(e, q);
+    }
+    let own = questions::send_refusal(e, cue);
+    if own != 0 {
+        return parts::refused(e, own);
+    }
+    let status = e.status;
+    if parts::is_crashed(status) {
+        return parts::ignored(e);
+    }
+    let end = parts::at_clock(e, clock);
+    if parts::is_member(status) {
+        steps::send(end, cue, out)
+    } else {
+        parts::ignored(end)
+    }
+}
+
+// Arrival: a member takes a message. Its questions are the reader's.
+pub fn arrival(e: End, clock: u64, draws: &[u8], bytes: &[u8], out: &mut [u8]) -> Stepped
+    ensures { λ r. ⌜ r ≡ calledOf (eventOf e (Arrival (now (bytes .entry))) clock (length (now (out .entry))) (now (draws .entry))) ⌝ }
+    ensures { λ _. ⌜ now (out .exit) ≡ bufferOf (eventOf e (Arrival (now (bytes .entry))) clock (length (now (out .entry))) (now (draws .entry)) .outcome) (now (out .entry)) ⌝ }
+{
+    let q = questions::any_refusal(e, clock, out.len(), draws.len());
+    if q != 0 {
+        return parts::refused(e, q);
+    }
+    let reading = reader::read(bytes);
+    let verdict = reading.verdict;
+    let own = questions::number_of(verdict);
+    if own != 0 {
+        return parts::refused(e, own);
+    }
+    let status = e.status;
+    if parts::is_crashed(status) {
+        return parts::ignored(e);
+    }
+    let end = parts::at_clock(e, clock);
+    if parts::is_member(status) {
+        let message = reading.message;
+        incoming::incoming(end, draws, message, out)
+    } else {
+        parts::ignored(end)
+    }
+}
+
+// Fire: the earliest wait that is due goes out.
+pub fn fire(e: End, clock: u64, draws: &[u8], out: &mut [u8]) -> Stepped
+    ensures { λ r. ⌜ r ≡ calledOf (eventOf e (Else Fire) clock (length (now (out .entry))) (now (draws .entry))) ⌝ }
+    ensures { λ _. ⌜ now (out .exit) ≡ bufferOf (eventOf e (Else Fire) clock (length (now (out .entry))) (now (draws .entry)) .outcome) (now (out .entry)) ⌝ }
+{
+    let q = questions::any_refusal(e, clock, out.len(), draws.len());
+    if q != 0 {
+        return parts::refused(e, q);
+    }
+    let status = e.status;
+    if parts::is_crashed(status) {
+        return parts::ignored(e);
+    }
+    let end = parts::at_clock(e, clock);
+    if parts::is_member(status) {
+        steps::fire(end, draws, out)
+    } else {
+        parts::ignored(end)
+    }
+}
+
+// Report: a session message goes out.
+pub fn report(e: End, clock: u64, draws: &[u8], out: &mut [u8]) -> Stepped
+    ensures { λ r. ⌜ r ≡ calledOf (eventOf e (Else Report) clock (length (now (out .entry))) (now (draws .entry))) ⌝ }
+    ensures { λ _. ⌜ now (out .exit) ≡ bufferOf (eventOf e (Else Report) clock (length (now (out .entry))) (now (draws .entry)) .outcome) (now (out .entry)) ⌝ }
+{
+    let q = questions::any_refusal(e, clock, out.len(), draws.len());
+    if q != 0 {
+        return parts::refused(e, q);
+    }
+    let status = e.status;
+    if parts::is_crashed(status) {
+        return parts::ignored(e);
+    }
+    let end = parts::at_clock(e, clock);
+    if parts::is_member(status) {
+        steps::report(end, out)
+    } else {
+        parts::ignored(end)
     }
 }

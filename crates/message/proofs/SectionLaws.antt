@@ -1,12 +1,12 @@
 -- The laws of a section, over the entry: f reads an entry, g writes it, w is its width, and P says that it fits its w bytes.
 use mathlib.Core.Path.{_≡_, refl, sym, ap, _∙_}
-use Prim.Native.Nat.{ℕ, zero, suc, _+_, _*_, _≤_}
+use Prim.Native.Nat.{ℕ, zero, suc, _+_, _*_, _-_, _≤_, _<_}
 use native.Mathlib.Nat.{zero-mul, suc-mul, add-comm}
 use native.Mathlib.Numerals.{one-add}
 use native.Mathlib.Omega.{arith}
 use mathlib.Core.List.{List, [], _∷_, _++_, append-assoc, append-nil}
-use lib.ListN.{length, take, drop, getD, length-append, length-drop, take-append-drop, drop-of-length-le}
-use lib.Seq.{drop-at, take-add, drop-drop}
+use lib.ListN.{length, take, drop, getD, set, replicate, length-append, length-drop, take-append-drop, drop-of-length-le}
+use lib.Seq.{drop-at, take-add, drop-drop, set-at, append-snoc}
 use Rattle.numbers.specs.Number.{Bytes}
 use Rattle.numbers.proofs.NumberLaws.{bytes-drop}
 use Rattle.message.specs.Section.{entries, flat, section, sectionFrom, after}
@@ -108,3 +108,10 @@ pub one-back : {A : Type 0} (l : List A) (d : A) → length l ≤ 1 → take (le
 one-back [] d h = refl
 one-back (a ∷ []) d h = refl
 one-back (a ∷ b ∷ l) d h = absurd (omega arith)
+
+-- a place in an array that is filled from the front
+pub fill-next : {A : Type 0} (l : List A) (k i : ℕ) (d x : A) → length l ≡ i → i < k
+    → set (l ++ replicate (k - i) d) i x ≡ (l ++ (x ∷ [])) ++ replicate (k - (i + 1)) d
+fill-next l k i d x e h =
+    let q : k - i ≡ suc (k - (i + 1)) = omega arith in
+    rw q (set-at l d (replicate (k - (i + 1)) d) x i e ∙ sym (append-snoc l x (replicate (k - (i + 1)) d)))

@@ -24,7 +24,7 @@ ghost use Rattle.end.specs.Opening.{constrainedTests, houseParams, openingOf};
 ghost use Rattle.message.specs.Entry.{asHost};
 ghost use Rattle.message.specs.declared.Verdict.the-variants.{Refused};
 ghost use Rattle.end.specs.declared.Status.the-variants.{Crashed};
-ghost use Rattle.end.specs.declared.Answer.the-variants.{Done, Ignored};
+ghost use Rattle.end.specs.declared.Answer.the-variants.{Done};
 ghost use Rattle.end.specs.Event.{Join, Joined, Leave, Left, Crash, cleared, moves, moveOf};
 ghost use Rattle.end.specs.Answer.{steppedOf};
 
@@ -74,13 +74,6 @@ fn fresh_end(me: Host, params: Params, status: Status) -> End
     }
 }
 
-// "Parameters are 0..32 quarters".
-fn params_small(p: Params) -> bool
-    ensures { λ r. ⌜ r ≡ allOf (paramsTests p) ⌝ }
-{
-    (p.c1 <= 32) & (p.c2 <= 32) & (p.c3 <= 32) & (p.d1 <= 32) & (p.d2 <= 32) & (p.d3 <= 32)
-}
-
 // "C3 < C1, D1+D2+8 < 2×C1, D1+D2+D3 < 2×C1".
 fn params_constrained(p: Params) -> bool
     requires { ⌜ allOf (paramsTests p) ≡ true ⌝ }
@@ -95,7 +88,7 @@ fn params_constrained(p: Params) -> bool
 fn params_open(p: Params) -> bool
     ensures { λ r. ⌜ r ≡ (allOf (paramsTests p) && allOf (constrainedTests p)) ⌝ }
 {
-    let small = params_small(p);
+    let small = parts::params_small(p);
     if small { params_constrained(p) } else { false }
 }
 
@@ -181,15 +174,6 @@ fn cleared_to(e: End, status: Status) -> Stepped
     }
 }
 
-fn ignored(end: End) -> Stepped
-    ensures { λ r. ⌜ r ≡ record { answer = Ignored; end = end } ⌝ }
-{
-    Stepped {
-        answer: Answer::Ignored,
-        end,
-    }
-}
-
 // Join: idle to joining.
 fn may_join(status: Status) -> bool
     ensures { λ r. ⌜ r ≡ moves Join status ⌝ }
@@ -211,7 +195,7 @@ pub fn join(e: End) -> Stepped
     if may {
         moved(e, Status::Joining)
     } else {
-        ignored(e)
+        parts::ignored(e)
     }
 }
 
@@ -236,7 +220,7 @@ pub fn joined(e: End) -> Stepped
     if may {
         moved(e, Status::Member)
     } else {
-        ignored(e)
+        parts::ignored(e)
     }
 }
 
@@ -262,7 +246,7 @@ pub fn leave(e: End) -> Stepped
     if may {
         cleared_to(e, Status::Leaving)
     } else {
-        ignored(e)
+        parts::ignored(e)
     }
 }
 
@@ -287,7 +271,7 @@ pub fn left(e: End) -> Stepped
     if may {
         moved(e, Status::Idle)
     } else {
-        ignored(e)
+        parts::ignored(e)
     }
 }
 
@@ -313,6 +297,6 @@ pub fn crash(e: End) -> Stepped
     if may {
         cleared_to(e, Status::Crashed)
     } else {
-        ignored(e)
+        parts::ignored(e)
     }
 }

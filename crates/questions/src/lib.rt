@@ -1,8 +1,9 @@
 // The questions that every event asks before it moves an end: each function is one definition of the crate end, specs/Event.antt.
 use end::End;
+use message::Verdict;
 ghost use mathlib.Core.Path.{_≡_};
-ghost use Rattle.message.specs.Question.{ask, firstNo, ticksIn};
-ghost use Rattle.end.specs.Event.{anyQuestions};
+ghost use Rattle.message.specs.Question.{ask, firstNo, ticksIn, refusalOf};
+ghost use Rattle.end.specs.Event.{Send, anyQuestions, ownQuestions};
 ghost use Rattle.end.specs.Sound.{soundOf};
 ghost use mathlib.Core.List.{[], _∷_};
 ghost use lib.Dec.{leb};
@@ -35,5 +36,28 @@ pub fn any_refusal(e: End, clock: u64, room: usize, draws: usize) -> u8
         }
     } else {
         1
+    }
+}
+
+// Questions 6 and 7: only a member's Send takes a number.
+pub fn send_refusal(e: End, cue: [u8; 24]) -> u8
+    ensures { λ r. ⌜ r ≡ firstNo (ownQuestions (Send cue) e) ⌝ }
+{
+    let status = e.status;
+    let numbered = !parts::is_member(status) | (e.next < 64);
+    if message::cue_in(&cue) {
+        if numbered { 0 } else { 7 }
+    } else {
+        6
+    }
+}
+
+// Document 01's number of a verdict, 0 where nothing was refused.
+pub fn number_of(verdict: Verdict) -> u8
+    ensures { λ r. ⌜ r ≡ refusalOf verdict ⌝ }
+{
+    match verdict {
+        Verdict::Accepted => 0,
+        Verdict::Refused(k) => k,
     }
 }

@@ -6,22 +6,15 @@ use native.Mathlib.Numerals.{add-one}
 use native.Mathlib.Omega.{arith}
 use mathlib.Core.List.{List, [], _∷_, _++_}
 use lib.ListN.{length, take, drop, getD, set, replicate}
-use lib.Seq.{set-at, append-snoc, drop-drop}
+use lib.Seq.{drop-drop}
 use Rattle.numbers.specs.Number.{value}
 use Rattle.message.specs.Section.{entries, sectionFrom}
 use Rattle.message.specs.Entry.{asHost, nameOf, cueOf, reportOf, echoOf, blankName, blankCue, blankReport, blankEcho}
 use Rattle.message.specs.Message.{meaningFrom, meaningWith, countsOf, heldAs, fromNames, fromCues, fromReports, fromEchoes}
 use Rattle.message.specs.declared.Counts.{Counts}
 use Rattle.message.specs.declared.Message.{Message}
-use Rattle.message.proofs.SectionLaws.{length-entries, entries-more}
+use Rattle.message.proofs.SectionLaws.{length-entries, entries-more, fill-next}
 use Rattle.message.proofs.LayoutLaws.{atCues, atReports, atEchoes, cues-at, reports-at, echoes-at, names-count, cues-count, reports-count, echoes-count}
-
--- a place in an array that is filled from the front
-fill-next : {A : Type 0} (l : List A) (k i : ℕ) (d x : A) → length l ≡ i → i < k
-    → set (l ++ replicate (k - i) d) i x ≡ (l ++ (x ∷ [])) ++ replicate (k - (i + 1)) d
-fill-next l k i d x e h =
-    let q : k - i ≡ suc (k - (i + 1)) = omega arith in
-    rw q (set-at l d (replicate (k - (i + 1)) d) x i e ∙ sym (append-snoc l x (replicate (k - (i + 1)) d)))
 
 -- a turn of a loop that reads entries of w bytes into an array of k places: one entry more
 pub read-turn : {A : Type 0} (f : List ℕ → A) (w k : ℕ) (d : A) (s : List ℕ) (at i : ℕ) (es : List A) (x : A) → i < k

@@ -2,20 +2,17 @@
 // specs/Sound.antt; each function here is one definition of that file. The state is gone through once.
 use end::End;
 use end::Heard;
-use end::Params;
 use end::Record;
 use end::Reply;
 use end::Request;
 use end::Slot;
 use end::Source;
 use end::Span;
-use end::Status;
 use message::Host;
 ghost use mathlib.Core.Path.{_≡_};
 ghost use Prim.Native.Nat.{_<_};
-ghost use lib.ListN.{length, getD};
-ghost use Rattle.end.specs.State.{isMember, isNo};
-ghost use Rattle.end.specs.Sound.{allOf, requestTests, replyTests, heldTests, waitingTests, insideSound, outsideSound, within, isClosed, isNever, recordSound, namesSound, spanTests, distanceSound, heardTests, nonMemberTests, sourceSound, paramsTests, sourcesSound, soundOf};
+ghost use lib.ListN.{length};
+ghost use Rattle.end.specs.Sound.{allOf, requestTests, replyTests, heldTests, waitingTests, insideSound, outsideSound, within, isClosed, isNever, recordSound, namesSound, spanTests, distanceSound, heardTests, nonMemberTests, sourceSound, sourcesSound, soundOf};
 
 // "due and quiet times are below 2^48+2^32"
 const TIME_LIMIT: u64 = 281479271677952;
@@ -40,15 +37,6 @@ fn reply_sound(me: Host, source: Host, reply: Reply) -> bool
     }
 }
 
-fn is_no(reply: Reply) -> bool
-    ensures { λ r. ⌜ r ≡ isNo reply ⌝ }
-{
-    match reply {
-        Reply::No => true,
-        Reply::Due(_, _) => false,
-    }
-}
-
 // An array of a value has its length: what the definition asks of its lists.
 fn sized_cue(cue: [u8; 24]) -> [u8; 24]
     ensures { λ r. ⌜ (r ≡ cue) × (length cue ≡ 24) ⌝ }
@@ -69,7 +57,7 @@ fn waiting_sound(r: Record, q: Request) -> bool
     ensures { λ b. ⌜ b ≡ allOf (waitingTests r q) ⌝ }
 {
     let reply = r.reply;
-    request_sound(q) & is_no(reply) & (r.quiet < TIME_LIMIT)
+    request_sound(q) & parts::is_no(reply) & (r.quiet < TIME_LIMIT)
 }
 
 fn inside_sound(me: Host, source: Host, r: Record, slot: Slot) -> bool
@@ -88,7 +76,7 @@ fn outside_sound(r: Record, slot: Slot) -> bool
     match slot {
         Slot::Empty => {
             let reply = r.reply;
-            is_no(reply) & (r.quiet == 0)
+            parts::is_no(reply) & (r.quiet == 0)
         }
         Slot::Held => false,
         Slot::Waiting(_) => false,
@@ -154,24 +142,6 @@ fn heard_sound(own: bool, clock: u64, heard: Heard) -> bool
     }
 }
 
-fn params_sound(p: Params) -> bool
-    ensures { λ r. ⌜ r ≡ allOf (paramsTests p) ⌝ }
-{
-    (p.c1 <= 32) & (p.c2 <= 32) & (p.c3 <= 32) & (p.d1 <= 32) & (p.d2 <= 32) & (p.d3 <= 32)
-}
-
-fn is_member(status: Status) -> bool
-    ensures { λ r. ⌜ r ≡ isMember status ⌝ }
-{
-    match status {
-        Status::Idle => false,
-        Status::Joining => false,
-        Status::Member => true,
-        Status::Leaving => false,
-        Status::Crashed => false,
-    }
-}
-
 fn is_closed(span: Span) -> bool
     ensures { λ r. ⌜ r ≡ isClosed span ⌝ }
 {
@@ -230,7 +200,7 @@ fn sources_sound(e: End) -> bool
     ensures { λ r. ⌜ r ≡ sourcesSound e 8 ⌝ }
 {
     let status = e.status;
-    let member = is_member(status);
+    let member = parts::is_member(status);
     let sources = e.sources;
     let mut ok = true;
     let mut h: u8 = 0;
@@ -250,7 +220,7 @@ pub fn sound(e: End) -> bool
     let sources = e.sources;
     let eight = sized_sources(sources);
     (e.host.0 < 8)
-        & params_sound(e.params)
+        & parts::params_small(e.params)
         & (e.clock < 281474976710656)
         & (e.next <= 64)
         & sources_sound(e)

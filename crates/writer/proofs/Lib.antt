@@ -1,1 +1,1 @@
-pub mod PutLaws
+pub mod WriteLaws

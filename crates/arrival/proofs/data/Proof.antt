@@ -7,7 +7,7 @@ use Rattle.end.specs.declared.Source.{Source}
 use Rattle.end.specs.declared.Span.the-variants.{Open}
 use Rattle.end.specs.State.{sourceAt, recordAt, withSource, isHeld}
 use Rattle.end.specs.Arrival.{opened}
-use Rattle.arrival.specs.Timed.{timed}
+use Rattle.parts.specs.Timed.{timed}
 use Rattle.arrival.proofs.ArrivalLaws.{gives, data-opens, data-passed, data-taken}
 use borrow.Author.Needs.{needs}
 use Rattle.arrival.proofs.data.Statement.{statement}

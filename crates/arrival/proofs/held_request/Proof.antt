@@ -8,7 +8,7 @@ use Rattle.end.specs.declared.Answer.the-variants as answer
 use Rattle.end.specs.declared.Source.{Source}
 use Rattle.end.specs.State.{recordAt, withSource, isNo}
 use Rattle.end.specs.Names.{setReply}
-use Rattle.arrival.specs.Timed.{timed}
+use Rattle.parts.specs.Timed.{timed}
 use Rattle.arrival.proofs.ArrivalLaws.{gives, MayReply, reply-set, reply-not}
 use borrow.Author.Needs.{needs}
 use Rattle.arrival.proofs.held_request.Statement.{statement}

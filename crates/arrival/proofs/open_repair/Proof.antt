@@ -3,7 +3,7 @@ use mathlib.Core.Path.{sym, ap, _∙_}
 use Rattle.end.specs.declared.Answer.the-variants as answer
 use Rattle.end.specs.declared.Source.{Source}
 use Rattle.end.specs.State.{isHeld}
-use Rattle.arrival.specs.Timed.{timed}
+use Rattle.parts.specs.Timed.{timed}
 use Rattle.arrival.proofs.ArrivalLaws.{gives, hushed, repair-passed, repair-held, repair-taken}
 use borrow.Author.Needs.{needs}
 use Rattle.arrival.proofs.open_repair.Statement.{statement}

@@ -6,7 +6,7 @@ use Rattle.end.specs.declared.Source.{Source}
 use Rattle.end.specs.State.{withSource, isHeld}
 use Rattle.end.specs.Arrival.{backedOff}
 use Rattle.end.specs.Answer.{steppedOf}
-use Rattle.arrival.specs.Timed.{timed}
+use Rattle.parts.specs.Timed.{timed}
 use Rattle.arrival.proofs.ArrivalLaws.{gives, request-passed, request-held, request-above, request-waits}
 use borrow.Author.Needs.{needs}
 use Rattle.arrival.proofs.open_request.Statement.{statement}

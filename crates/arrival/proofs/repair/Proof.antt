@@ -3,7 +3,7 @@ use mathlib.Core.Path.{sym, ap, _∙_}
 use Rattle.end.specs.declared.Span.{Span}
 use Rattle.end.specs.Answer.{steppedOf}
 use Rattle.end.specs.Arrival.{repairOf}
-use Rattle.arrival.specs.Timed.{timed}
+use Rattle.parts.specs.Timed.{timed}
 use Rattle.arrival.proofs.ArrivalLaws.{repair-closed}
 use borrow.Author.Needs.{needs}
 use Rattle.arrival.proofs.repair.Statement.{statement}

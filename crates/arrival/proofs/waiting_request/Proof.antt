@@ -1,7 +1,7 @@
 -- `arrival::waiting_request` meets its contract: the slot that was matched and the test say which case of `backedOff` holds.
 use mathlib.Core.Path.{sym, _∙_}
 use Rattle.end.specs.declared.Answer.the-variants as answer
-use Rattle.arrival.specs.Timed.{timed}
+use Rattle.parts.specs.Timed.{timed}
 use Rattle.arrival.proofs.ArrivalLaws.{back-empty, back-held, back-set, back-quiet}
 use borrow.Author.Needs.{needs}
 use Rattle.arrival.proofs.waiting_request.Statement.{statement}

@@ -1,13 +1,13 @@
 -- `link::crash` meets its contract: refused, on a crashed end, or moved.
-use mathlib.Core.Path.{sym, ap, transport, _∙_}
+use mathlib.Core.Path.{refl, sym, ap, transport, _∙_}
 use Prim.Native.Nat.{_<_}
 use lib.ListN.{length}
 use denote.Ref.{now}
 use borrow.Author.Tests.{ne-eqb}
 use Rattle.end.specs.declared.End.{End}
-use Rattle.end.specs.Event.{Crash, moveOf}
+use Rattle.end.specs.Event.{Move, Crash, moveOf}
 use Rattle.end.specs.Answer.{steppedOf}
-use Rattle.link.proofs.CallLaws.{asked-host, call-refused, call-ignored, call-moved}
+use Rattle.link.proofs.CallLaws.{asked-plain, passed, call-refused, call-ignored, call-moved}
 use borrow.Author.Needs.{needs}
 use Rattle.link.proofs.crash.Statement.{statement}
 use Rattle.link.proofs.crash.Tie as tie
@@ -30,28 +30,27 @@ at-clock-requires c κs = search needs
 crash-requires : tie.Need-crash-requires
 crash-requires c κs =
     let a = c .before .before .before .before .before .before .before .args in
-    let asked = sym (c .before .before .before .before .any-refusal .ensures) ∙ c .before .before .before .if1 .left in
-    transport (λ i. sym (c .at-clock .ensures) i .host .0 < 8) (asked-host Crash (a .e) (a .clock) (length (now (a .out))) (length (now (a .draws))) asked)
+    let asked = asked-plain (a .e) (Move Crash) (a .clock) (length (now (a .out))) (length (now (a .draws))) 0 refl (sym (c .before .before .before .before .any-refusal .ensures) ∙ c .before .before .before .if1 .left) in
+    transport (λ i. sym (c .at-clock .ensures) i .host .0 < 8) (passed (a .e) (Move Crash) (a .clock) (length (now (a .out))) (length (now (a .draws))) asked .host)
 
 returns : tie.Need-returns
 returns c =
     let a = c .before .before .before .before .before .args in
-    let law = call-refused Crash (a .e) (a .clock) (now (a .draws)) (now (a .out)) _ (sym (c .before .before .any-refusal .ensures)) (ne-eqb _ 0 (c .before .if1 .taken)) in
-    (c .refused .ensures ∙ sym (law .0), sym (law .1))
+    let asked = asked-plain (a .e) (Move Crash) (a .clock) (length (now (a .out))) (length (now (a .draws))) _ refl (sym (c .before .before .any-refusal .ensures)) in
+    call-refused (Move Crash) (a .e) (a .clock) (now (a .draws)) (now (a .out)) _ (c .refused .result) asked (ne-eqb _ 0 (c .before .if1 .taken)) (c .refused .ensures)
 
 returns-2 : tie.Need-returns-2
 returns-2 c =
     let a = c .before .before .before .before .before .before .before .args in
-    let asked = sym (c .before .before .before .before .any-refusal .ensures) ∙ c .before .before .before .if1 .left in
-    let law = call-ignored Crash (a .e) (a .clock) (now (a .draws)) (now (a .out)) asked (sym (c .before .before .is-crashed .ensures) ∙ c .before .if2 .taken) in
-    (c .ignored .ensures ∙ sym (law .0), sym (law .1))
+    let asked = asked-plain (a .e) (Move Crash) (a .clock) (length (now (a .out))) (length (now (a .draws))) 0 refl (sym (c .before .before .before .before .any-refusal .ensures) ∙ c .before .before .before .if1 .left) in
+    call-ignored (Move Crash) (a .e) (a .clock) (now (a .draws)) (now (a .out)) (c .ignored .result) asked (sym (c .before .before .is-crashed .ensures) ∙ c .before .if2 .taken) (c .ignored .ensures)
 
 returns-3 : tie.Need-returns-3
 returns-3 c =
     let a = c .before .before .before .before .before .before .before .before .args in
-    let asked = sym (c .before .before .before .before .before .any-refusal .ensures) ∙ c .before .before .before .before .if1 .left in
-    let law = call-moved Crash (a .e) (a .clock) (now (a .draws)) (now (a .out)) asked (sym (c .before .before .before .is-crashed .ensures) ∙ c .before .before .if2 .left) in
-    (c .crash .ensures ∙ ap (λ (x : End). steppedOf (moveOf Crash x)) (c .before .at-clock .ensures) ∙ sym (law .0), sym (law .1))
+    let asked = asked-plain (a .e) (Move Crash) (a .clock) (length (now (a .out))) (length (now (a .draws))) 0 refl (sym (c .before .before .before .before .before .any-refusal .ensures) ∙ c .before .before .before .before .if1 .left) in
+    call-moved Crash (a .e) (a .clock) (now (a .draws)) (now (a .out)) (c .crash .result) asked (sym (c .before .before .before .is-crashed .ensures) ∙ c .before .before .if2 .left)
+    (c .crash .ensures ∙ ap (λ (x : End). steppedOf (moveOf Crash x)) (c .before .at-clock .ensures))
 
 pub crash-spec : {M : Type 1} → statement M
 crash-spec =

@@ -10,8 +10,8 @@ use Rattle.sound.proofs.sound.Tie as tie
 sized-sources-requires : tie.Need-sized-sources-requires
 sized-sources-requires c κs = search needs
 
-params-sound-requires : tie.Need-params-sound-requires
-params-sound-requires c κs = search needs
+params-small-requires : tie.Need-params-small-requires
+params-small-requires c κs = search needs
 
 sources-sound-requires : tie.Need-sources-sound-requires
 sources-sound-requires c κs = search needs
@@ -21,7 +21,7 @@ unfolding soundOf
 returns c =
     let e = c .before .before .before .before .before .before .before .args .e in
     let eight : length (e .sources) ≡ 8 = c .before .before .before .before .before .sized-sources .ensures .1 in
-    rw (eq-eqb (length (e .sources)) 8 eight, c .before .before .before .params-sound .ensures, c .sources-sound .ensures)
+    rw (eq-eqb (length (e .sources)) 8 eight, c .before .before .before .params-small .ensures, c .sources-sound .ensures)
 
 pub sound-spec : {M : Type 1} → statement M
-sound-spec = tie.close (tie.spec sized-sources-requires params-sound-requires sources-sound-requires returns)
+sound-spec = tie.close (tie.spec sized-sources-requires params-small-requires sources-sound-requires returns)

@@ -5,7 +5,7 @@ use native.Mathlib.Omega.{arith}
 use borrow.Author.Tests.{not-true, not-false}
 use Rattle.message.specs.Question.{kindHasCounts, writeRefusal}
 use Rattle.message.proofs.QuestionLaws.{counts-small}
-use Rattle.writer.proofs.PutLaws.{refused-1, refused-9, refused-by, no, yes-written}
+use Rattle.writer.proofs.WriteLaws.{refused-1, refused-9, refused-by, no, yes-written}
 use borrow.Author.Needs.{needs}
 use Rattle.writer.proofs.write.Statement.{statement}
 use Rattle.writer.proofs.write.Tie as tie

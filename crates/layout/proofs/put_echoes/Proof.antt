@@ -1,0 +1,82 @@
+-- `layout::put_echoes` meets its contract: after i turns the first i entries are written.
+use borrow.Author.Needs.{needs}
+use mathlib.Core.Path.{_≡_, refl, sym, _∙_}
+use Prim.Native.Nat.{_-_, _≤_}
+use native.Mathlib.Omega.{arith}
+use lib.ListN.{length, take}
+use Rattle.numbers.specs.Splice.{splice}
+use Rattle.numbers.proofs.SpliceLaws.{splice-nil}
+use Rattle.message.specs.Section.{flat}
+use Rattle.message.specs.Entry.{echoBytes, blankEcho}
+use Rattle.message.proofs.EntryLaws.{length-echo}
+use Rattle.layout.proofs.PutLaws.{put-turn}
+use Rattle.layout.proofs.put_echoes.Statement.{statement}
+use Rattle.layout.proofs.put_echoes.Tie as tie
+
+abbrev Inv-loop : tie.InvT-loop
+Inv-loop out₀ at n echoes i₀ out i = (i ≤ n) × (length out ≡ length out₀) × (out ≡ splice at (flat echoBytes (take i echoes)) out₀)
+
+abbrev μ-loop : tie.MeasureT-loop
+μ-loop out₀ at n echoes i₀ out i = n - i
+
+loop-holds : tie.Need-loop-holds Inv-loop μ-loop
+unfolding flat
+loop-holds c = (omega arith, refl, sym (splice-nil _ _))
+
+mul-echo : tie.Need-mul-echo Inv-loop μ-loop
+mul-echo c = omega arith
+
+array-copy-out-echo : tie.Need-array-copy-out-echo Inv-loop μ-loop
+array-copy-out-echo c = omega arith
+
+mul-put-echo : tie.Need-mul-put-echo Inv-loop μ-loop
+mul-put-echo c = omega arith
+
+add-put-echo : tie.Need-add-put-echo Inv-loop μ-loop
+add-put-echo c = omega arith
+
+put-echo-requires : tie.Need-put-echo-requires Inv-loop μ-loop
+put-echo-requires c κs = omega arith
+
+add-i : tie.Need-add-i Inv-loop μ-loop
+add-i c = omega arith
+
+loop-less : tie.Need-loop-less Inv-loop μ-loop
+loop-less c = omega arith
+
+loop-again : tie.Need-loop-again Inv-loop μ-loop
+loop-again c =
+    let a = c .before .before .before .before .before .before .before .before .args in
+    let l = c .before .before .before .before .before .before .loop in
+    let p = c .before .before .put-echo in
+    let k : length (a .t4) ≡ 7 = search needs in (
+      omega arith,
+      p .kept .0 ∙ l .inv .1,
+      put-turn echoBytes 13 length-echo (a .t4) (l .i) (a .at) blankEcho (a .out .now) (l .out) (p .last .0) (omega arith) (omega arith) (l .inv .2) (p .ensures),
+    )
+
+same-length : tie.Need-same-length Inv-loop μ-loop
+same-length c = c .before .loop .inv .1
+
+returns : tie.Need-returns Inv-loop μ-loop
+returns c =
+    let e : c .before .loop .i ≡ c .before .before .before .args .n = omega arith in
+    rw (← e) (c .before .loop .inv .2)
+
+pub put-echoes-spec : {M : Type 1} → statement M
+put-echoes-spec =
+    tie.close
+    (tie.spec
+    Inv-loop
+    μ-loop
+    loop-holds
+    mul-echo
+    array-copy-out-echo
+    mul-put-echo
+    add-put-echo
+    put-echo-requires
+    add-i
+    loop-less
+    loop-again
+    same-length
+    returns)

@@ -25,18 +25,15 @@ pub fn join(e: End, clock: u64, draws: &[u8], out: &mut [u8]) -> Stepped
     ensures { λ _. ⌜ now (out .exit) ≡ bufferOf (eventOf e (Move Join) clock (length (now (out .entry))) (now (draws .entry)) .outcome) (now (out .entry)) ⌝ }
 {
     let q = questions::any_refusal(e, clock, out.len(), draws.len());
-    if q != 0 {
-        parts::refused(e, q)
-    } else {
-        let status = e.status;
-        let over = parts::is_crashed(status);
-        if over {
-            parts::ignored(e)
-        } else {
-            let end = parts::at_clock(e, clock);
-            moves::join(end)
-        }
+    if q != 0 { // Join is refused by questions 1 to 5
+        return parts::refused(e, q);
     }
+    let status = e.status;
+    if parts::is_crashed(status) {
+        return parts::ignored(e);
+    }
+    let end = parts::at_clock(e, clock);
+    moves::join(end)
 }
 
 // Joined: joining to member.
@@ -45,18 +42,15 @@ pub fn joined(e: End, clock: u64, draws: &[u8], out: &mut [u8]) -> Stepped
     ensures { λ _. ⌜ now (out .exit) ≡ bufferOf (eventOf e (Move Joined) clock (length (now (out .entry))) (now (draws .entry)) .outcome) (now (out .entry)) ⌝ }
 {
     let q = questions::any_refusal(e, clock, out.len(), draws.len());
-    if q != 0 {
-        parts::refused(e, q)
-    } else {
-        let status = e.status;
-        let over = parts::is_crashed(status);
-        if over {
-            parts::ignored(e)
-        } else {
-            let end = parts::at_clock(e, clock);
-            moves::joined(end)
-        }
+    if q != 0 { // Joined is refused by questions 1 to 5
+        return parts::refused(e, q);
     }
+    let status = e.status;
+    if parts::is_crashed(status) {
+        return parts::ignored(e);
+    }
+    let end = parts::at_clock(e, clock);
+    moves::joined(end)
 }
 
 // Leave: joining or member to leaving.
@@ -65,18 +59,15 @@ pub fn leave(e: End, clock: u64, draws: &[u8], out: &mut [u8]) -> Stepped
     ensures { λ _. ⌜ now (out .exit) ≡ bufferOf (eventOf e (Move Leave) clock (length (now (out .entry))) (now (draws .entry)) .outcome) (now (out .entry)) ⌝ }
 {
     let q = questions::any_refusal(e, clock, out.len(), draws.len());
-    if q != 0 {
-        parts::refused(e, q)
-    } else {
-        let status = e.status;
-        let over = parts::is_crashed(status);
-        if over {
-            parts::ignored(e)
-        } else {
-            let end = parts::at_clock(e, clock);
-            moves::leave(end)
-        }
+    if q != 0 { // Leave is refused by questions 1 to 5
+        return parts::refused(e, q);
     }
+    let status = e.status;
+    if parts::is_crashed(status) {
+        return parts::ignored(e);
+    }
+    let end = parts::at_clock(e, clock);
+    moves::leave(end)
 }
 
 // Left: leaving to idle.
@@ -85,18 +76,15 @@ pub fn left(e: End, clock: u64, draws: &[u8], out: &mut [u8]) -> Stepped
     ensures { λ _. ⌜ now (out .exit) ≡ bufferOf (eventOf e (Move Left) clock (length (now (out .entry))) (now (draws .entry)) .outcome) (now (out .entry)) ⌝ }
 {
     let q = questions::any_refusal(e, clock, out.len(), draws.len());
-    if q != 0 {
-        parts::refused(e, q)
-    } else {
-        let status = e.status;
-        let over = parts::is_crashed(status);
-        if over {
-            parts::ignored(e)
-        } else {
-            let end = parts::at_clock(e, clock);
-            moves::left(end)
-        }
+    if q != 0 { // Left is refused by questions 1 to 5
+        return parts::refused(e, q);
     }
+    let status = e.status;
+    if parts::is_crashed(status) {
+        return parts::ignored(e);
+    }
+    let end = parts::at_clock(e, clock);
+    moves::left(end)
 }
 
 // Crash: to crashed, for good.
@@ -105,18 +93,15 @@ pub fn crash(e: End, clock: u64, draws: &[u8], out: &mut [u8]) -> Stepped
     ensures { λ _. ⌜ now (out .exit) ≡ bufferOf (eventOf e (Move Crash) clock (length (now (out .entry))) (now (draws .entry)) .outcome) (now (out .entry)) ⌝ }
 {
     let q = questions::any_refusal(e, clock, out.len(), draws.len());
-    if q != 0 {
-        parts::refused(e, q)
-    } else {
-        let status = e.status;
-        let over = parts::is_crashed(status);
-        if over {
-            parts::ignored(e)
-        } else {
-            let end = parts::at_clock(e, clock);
-            moves::crash(end)
-        }
+    if q != 0 { // Crash is refused by questions 1 to 5
+        return parts::refused(e, q);
     }
+    let status = e.status;
+    if parts::is_crashed(status) {
+        return parts::ignored(e);
+    }
+    let end = parts::at_clock(e, clock);
+    moves::crash(end)
 }
 
 // Send: a member's cue goes out under its next number.
@@ -125,7 +110,7 @@ pub fn send(e: End, clock: u64, draws: &[u8], cue: [u8; 24], out: &mut [u8]) -> 
     ensures { λ _. ⌜ now (out .exit) ≡ bufferOf (eventOf e (Send cue) clock (length (now (out .entry))) (now (draws .entry)) .outcome) (now (out .entry)) ⌝ }
 {
     let q = questions::any_refusal(e, clock, out.len(), draws.len());
-    if q != 0 {
+    if q != 0 { // Send is refused by questions 1 to 5
         return parts::refused(e, q);
     }
     let own = questions::send_refusal(e, cue);
@@ -140,7 +125,7 @@ pub fn send(e: End, clock: u64, draws: &[u8], cue: [u8; 24], out: &mut [u8]) -> 
     if parts::is_member(status) {
         steps::send(end, cue, out)
     } else {
-        parts::ignored(end)
+        parts::ignored(end) // Send outside membership
     }
 }
 
@@ -150,7 +135,7 @@ pub fn arrival(e: End, clock: u64, draws: &[u8], bytes: &[u8], out: &mut [u8]) -
     ensures { λ _. ⌜ now (out .exit) ≡ bufferOf (eventOf e (Arrival (now (bytes .entry))) clock (length (now (out .entry))) (now (draws .entry)) .outcome) (now (out .entry)) ⌝ }
 {
     let q = questions::any_refusal(e, clock, out.len(), draws.len());
-    if q != 0 {
+    if q != 0 { // Arrival is refused by questions 1 to 5
         return parts::refused(e, q);
     }
     let reading = reader::read(bytes);
@@ -168,7 +153,7 @@ pub fn arrival(e: End, clock: u64, draws: &[u8], bytes: &[u8], out: &mut [u8]) -
         let message = reading.message;
         incoming::incoming(end, draws, message, out)
     } else {
-        parts::ignored(end)
+        parts::ignored(end) // Arrival outside membership
     }
 }
 
@@ -178,7 +163,7 @@ pub fn fire(e: End, clock: u64, draws: &[u8], out: &mut [u8]) -> Stepped
     ensures { λ _. ⌜ now (out .exit) ≡ bufferOf (eventOf e (Else Fire) clock (length (now (out .entry))) (now (draws .entry)) .outcome) (now (out .entry)) ⌝ }
 {
     let q = questions::any_refusal(e, clock, out.len(), draws.len());
-    if q != 0 {
+    if q != 0 { // Fire is refused by questions 1 to 5
         return parts::refused(e, q);
     }
     let status = e.status;
@@ -189,7 +174,7 @@ pub fn fire(e: End, clock: u64, draws: &[u8], out: &mut [u8]) -> Stepped
     if parts::is_member(status) {
         steps::fire(end, draws, out)
     } else {
-        parts::ignored(end)
+        parts::ignored(end) // Fire outside membership
     }
 }
 
@@ -199,7 +184,7 @@ pub fn report(e: End, clock: u64, draws: &[u8], out: &mut [u8]) -> Stepped
     ensures { λ _. ⌜ now (out .exit) ≡ bufferOf (eventOf e (Else Report) clock (length (now (out .entry))) (now (draws .entry)) .outcome) (now (out .entry)) ⌝ }
 {
     let q = questions::any_refusal(e, clock, out.len(), draws.len());
-    if q != 0 {
+    if q != 0 { // Report is refused by questions 1 to 5
         return parts::refused(e, q);
     }
     let status = e.status;
@@ -210,6 +195,6 @@ pub fn report(e: End, clock: u64, draws: &[u8], out: &mut [u8]) -> Stepped
     if parts::is_member(status) {
         steps::report(end, out)
     } else {
-        parts::ignored(end)
+        parts::ignored(end) // Report outside membership
     }
 }

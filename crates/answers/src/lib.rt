@@ -1,0 +1,140 @@
+// The line that is printed for a played line of a script, put into a buffer. The definition is specs/AnswerLine.antt.
+ghost use mathlib.Core.Path.{_≡_};
+ghost use mathlib.Core.List.{[], _∷_, _++_};
+ghost use Prim.Native.Nat.{_+_, _≤_};
+ghost use lib.ListN.{length};
+ghost use Rattle.decimal.specs.Decimal.{decimal as decimalOf, signedDecimal};
+ghost use Rattle.answers.specs.declared.Shown.the-variants.{Out, Got, Refused};
+ghost use Rattle.answers.specs.AnswerLine.{spaced as spacedOf, answerWords, answerLine, withLine, lineLength};
+ghost use Rattle.answers.specs.Put.{Put};
+
+// An answer as it is shown: a message number after out, the name and the focus after got, the question's number after refused.
+pub enum Shown {
+    Out(u64),
+    Got(u8, u8, i16),
+    Done,
+    Ignored,
+    Nothing,
+    Refused(u8),
+}
+
+// How many bytes a buffer has to have; the longest line has fifty.
+const ROOM: usize = 64;
+
+// Each function below writes a piece from `at` on and answers where it ends.
+
+fn text(out: &mut [u8], at: usize, b: &[u8]) -> usize
+    requires { ⌜ at + length (now b) ≤ length (now out) ⌝ }
+    ensures { λ r. ⌜ Put (length (now (b .entry))) at (now (b .entry)) (now (out .entry)) (now (out .exit)) r ⌝ }
+{
+    numbers::put_bytes(out, at, b);
+    at + b.len()
+}
+
+fn number(out: &mut [u8], at: usize, n: u64) -> usize
+    requires { ⌜ at + 20 ≤ length (now out) ⌝ }
+    ensures { λ r. ⌜ Put 20 at (decimalOf n) (now (out .entry)) (now (out .exit)) r ⌝ }
+{
+    decimal::put_u64(out, at, n)
+}
+
+fn small_number(out: &mut [u8], at: usize, n: u8) -> usize
+    requires { ⌜ at + 3 ≤ length (now out) ⌝ }
+    ensures { λ r. ⌜ Put 3 at (decimalOf n) (now (out .entry)) (now (out .exit)) r ⌝ }
+{
+    decimal::put_u64(out, at, n as u64)
+}
+
+fn integer(out: &mut [u8], at: usize, z: i16) -> usize
+    requires { ⌜ at + 6 ≤ length (now out) ⌝ }
+    ensures { λ r. ⌜ Put 6 at (signedDecimal z) (now (out .entry)) (now (out .exit)) r ⌝ }
+{
+    decimal::put_i16(out, at, z)
+}
+
+fn spaced(out: &mut [u8], at: usize, n: u8) -> usize
+    requires { ⌜ at + 4 ≤ length (now out) ⌝ }
+    ensures { λ r. ⌜ Put 4 at (spacedOf n) (now (out .entry)) (now (out .exit)) r ⌝ }
+{
+    let end = small_number(out, at, n);
+    text(out, end, b" ")
+}
+
+fn spaced_clock(out: &mut [u8], at: usize, n: u64) -> usize
+    requires { ⌜ at + 21 ≤ length (now out) ⌝ }
+    ensures { λ r. ⌜ Put 21 at (spacedOf n) (now (out .entry)) (now (out .exit)) r ⌝ }
+{
+    let end = number(out, at, n);
+    text(out, end, b" ")
+}
+
+fn put_out(out: &mut [u8], at: usize, message: u64) -> usize
+    requires { ⌜ at + 24 ≤ length (now out) ⌝ }
+    ensures { λ r. ⌜ Put 24 at (answerWords (Out message)) (now (out .entry)) (now (out .exit)) r ⌝ }
+{
+    let end = text(out, at, b"out ");
+    number(out, end, message)
+}
+
+fn put_refused(out: &mut [u8], at: usize, question: u8) -> usize
+    requires { ⌜ at + 24 ≤ length (now out) ⌝ }
+    ensures { λ r. ⌜ Put 24 at (answerWords (Refused question)) (now (out .entry)) (now (out .exit)) r ⌝ }
+{
+    let end = text(out, at, b"refused ");
+    small_number(out, end, question)
+}
+
+// The name and the focus after got.
+fn put_values(out: &mut [u8], at: usize, source: u8, number: u8, focus: i16) -> usize
+    requires { ⌜ at + 14 ≤ length (now out) ⌝ }
+    ensures { λ r. ⌜ Put 14 at (spacedOf source ++ (spacedOf number ++ signedDecimal focus)) (now (out .entry)) (now (out .exit)) r ⌝ }
+{
+    let first = spaced(out, at, source);
+    let second = spaced(out, first, number);
+    integer(out, second, focus)
+}
+
+fn put_got(out: &mut [u8], at: usize, source: u8, number: u8, focus: i16) -> usize
+    requires { ⌜ at + 24 ≤ length (now out) ⌝ }
+    ensures { λ r. ⌜ Put 24 at (answerWords (Got source number focus)) (now (out .entry)) (now (out .exit)) r ⌝ }
+{
+    let end = text(out, at, b"got ");
+    put_values(out, end, source, number, focus)
+}
+
+fn put_answer(out: &mut [u8], at: usize, a: Shown) -> usize
+    requires { ⌜ at + 24 ≤ length (now out) ⌝ }
+    ensures { λ r. ⌜ Put 24 at (answerWords a) (now (out .entry)) (now (out .exit)) r ⌝ }
+{
+    match a {
+        Shown::Out(message) => put_out(out, at, message),
+        Shown::Got(source, number, focus) => put_got(out, at, source, number, focus),
+        Shown::Done => text(out, at, b"done"),
+        Shown::Ignored => text(out, at, b"ignored"),
+        Shown::Nothing => text(out, at, b"nothing"),
+        Shown::Refused(question) => put_refused(out, at, question),
+    }
+}
+
+// The answer and the line feed.
+fn put_ending(out: &mut [u8], at: usize, a: Shown) -> usize
+    requires { ⌜ at + 25 ≤ length (now out) ⌝ }
+    ensures { λ r. ⌜ Put 25 at (answerWords a ++ (10 ∷ [])) (now (out .entry)) (now (out .exit)) r ⌝ }
+{
+    let end = put_answer(out, at, a);
+    text(out, end, b"\n")
+}
+
+// Writes the line of an answer at the start of a buffer of 64 bytes or more, which is always enough, and answers its length; in a
+// smaller buffer nothing is written, and the answer is 0.
+pub fn put_line(out: &mut [u8], end: u8, clock: u64, a: Shown) -> usize
+    ensures written { λ r. ⌜ (now (out .exit) ≡ withLine (answerLine end clock a) (now (out .entry))) × (r ≡ lineLength (answerLine end clock a) (now (out .entry))) ⌝ }
+    ensures within { λ r. ⌜ r ≤ length (now (out .entry)) ⌝ }
+{
+    if out.len() < ROOM {
+        return 0;
+    }
+    let first = spaced(out, 0, end);
+    let second = spaced_clock(out, first, clock);
+    put_ending(out, second, a)
+}

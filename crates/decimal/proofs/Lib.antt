@@ -1,0 +1,5 @@
+pub mod Cases
+pub mod DecimalLaws
+pub mod ReadBack
+pub mod RoomLaws
+pub mod WordLaws

@@ -1,0 +1,4 @@
+pub mod Cases
+pub mod LineLaws
+pub mod LongLines
+pub mod WordsLaws

@@ -2,9 +2,9 @@
 // by rising source and number, so that ties go to the lower source and the lower number.
 use end::Earliest;
 use end::End;
-use end::Record;
 use end::Reply;
 use end::Slot;
+use end::Source;
 use end::Wait;
 use message::CueNumber;
 use message::Host;
@@ -65,14 +65,14 @@ fn offer(name: Name, clock: u64, slot: Slot, reply: Reply, best: Earliest) -> Ea
 }
 
 // The earliest wait of one source.
-fn earliest_name(h: Host, clock: u64, names: [Record; 64], best: Earliest) -> Earliest
-    ensures { λ r. ⌜ r ≡ earliestName h clock names best 64 ⌝ }
+fn earliest_name(h: Host, clock: u64, s: Source, best: Earliest) -> Earliest
+    ensures { λ r. ⌜ r ≡ earliestName h clock (s .names) best 64 ⌝ }
 {
     let mut out = best;
     let mut n: u8 = 0;
     while n < 64 {
         let at = n as usize;
-        let r = names[at];
+        let r = s.names[at];
         let slot = r.slot;
         let reply = r.reply;
         let name = Name {
@@ -90,14 +90,12 @@ fn earliest_name(h: Host, clock: u64, names: [Record; 64], best: Earliest) -> Ea
 pub fn earliest_wait(e: End) -> Earliest
     ensures { λ r. ⌜ r ≡ earliest e 8 ⌝ }
 {
-    let sources = e.sources;
     let mut out = Earliest::NoWait;
     let mut h: u8 = 0;
     while h < 8 {
         let at = h as usize;
-        let s = sources[at];
-        let names = s.names;
-        let x = earliest_name(Host(h), e.clock, names, out);
+        let s = e.sources[at];
+        let x = earliest_name(Host(h), e.clock, s, out);
         out = x;
         h += 1;
     }

@@ -16,9 +16,9 @@ use Rattle.end.specs.declared.Stepped.{Stepped}
 use Rattle.end.specs.declared.End.{End}
 use Rattle.end.specs.State.{isMember, isCrashed, withClock}
 use Rattle.end.specs.Sound.{soundOf}
-use Rattle.end.specs.Arrival.{Step, Done, Ignored, give}
+use Rattle.end.specs.Arrival.{Effect, Out, Got, Done, Ignored, Nothing, Step, give}
 use Rattle.end.specs.Event.{Event, Moving, Move, Send, moves, movedEnd, moveOf, ifMember, actOf, stepOf, anyQuestions, ownQuestions, questionOf, Refused, Did, Result, done, timing, eventOf}
-use Rattle.end.specs.Answer.{answerOf, steppedOf, calledOf, bufferOf}
+use Rattle.end.specs.Answer.{answerOf, steppedOf, calledOf, bufferOf, answerNumber}
 use Rattle.end.proofs.SoundLaws.{sound-end}
 use Rattle.parts.proofs.Settled.{Settled, settled}
 
@@ -101,6 +101,16 @@ number-left cue e h m =
     ltb-true (e .next) 64 (sym (ap (λ (b : Bool). not b || ltb (e .next) 64) m) ∙ a7 .0)
 
 -- ---- the call
+
+-- a call that was not refused has number 0
+did-number : (x : Effect) → answerNumber (answerOf (Did x)) ≡ 0
+unfolding answerOf
+did-number (Out bytes) = refl
+did-number (Got name cue) = refl
+did-number Done = refl
+did-number Ignored = refl
+did-number Nothing = refl
+
 module _ (ev : Event) (e : End) (clock : ℕ) (draws out : List ℕ) where
   abbrev pub Called : Result
   Called = eventOf e ev clock (length out) draws
@@ -110,10 +120,10 @@ module _ (ev : Event) (e : End) (clock : ℕ) (draws out : List ℕ) where
 
   -- what the call promises of its result and of the output that it leaves
   abbrev pub Promise : Stepped → List ℕ → Type 0
-  Promise r last = (r ≡ calledOf Called) × (last ≡ bufferOf (Called .outcome) out)
+  Promise r last = (r ≡ calledOf Called) × ((last ≡ bufferOf (Called .outcome) out) × (answerNumber (r .answer) ≡ Asked))
 
-  promised : (x : Result) (r : Stepped) (last : List ℕ) → Called ≡ x → r ≡ calledOf x → last ≡ bufferOf (x .outcome) out → Promise r last
-  promised x r last p q l = (q ∙ sym (ap calledOf p), l ∙ sym (ap (λ (y : Result). bufferOf (y .outcome) out) p))
+  promised : (x : Result) (r : Stepped) (last : List ℕ) → Called ≡ x → r ≡ calledOf x → last ≡ bufferOf (x .outcome) out → answerNumber (answerOf (x .outcome)) ≡ Asked → Promise r last
+  promised x r last p q l n = (q ∙ sym (ap calledOf p), (l ∙ sym (ap (λ (y : Result). bufferOf (y .outcome) out) p), ap (λ (y : Stepped). answerNumber (y .answer)) q ∙ n))
 
   -- the call by its first no
   byNumber : ℕ → Result
@@ -126,7 +136,7 @@ module _ (ev : Event) (e : End) (clock : ℕ) (draws out : List ℕ) where
   -- refused: the state and the output stay
   pub call-refused : (q : ℕ) (r : Stepped) → Asked ≡ q → eqb q 0 ≡ false → r ≡ record { answer = answer.Refused q; end = e } → Promise r out
   unfolding byNumber answerOf bufferOf
-  call-refused q r h n p = promised (record { outcome = Refused q; left = e }) r out (called ∙ ap byNumber h ∙ rw n) p refl
+  call-refused q r h n p = promised (record { outcome = Refused q; left = e }) r out (called ∙ ap byNumber h ∙ rw n) p refl (sym h)
 
   -- an unrefused call by the end's status
   byStatus : Bool → Result
@@ -139,13 +149,13 @@ module _ (ev : Event) (e : End) (clock : ℕ) (draws out : List ℕ) where
   -- a crashed end: Ignored, and the clock stays
   pub call-ignored : (r : Stepped) → Asked ≡ 0 → isCrashed (e .status) ≡ true → r ≡ record { answer = answer.Ignored; end = e } → Promise r out
   unfolding answerOf bufferOf byStatus
-  call-ignored r h x p = promised (done (give Ignored e)) r out (unrefused h ∙ ap byStatus x) p refl
+  call-ignored r h x p = promised (done (give Ignored e)) r out (unrefused h ∙ ap byStatus x) p refl (sym h)
 
   -- another end: the event acts at the call's clock
   pub call-acts : (step : Step) (r : Stepped) (last : List ℕ) → Asked ≡ 0 → isCrashed (e .status) ≡ false → actOf (timing e clock draws) ev (withClock e clock) ≡ step
       → r ≡ steppedOf step → last ≡ bufferOf (Did (step .effect)) out → Promise r last
   unfolding byStatus
-  call-acts step r last h x a p l = promised (done step) r last (unrefused h ∙ ap byStatus x ∙ ap done a) p l
+  call-acts step r last h x a p l = promised (done step) r last (unrefused h ∙ ap byStatus x ∙ ap done a) p l (did-number (step .effect) ∙ sym h)
 
   -- outside membership: Ignored, and the clock is set
   pub call-aside : (step : Step) (r : Stepped) → Asked ≡ 0 → isCrashed (e .status) ≡ false → isMember (e .status) ≡ false

@@ -1,6 +1,7 @@
 // The calls of the product: opening an end, and its nine events. No call asks anything of its caller: what is
 // bad is refused by its number, and a refusal changes no byte. Each contract gives the answer and the end by `calledOf` and the output
-// by `bufferOf` of what the rules give for the event: the crate end, specs/Event.antt and specs/Answer.antt.
+// by `bufferOf` of what the rules give for the event: the crate end, specs/Event.antt and specs/Answer.antt. The last says document 01's
+// number of the answer, 0 where the call was not refused.
 use end::End;
 use end::Opened;
 use end::Params;
@@ -8,13 +9,15 @@ use end::Stepped;
 use message::Host;
 ghost use mathlib.Core.Path.{_≡_};
 ghost use lib.ListN.{length};
-ghost use Rattle.end.specs.Opening.{openingOf};
-ghost use Rattle.end.specs.Event.{Move, Join, Joined, Leave, Left, Crash, Send, Arrival, Else, Fire, Report, eventOf};
-ghost use Rattle.end.specs.Answer.{calledOf, bufferOf};
+ghost use Rattle.message.specs.Question.{refusalOf};
+ghost use Rattle.end.specs.Opening.{openRefusal, openingOf};
+ghost use Rattle.end.specs.Event.{Move, Join, Joined, Leave, Left, Crash, Send, Arrival, Else, Fire, Report, questionOf, eventOf};
+ghost use Rattle.end.specs.Answer.{calledOf, bufferOf, answerNumber};
 
 // Opens an end: questions 12 and 13. Refused, it gives host 0's crashed end beside the number.
 pub fn open(me: Host, params: Params) -> Opened
     ensures { λ r. ⌜ r ≡ openingOf me params ⌝ }
+    ensures { λ r. ⌜ refusalOf (r .verdict) ≡ openRefusal me params ⌝ }
 {
     moves::opening(me, params)
 }
@@ -23,6 +26,7 @@ pub fn open(me: Host, params: Params) -> Opened
 pub fn join(e: End, clock: u64, draws: &[u8], out: &mut [u8]) -> Stepped
     ensures { λ r. ⌜ r ≡ calledOf (eventOf e (Move Join) clock (length (now (out .entry))) (now (draws .entry))) ⌝ }
     ensures { λ _. ⌜ now (out .exit) ≡ bufferOf (eventOf e (Move Join) clock (length (now (out .entry))) (now (draws .entry)) .outcome) (now (out .entry)) ⌝ }
+    ensures { λ r. ⌜ answerNumber (r .answer) ≡ questionOf e (Move Join) clock (length (now (out .entry))) (length (now (draws .entry))) ⌝ }
 {
     let q = questions::any_refusal(e, clock, out.len(), draws.len());
     if q != 0 { // Join is refused by questions 1 to 5
@@ -40,6 +44,7 @@ pub fn join(e: End, clock: u64, draws: &[u8], out: &mut [u8]) -> Stepped
 pub fn joined(e: End, clock: u64, draws: &[u8], out: &mut [u8]) -> Stepped
     ensures { λ r. ⌜ r ≡ calledOf (eventOf e (Move Joined) clock (length (now (out .entry))) (now (draws .entry))) ⌝ }
     ensures { λ _. ⌜ now (out .exit) ≡ bufferOf (eventOf e (Move Joined) clock (length (now (out .entry))) (now (draws .entry)) .outcome) (now (out .entry)) ⌝ }
+    ensures { λ r. ⌜ answerNumber (r .answer) ≡ questionOf e (Move Joined) clock (length (now (out .entry))) (length (now (draws .entry))) ⌝ }
 {
     let q = questions::any_refusal(e, clock, out.len(), draws.len());
     if q != 0 { // Joined is refused by questions 1 to 5
@@ -57,6 +62,7 @@ pub fn joined(e: End, clock: u64, draws: &[u8], out: &mut [u8]) -> Stepped
 pub fn leave(e: End, clock: u64, draws: &[u8], out: &mut [u8]) -> Stepped
     ensures { λ r. ⌜ r ≡ calledOf (eventOf e (Move Leave) clock (length (now (out .entry))) (now (draws .entry))) ⌝ }
     ensures { λ _. ⌜ now (out .exit) ≡ bufferOf (eventOf e (Move Leave) clock (length (now (out .entry))) (now (draws .entry)) .outcome) (now (out .entry)) ⌝ }
+    ensures { λ r. ⌜ answerNumber (r .answer) ≡ questionOf e (Move Leave) clock (length (now (out .entry))) (length (now (draws .entry))) ⌝ }
 {
     let q = questions::any_refusal(e, clock, out.len(), draws.len());
     if q != 0 { // Leave is refused by questions 1 to 5
@@ -74,6 +80,7 @@ pub fn leave(e: End, clock: u64, draws: &[u8], out: &mut [u8]) -> Stepped
 pub fn left(e: End, clock: u64, draws: &[u8], out: &mut [u8]) -> Stepped
     ensures { λ r. ⌜ r ≡ calledOf (eventOf e (Move Left) clock (length (now (out .entry))) (now (draws .entry))) ⌝ }
     ensures { λ _. ⌜ now (out .exit) ≡ bufferOf (eventOf e (Move Left) clock (length (now (out .entry))) (now (draws .entry)) .outcome) (now (out .entry)) ⌝ }
+    ensures { λ r. ⌜ answerNumber (r .answer) ≡ questionOf e (Move Left) clock (length (now (out .entry))) (length (now (draws .entry))) ⌝ }
 {
     let q = questions::any_refusal(e, clock, out.len(), draws.len());
     if q != 0 { // Left is refused by questions 1 to 5
@@ -91,6 +98,7 @@ pub fn left(e: End, clock: u64, draws: &[u8], out: &mut [u8]) -> Stepped
 pub fn crash(e: End, clock: u64, draws: &[u8], out: &mut [u8]) -> Stepped
     ensures { λ r. ⌜ r ≡ calledOf (eventOf e (Move Crash) clock (length (now (out .entry))) (now (draws .entry))) ⌝ }
     ensures { λ _. ⌜ now (out .exit) ≡ bufferOf (eventOf e (Move Crash) clock (length (now (out .entry))) (now (draws .entry)) .outcome) (now (out .entry)) ⌝ }
+    ensures { λ r. ⌜ answerNumber (r .answer) ≡ questionOf e (Move Crash) clock (length (now (out .entry))) (length (now (draws .entry))) ⌝ }
 {
     let q = questions::any_refusal(e, clock, out.len(), draws.len());
     if q != 0 { // Crash is refused by questions 1 to 5
@@ -108,6 +116,7 @@ pub fn crash(e: End, clock: u64, draws: &[u8], out: &mut [u8]) -> Stepped
 pub fn send(e: End, clock: u64, draws: &[u8], cue: [u8; 24], out: &mut [u8]) -> Stepped
     ensures { λ r. ⌜ r ≡ calledOf (eventOf e (Send cue) clock (length (now (out .entry))) (now (draws .entry))) ⌝ }
     ensures { λ _. ⌜ now (out .exit) ≡ bufferOf (eventOf e (Send cue) clock (length (now (out .entry))) (now (draws .entry)) .outcome) (now (out .entry)) ⌝ }
+    ensures { λ r. ⌜ answerNumber (r .answer) ≡ questionOf e (Send cue) clock (length (now (out .entry))) (length (now (draws .entry))) ⌝ }
 {
     let q = questions::any_refusal(e, clock, out.len(), draws.len());
     if q != 0 { // Send is refused by questions 1 to 5
@@ -129,10 +138,11 @@ pub fn send(e: End, clock: u64, draws: &[u8], cue: [u8; 24], out: &mut [u8]) -> 
     }
 }
 
-// Arrival: a member takes a message. Its questions are the reader's.
+// Arrival: a member takes a message. After questions 1 to 5 it asks the reader's, 8 to 11.
 pub fn arrival(e: End, clock: u64, draws: &[u8], bytes: &[u8], out: &mut [u8]) -> Stepped
     ensures { λ r. ⌜ r ≡ calledOf (eventOf e (Arrival (now (bytes .entry))) clock (length (now (out .entry))) (now (draws .entry))) ⌝ }
     ensures { λ _. ⌜ now (out .exit) ≡ bufferOf (eventOf e (Arrival (now (bytes .entry))) clock (length (now (out .entry))) (now (draws .entry)) .outcome) (now (out .entry)) ⌝ }
+    ensures { λ r. ⌜ answerNumber (r .answer) ≡ questionOf e (Arrival (now (bytes .entry))) clock (length (now (out .entry))) (length (now (draws .entry))) ⌝ }
 {
     let q = questions::any_refusal(e, clock, out.len(), draws.len());
     if q != 0 { // Arrival is refused by questions 1 to 5
@@ -161,6 +171,7 @@ pub fn arrival(e: End, clock: u64, draws: &[u8], bytes: &[u8], out: &mut [u8]) -
 pub fn fire(e: End, clock: u64, draws: &[u8], out: &mut [u8]) -> Stepped
     ensures { λ r. ⌜ r ≡ calledOf (eventOf e (Else Fire) clock (length (now (out .entry))) (now (draws .entry))) ⌝ }
     ensures { λ _. ⌜ now (out .exit) ≡ bufferOf (eventOf e (Else Fire) clock (length (now (out .entry))) (now (draws .entry)) .outcome) (now (out .entry)) ⌝ }
+    ensures { λ r. ⌜ answerNumber (r .answer) ≡ questionOf e (Else Fire) clock (length (now (out .entry))) (length (now (draws .entry))) ⌝ }
 {
     let q = questions::any_refusal(e, clock, out.len(), draws.len());
     if q != 0 { // Fire is refused by questions 1 to 5
@@ -182,6 +193,7 @@ pub fn fire(e: End, clock: u64, draws: &[u8], out: &mut [u8]) -> Stepped
 pub fn report(e: End, clock: u64, draws: &[u8], out: &mut [u8]) -> Stepped
     ensures { λ r. ⌜ r ≡ calledOf (eventOf e (Else Report) clock (length (now (out .entry))) (now (draws .entry))) ⌝ }
     ensures { λ _. ⌜ now (out .exit) ≡ bufferOf (eventOf e (Else Report) clock (length (now (out .entry))) (now (draws .entry)) .outcome) (now (out .entry)) ⌝ }
+    ensures { λ r. ⌜ answerNumber (r .answer) ≡ questionOf e (Else Report) clock (length (now (out .entry))) (length (now (draws .entry))) ⌝ }
 {
     let q = questions::any_refusal(e, clock, out.len(), draws.len());
     if q != 0 { // Report is refused by questions 1 to 5

@@ -8,10 +8,10 @@ use Rattle.fire.proofs.earliest_name.Statement.{statement}
 use Rattle.fire.proofs.earliest_name.Tie as tie
 
 abbrev Inv-loop : tie.InvT-loop
-Inv-loop h clock names out₀ n₀ out n = (n ≤ 64) × (out ≡ earliestName h clock names out₀ n)
+Inv-loop h clock s out₀ n₀ out n = (n ≤ 64) × (out ≡ earliestName h clock (s .names) out₀ n)
 
 abbrev μ-loop : tie.MeasureT-loop
-μ-loop h clock names out₀ n₀ out n = 64 - n
+μ-loop h clock s out₀ n₀ out n = 64 - n
 
 loop-holds : tie.Need-loop-holds Inv-loop μ-loop
 unfolding foldUp
@@ -23,8 +23,8 @@ cast-at c = omega arith
 mul-r : tie.Need-mul-r Inv-loop μ-loop
 mul-r c = omega arith
 
-array-copy-out-r : tie.Need-array-copy-out-r Inv-loop μ-loop
-array-copy-out-r c = omega arith
+element-copy-out-r : tie.Need-element-copy-out-r Inv-loop μ-loop
+element-copy-out-r c = omega arith
 
 offer-requires : tie.Need-offer-requires Inv-loop μ-loop
 offer-requires c κs = tt
@@ -52,7 +52,7 @@ earliest-name-spec =
     loop-holds
     cast-at
     mul-r
-    array-copy-out-r
+    element-copy-out-r
     offer-requires
     add-n
     loop-less

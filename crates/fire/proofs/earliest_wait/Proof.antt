@@ -8,10 +8,10 @@ use Rattle.fire.proofs.earliest_wait.Statement.{statement}
 use Rattle.fire.proofs.earliest_wait.Tie as tie
 
 abbrev Inv-loop : tie.InvT-loop
-Inv-loop e sources out₀ h₀ out h = (h ≤ 8) × (out ≡ earliest e h)
+Inv-loop e out₀ h₀ out h = (h ≤ 8) × (out ≡ earliest e h)
 
 abbrev μ-loop : tie.MeasureT-loop
-μ-loop e sources out₀ h₀ out h = 8 - h
+μ-loop e out₀ h₀ out h = 8 - h
 
 loop-holds : tie.Need-loop-holds Inv-loop μ-loop
 unfolding foldUp earliest
@@ -23,8 +23,8 @@ cast-at c = omega arith
 mul-s : tie.Need-mul-s Inv-loop μ-loop
 mul-s c = omega arith
 
-array-copy-out-s : tie.Need-array-copy-out-s Inv-loop μ-loop
-array-copy-out-s c = omega arith
+element-copy-out-s : tie.Need-element-copy-out-s Inv-loop μ-loop
+element-copy-out-s c = omega arith
 
 earliest-name-requires : tie.Need-earliest-name-requires Inv-loop μ-loop
 earliest-name-requires c κs = tt
@@ -37,7 +37,7 @@ loop-less c = omega arith
 
 loop-again : tie.Need-loop-again Inv-loop μ-loop
 unfolding earliest
-loop-again c = (omega arith, rw (fold-more, ← (c .before .before .before .before .loop .inv .1)) (c .earliest-name .ensures))
+loop-again c = (omega arith, rw (fold-more, ← (c .before .before .before .loop .inv .1)) (c .earliest-name .ensures))
 
 returns : tie.Need-returns Inv-loop μ-loop
 returns c =
@@ -53,7 +53,7 @@ earliest-wait-spec =
     loop-holds
     cast-at
     mul-s
-    array-copy-out-s
+    element-copy-out-s
     earliest-name-requires
     add-h
     loop-less

@@ -1,0 +1,162 @@
+// Standard input as lines, and standard output through a buffer, for the programs that play scripts. No contract can say what is
+// read or written: what a line is, what it means and what is printed for it are proved in the crates lines, script and player.
+use libc::STDIN_FILENO;
+use libc::STDOUT_FILENO;
+use lines::Fed;
+use player::Printed;
+use script::Line;
+ghost use mathlib.Core.Path.{_≡_};
+ghost use Prim.Native.Nat.{_≤_};
+ghost use lib.ListN.{length};
+ghost use Rattle.player.specs.House.{isBad};
+ghost use Rattle.console.specs.Asked.{firstOf, askedOf};
+
+// What the input holds next: a line of so many bytes, which are in the line's buffer; a line that is longer than any that can be
+// played, or has no line feed; or its end.
+pub enum Next {
+    Line(usize),
+    Malformed,
+    End,
+}
+
+// What is to be done next.
+pub enum Ask {
+    Play(Line),
+    Stop,
+}
+
+// Where reading stands: the bytes at..have of the input's buffer are still to be taken.
+pub struct Place {
+    pub at: usize,
+    pub have: usize,
+}
+
+pub struct Found {
+    pub next: Next,
+    pub place: Place,
+}
+
+// How many bytes a printed line needs at most.
+const ROOM: usize = 64;
+
+fn reached(next: Next, at: usize, have: usize) -> Found {
+    Found {
+        next,
+        place: Place { at, have },
+    }
+}
+
+// The end of the input: a line without its line feed is malformed.
+fn at_end(len: usize) -> Next {
+    if len == 0 { Next::End } else { Next::Malformed }
+}
+
+// Reads on, and answers how many bytes came: 0 at the end of the input.
+fn refill(buffer: &mut [u8; 4096]) -> usize {
+    let got = libc::read(STDIN_FILENO, buffer);
+    io::count(got, buffer)
+}
+
+// The next line of the input. A proved loop has to end, and nothing says that the input does, so the turns are counted, from a
+// number that no run uses up.
+pub fn next_line(buffer: &mut [u8; 4096], from: Place, line: &mut [u8; 34]) -> Found {
+    let mut at = from.at;
+    let mut have = from.have;
+    let mut len: usize = 0;
+    let mut turns = u64::MAX;
+    while 0 < turns {
+        turns -= 1;
+        let cut = lines::take_line(buffer, at, have, line, len);
+        at = cut.at;
+        let fed = cut.fed;
+        match fed {
+            Fed::Whole(n) => {
+                return reached(Next::Line(n), at, have);
+            }
+            Fed::TooLong => {
+                return reached(Next::Malformed, at, have);
+            }
+            Fed::More(n) => {
+                len = n;
+                have = refill(buffer);
+                at = 0;
+                if have == 0 {
+                    return reached(at_end(len), at, have);
+                }
+            }
+        }
+    }
+    reached(Next::Malformed, at, have)
+}
+
+// What the first bytes of a line's buffer mean.
+fn meaning(line: &[u8], len: usize) -> Line
+    ensures { λ r. ⌜ r ≡ firstOf len (now (line .entry)) ⌝ }
+{
+    if len <= line.len() {
+        script::read_line(&line[..len])
+    } else {
+        Line::Malformed
+    }
+}
+
+// What is asked by what the input holds next.
+pub fn asked(next: Next, line: &[u8; 34]) -> Ask
+    ensures { λ r. ⌜ r ≡ askedOf next (now (line .entry)) ⌝ }
+{
+    match next {
+        Next::Line(len) => Ask::Play(meaning(line, len)),
+        Next::Malformed => Ask::Play(Line::Malformed),
+        Next::End => Ask::Stop,
+    }
+}
+
+// Writes the first bytes of the output's buffer.
+fn write(output: &[u8], used: usize) {
+    if used <= output.len() {
+        io::write_all(STDOUT_FILENO, &output[..used]);
+    }
+}
+
+// Where the next line goes in the output's buffer, which is written out first if there is no room.
+fn with_room(output: &[u8], used: usize) -> usize
+    ensures { λ r. ⌜ r ≤ length (now (output .entry)) ⌝ }
+{
+    if used <= output.len() {
+        if ROOM <= output.len() - used {
+            return used;
+        }
+    }
+    write(output, used);
+    0
+}
+
+fn put(output: &mut [u8], used: usize, end: u8, clock: u64, printed: Printed) -> usize
+    ensures { λ r. ⌜ r ≤ length (now (output .entry)) ⌝ }
+{
+    let at = with_room(output, used);
+    let n = player::put_printed(&mut output[at..], end, clock, printed);
+    at + n
+}
+
+// Prints what a line gives, and answers how much of the output's buffer is used then.
+pub fn print(output: &mut [u8; 4096], used: usize, end: u8, clock: u64, printed: Printed) -> usize
+    ensures { λ r. ⌜ r ≤ 4096 ⌝ }
+{
+    put(output, used, end, clock, printed)
+}
+
+// Writes out what is still in the output's buffer.
+pub fn flush(output: &[u8; 4096], used: usize) {
+    write(output, used)
+}
+
+// Whether the house stops.
+pub fn is_bad(printed: Printed) -> bool
+    ensures { λ r. ⌜ r ≡ isBad printed ⌝ }
+{
+    match printed {
+        Printed::Bad => true,
+        Printed::Shows(_) => false,
+    }
+}

@@ -1,0 +1,16 @@
+pub mod Calls
+pub mod Names
+pub mod Rises
+pub mod Heard
+pub mod Messages
+pub mod Session
+pub mod Arrivals
+pub mod Opened
+pub mod Choice
+pub mod Fires
+pub mod Sums
+pub mod Counts
+pub mod Slots
+pub mod BackOff
+pub mod Quiet
+pub mod Lists

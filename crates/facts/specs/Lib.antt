@@ -1,0 +1,6 @@
+pub mod Calls
+pub mod Waits
+pub mod Fires
+pub mod Records
+pub mod Arrivals
+pub mod BackOff

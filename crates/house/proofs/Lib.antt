@@ -1,0 +1,2 @@
+pub mod HouseLaws
+pub mod Listing

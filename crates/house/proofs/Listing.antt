@@ -1,0 +1,62 @@
+-- Document 01's listing, computed from the definition of the whole program: the bytes of this crate's stdin give those of its stdout.
+use mathlib.Core.Path.{_≡_, refl}
+use mathlib.Core.List.{List, [], _∷_}
+use Prim.Native.Nat.{ℕ}
+use Rattle.numbers.specs.Number.{valueAfter, digits}
+use Rattle.message.specs.Cue.{cueIn, cueWith}
+use Rattle.message.specs.Section.{entries, flat, section, sectionFrom, after, all, rises}
+use Rattle.message.specs.Message.{bytesWith, meaningWith}
+use Rattle.message.specs.Question.{inRange, hostsFit, readRefusal}
+use Rattle.end.specs.Sound.{allBelow, soundOf}
+use Rattle.end.specs.Round.{factor, share}
+use Rattle.end.specs.Names.{requested, rise}
+use Rattle.end.specs.Arrival.{dataOf, heldRequest, backedOff, requestOf, repairOf, messageStep}
+use Rattle.end.specs.Fire.{foldUp, earliest, fireAt, fired}
+use Rattle.end.specs.Event.{movedEnd, moveOf, arrivalOf, actOf, stepOf, questionOf, eventOf}
+use Rattle.end.specs.Opening.{openRefusal, openingOf}
+use Rattle.decimal.specs.Decimal.{figures, decimal, signedDecimal, allDigits, wellWritten, unsignedWord, signedWord, valueAfter as numberAfter}
+use Rattle.script.specs.Words.{onto, words, same}
+use Rattle.script.specs.Line.{plainVerb, verbWith, lineIn, lineOf}
+use Rattle.answers.specs.AnswerLine.{answerWords, answerLine}
+use Rattle.player.specs.Play.{turnOf, playedOf}
+use Rattle.player.specs.House.{printedLine, printsFrom, houseOf}
+
+-- the script, line by line
+abbrev pub script : List ℕ
+script =
+    48 ∷ 32 ∷ 106 ∷ 111 ∷ 105 ∷ 110 ∷ 32 ∷ 48 ∷ 10 ∷
+    48 ∷ 32 ∷ 106 ∷ 111 ∷ 105 ∷ 110 ∷ 101 ∷ 100 ∷ 32 ∷ 48 ∷ 10 ∷
+    49 ∷ 32 ∷ 106 ∷ 111 ∷ 105 ∷ 110 ∷ 32 ∷ 48 ∷ 10 ∷
+    49 ∷ 32 ∷ 106 ∷ 111 ∷ 105 ∷ 110 ∷ 101 ∷ 100 ∷ 32 ∷ 48 ∷ 10 ∷
+    48 ∷ 32 ∷ 115 ∷ 101 ∷ 110 ∷ 100 ∷ 32 ∷ 49 ∷ 48 ∷ 32 ∷ 45 ∷ 50 ∷ 10 ∷
+    49 ∷ 32 ∷ 104 ∷ 101 ∷ 97 ∷ 114 ∷ 32 ∷ 49 ∷ 50 ∷ 32 ∷ 48 ∷ 10 ∷
+    48 ∷ 32 ∷ 115 ∷ 101 ∷ 110 ∷ 100 ∷ 32 ∷ 50 ∷ 48 ∷ 32 ∷ 45 ∷ 50 ∷ 10 ∷
+    48 ∷ 32 ∷ 115 ∷ 101 ∷ 110 ∷ 100 ∷ 32 ∷ 51 ∷ 48 ∷ 32 ∷ 45 ∷ 50 ∷ 10 ∷
+    49 ∷ 32 ∷ 104 ∷ 101 ∷ 97 ∷ 114 ∷ 32 ∷ 51 ∷ 50 ∷ 32 ∷ 50 ∷ 10 ∷
+    49 ∷ 32 ∷ 102 ∷ 105 ∷ 114 ∷ 101 ∷ 32 ∷ 51 ∷ 57 ∷ 49 ∷ 10 ∷
+    49 ∷ 32 ∷ 102 ∷ 105 ∷ 114 ∷ 101 ∷ 32 ∷ 51 ∷ 57 ∷ 50 ∷ 10 ∷
+    48 ∷ 32 ∷ 104 ∷ 101 ∷ 97 ∷ 114 ∷ 32 ∷ 52 ∷ 48 ∷ 48 ∷ 32 ∷ 51 ∷ 10 ∷
+    48 ∷ 32 ∷ 102 ∷ 105 ∷ 114 ∷ 101 ∷ 32 ∷ 53 ∷ 54 ∷ 48 ∷ 10 ∷
+    49 ∷ 32 ∷ 104 ∷ 101 ∷ 97 ∷ 114 ∷ 32 ∷ 53 ∷ 55 ∷ 48 ∷ 32 ∷ 52 ∷ 10 ∷ []
+
+-- what is printed, line by line
+abbrev pub prints : List ℕ
+prints =
+    48 ∷ 32 ∷ 48 ∷ 32 ∷ 100 ∷ 111 ∷ 110 ∷ 101 ∷ 10 ∷
+    48 ∷ 32 ∷ 48 ∷ 32 ∷ 100 ∷ 111 ∷ 110 ∷ 101 ∷ 10 ∷
+    49 ∷ 32 ∷ 48 ∷ 32 ∷ 100 ∷ 111 ∷ 110 ∷ 101 ∷ 10 ∷
+    49 ∷ 32 ∷ 48 ∷ 32 ∷ 100 ∷ 111 ∷ 110 ∷ 101 ∷ 10 ∷
+    48 ∷ 32 ∷ 49 ∷ 48 ∷ 32 ∷ 111 ∷ 117 ∷ 116 ∷ 32 ∷ 48 ∷ 10 ∷
+    49 ∷ 32 ∷ 49 ∷ 50 ∷ 32 ∷ 103 ∷ 111 ∷ 116 ∷ 32 ∷ 48 ∷ 32 ∷ 48 ∷ 32 ∷ 45 ∷ 50 ∷ 10 ∷
+    48 ∷ 32 ∷ 50 ∷ 48 ∷ 32 ∷ 111 ∷ 117 ∷ 116 ∷ 32 ∷ 49 ∷ 10 ∷
+    48 ∷ 32 ∷ 51 ∷ 48 ∷ 32 ∷ 111 ∷ 117 ∷ 116 ∷ 32 ∷ 50 ∷ 10 ∷
+    49 ∷ 32 ∷ 51 ∷ 50 ∷ 32 ∷ 103 ∷ 111 ∷ 116 ∷ 32 ∷ 48 ∷ 32 ∷ 50 ∷ 32 ∷ 45 ∷ 50 ∷ 10 ∷
+    49 ∷ 32 ∷ 51 ∷ 57 ∷ 49 ∷ 32 ∷ 110 ∷ 111 ∷ 116 ∷ 104 ∷ 105 ∷ 110 ∷ 103 ∷ 10 ∷
+    49 ∷ 32 ∷ 51 ∷ 57 ∷ 50 ∷ 32 ∷ 111 ∷ 117 ∷ 116 ∷ 32 ∷ 51 ∷ 10 ∷
+    48 ∷ 32 ∷ 52 ∷ 48 ∷ 48 ∷ 32 ∷ 100 ∷ 111 ∷ 110 ∷ 101 ∷ 10 ∷
+    48 ∷ 32 ∷ 53 ∷ 54 ∷ 48 ∷ 32 ∷ 111 ∷ 117 ∷ 116 ∷ 32 ∷ 52 ∷ 10 ∷
+    49 ∷ 32 ∷ 53 ∷ 55 ∷ 48 ∷ 32 ∷ 103 ∷ 111 ∷ 116 ∷ 32 ∷ 48 ∷ 32 ∷ 49 ∷ 32 ∷ 45 ∷ 50 ∷ 10 ∷ []
+
+pub listing : houseOf script ≡ prints
+unfolding valueAfter digits cueIn cueWith entries flat section sectionFrom after all rises bytesWith meaningWith inRange hostsFit readRefusal allBelow soundOf factor share requested rise dataOf heldRequest backedOff requestOf repairOf messageStep foldUp earliest fireAt fired movedEnd moveOf arrivalOf actOf stepOf questionOf eventOf openRefusal openingOf figures decimal signedDecimal allDigits wellWritten unsignedWord signedWord numberAfter onto words same plainVerb verbWith lineIn lineOf answerWords answerLine turnOf playedOf printedLine printsFrom
+listing = refl

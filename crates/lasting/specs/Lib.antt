@@ -1,0 +1,4 @@
+pub mod Sound
+pub mod Lists
+pub mod Clocks
+pub mod Outputs

@@ -1,0 +1,71 @@
+// Cuts a script into lines as its bytes come. The definitions are in specs/Cut.antt.
+ghost use mathlib.Core.Path.{_≡_};
+ghost use lib.ListN.{take, drop};
+ghost use Rattle.lines.specs.Cut.{fedOf, lineWith, cutOf, lineCut};
+
+// What a byte makes of a line: it goes on, with so many bytes; it is whole, with so many bytes; or it is too long to be played.
+pub enum Fed {
+    More(usize),
+    Whole(usize),
+    TooLong,
+}
+
+// What became of a line, and where the bytes after it start.
+pub struct Cut {
+    pub fed: Fed,
+    pub at: usize,
+}
+
+// How many bytes the longest line has that can be played, without its line feed.
+const LONGEST: usize = 34;
+
+// One byte after the `len` bytes of a line.
+fn feed(line: &mut [u8; 34], len: usize, b: u8) -> Fed
+    ensures { λ r. ⌜ r ≡ fedOf len b ⌝ }
+    ensures { λ _. ⌜ now (line .exit) ≡ lineWith len b (now (line .entry)) ⌝ }
+{
+    if b == b'\n' {
+        return Fed::Whole(len);
+    }
+    if len < LONGEST {
+        line[len] = b;
+        Fed::More(len + 1)
+    } else {
+        Fed::TooLong
+    }
+}
+
+// Takes the bytes from..until of a buffer into a line of `len` bytes, up to the line's end. Without a line feed they are all
+// taken, and the line goes on with the next bytes.
+pub fn take_line(buffer: &[u8], from: usize, until: usize, line: &mut [u8; 34], len: usize) -> Cut
+    ensures { λ r. ⌜ r ≡ cutOf (drop from (take until (now (buffer .entry)))) from len ⌝ }
+    ensures { λ _. ⌜ now (line .exit) ≡ lineCut (drop from (take until (now (buffer .entry)))) len (now (line .entry)) ⌝ }
+{
+    let mut at = from;
+    let mut n = len;
+    while (at < until) & (at < buffer.len()) {
+        let b = buffer[at];
+        at += 1;
+        match feed(line, n, b) {
+            Fed::More(m) => {
+                n = m;
+            }
+            Fed::Whole(m) => {
+                return Cut {
+                    fed: Fed::Whole(m),
+                    at,
+                };
+            }
+            Fed::TooLong => {
+                return Cut {
+                    fed: Fed::TooLong,
+                    at,
+                };
+            }
+        }
+    }
+    Cut {
+        fed: Fed::More(n),
+        at,
+    }
+}

@@ -1,0 +1,54 @@
+-- `pace::refusals` ends, and never wraps: the turns are counted.
+use Prim.Native.Nat.{_-_, _≤_}
+use native.Mathlib.Omega.{arith}
+use Rattle.pace.proofs.refusals.Statement.{statement}
+use Rattle.pace.proofs.refusals.Tie as tie
+
+abbrev Inv-loop : tie.InvT-loop
+Inv-loop n draws e₀ i₀ e i = i ≤ n
+
+abbrev μ-loop : tie.MeasureT-loop
+μ-loop n draws e₀ i₀ e i = n - i
+
+member-requires : tie.Need-member-requires Inv-loop μ-loop
+member-requires c κs = tt
+
+loop-holds : tie.Need-loop-holds Inv-loop μ-loop
+loop-holds c = omega arith
+
+slice-aggregate-fire : tie.Need-slice-aggregate-fire Inv-loop μ-loop
+slice-aggregate-fire c = omega arith
+
+slice-aggregate-fire-2 : tie.Need-slice-aggregate-fire-2 Inv-loop μ-loop
+slice-aggregate-fire-2 c = omega arith
+
+fire-requires : tie.Need-fire-requires Inv-loop μ-loop
+fire-requires c κs = tt
+
+add-i : tie.Need-add-i Inv-loop μ-loop
+add-i c = omega arith
+
+loop-less : tie.Need-loop-less Inv-loop μ-loop
+loop-less c = omega arith
+
+loop-again : tie.Need-loop-again Inv-loop μ-loop
+loop-again c = omega arith
+
+returns : tie.Need-returns Inv-loop μ-loop
+returns c = tt
+
+pub refusals-spec : {M : Type 1} → statement M
+refusals-spec =
+    tie.close
+    (tie.spec
+    Inv-loop
+    μ-loop
+    member-requires
+    loop-holds
+    slice-aggregate-fire
+    slice-aggregate-fire-2
+    fire-requires
+    add-i
+    loop-less
+    loop-again
+    returns)

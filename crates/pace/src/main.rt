@@ -1,0 +1,196 @@
+// The benchmark's half in Rattle: one kind of event, many times over the public calls. The first argument is the kind's letter, the
+// second how often, in the form of a digit d for 10^d times. The twin's half, twin/src/bin/pace.rs, makes the same calls; bench/run
+// times both. Outputs are cleared before each call. The last clock is printed, so that no call can be left out.
+use end::End;
+use end::Params;
+use message::Host;
+
+fn opened(host: u8) -> End {
+    let params = Params {
+        c1: 9,
+        c2: 8,
+        c3: 4,
+        d1: 4,
+        d2: 4,
+        d3: 8,
+    };
+    let o = link::open(Host(host), params);
+    o.end
+}
+
+fn member(host: u8) -> End {
+    let e = opened(host);
+    let draws: [u8; 64] = [0; 64];
+    let mut out: [u8; 128] = [0; 128];
+    let s = link::join(e, 0, &draws, &mut out);
+    let e1 = s.end;
+    let s1 = link::joined(e1, 0, &draws, &mut out);
+    s1.end
+}
+
+fn cycle(e: End, clock: u64) -> End {
+    let draws: [u8; 64] = [0; 64];
+    let mut out: [u8; 128] = [0; 128];
+    let s = link::join(e, clock, &draws, &mut out);
+    let e1 = s.end;
+    let s1 = link::joined(e1, clock, &draws, &mut out);
+    let e2 = s1.end;
+    let s2 = link::leave(e2, clock, &draws, &mut out);
+    let e3 = s2.end;
+    let s3 = link::left(e3, clock, &draws, &mut out);
+    s3.end
+}
+
+// m: join, joined, leave and left, in turn.
+fn moves(n: u64) -> u64 {
+    let mut e = opened(0);
+    let mut i: u64 = 0;
+    while i < n {
+        e = cycle(e, i);
+        i += 1;
+    }
+    e.clock
+}
+
+fn sent(e: End, clock: u64) -> End {
+    let draws: [u8; 64] = [0; 64];
+    let cue: [u8; 24] = [0; 24];
+    let mut out: [u8; 128] = [0; 128];
+    let s = link::send(e, clock, &draws, cue, &mut out);
+    s.end
+}
+
+// s: a member sends its 64 cues; then another does.
+fn sends(n: u64) -> u64 {
+    let mut e = member(0);
+    let mut i: u64 = 0;
+    while i < n {
+        if i % 64 == 0 {
+            e = member(0);
+        }
+        e = sent(e, i);
+        i += 1;
+    }
+    e.clock
+}
+
+fn heard(e: End, clock: u64, bytes: &[u8]) -> End {
+    let draws: [u8; 64] = [0; 64];
+    let mut out: [u8; 128] = [0; 128];
+    let s = link::arrival(e, clock, &draws, bytes, &mut out);
+    s.end
+}
+
+// The message with host 0's cue of this number, all zeros, sent at clock 0.
+fn original(number: u8) -> [u8; 39] {
+    let mut bytes: [u8; 39] = [0; 39];
+    bytes[0] = 1;
+    bytes[8] = 1;
+    bytes[10] = number;
+    bytes[12] = 1;
+    bytes
+}
+
+// g: a member gets 64 cues in their order; then another does.
+fn gets(n: u64) -> u64 {
+    let mut e = member(1);
+    let mut i: u64 = 0;
+    while i < n {
+        if i % 64 == 0 {
+            e = member(1);
+        }
+        let bytes = original((i % 64) as u8);
+        e = heard(e, i, &bytes);
+        i += 1;
+    }
+    e.clock
+}
+
+// h: a member hears host 0's session message, which reports nothing.
+fn hears(n: u64) -> u64 {
+    let mut bytes: [u8; 12] = [0; 12];
+    bytes[0] = 4;
+    let mut e = member(1);
+    let mut i: u64 = 0;
+    while i < n {
+        e = heard(e, i, &bytes);
+        i += 1;
+    }
+    e.clock
+}
+
+// f: Fire with nothing due.
+fn fires(n: u64) -> u64 {
+    let draws: [u8; 64] = [0; 64];
+    let mut e = member(0);
+    let mut i: u64 = 0;
+    while i < n {
+        let mut out: [u8; 128] = [0; 128];
+        let s = link::fire(e, i, &draws, &mut out);
+        e = s.end;
+        i += 1;
+    }
+    e.clock
+}
+
+// r: Report.
+fn reports(n: u64) -> u64 {
+    let draws: [u8; 64] = [0; 64];
+    let mut e = member(0);
+    let mut i: u64 = 0;
+    while i < n {
+        let mut out: [u8; 128] = [0; 128];
+        let s = link::report(e, i, &draws, &mut out);
+        e = s.end;
+        i += 1;
+    }
+    e.clock
+}
+
+// x: refused as 2, before the state is looked at.
+fn refusals(n: u64) -> u64 {
+    let draws: [u8; 63] = [0; 63];
+    let mut e = member(0);
+    let mut i: u64 = 0;
+    while i < n {
+        let mut out: [u8; 128] = [0; 128];
+        let s = link::fire(e, i, &draws, &mut out);
+        e = s.end;
+        i += 1;
+    }
+    e.clock
+}
+
+// 10^d, for a digit's byte.
+fn times(d: u8) -> u64 {
+    match d {
+        49 => 10,
+        50 => 100,
+        51 => 1000,
+        52 => 10000,
+        53 => 100000,
+        54 => 1000000,
+        _ => 1,
+    }
+}
+
+fn run(kind: u8, n: u64) -> u64 {
+    match kind {
+        109 => moves(n),
+        115 => sends(n),
+        103 => gets(n),
+        104 => hears(n),
+        102 => fires(n),
+        114 => reports(n),
+        _ => refusals(n),
+    }
+}
+
+fn main() {
+    let mut kind = [0u8; 2];
+    let mut power = [0u8; 2];
+    let k = os::arg(1, &mut kind);
+    let p = os::arg(2, &mut power);
+    let last = run(kind[0], times(power[0]));
+    io::print_decimal(1, last);
+}

@@ -1,0 +1,2 @@
+pub mod CueLaws
+pub mod PlayLaws

@@ -1,0 +1,175 @@
+-- What a line gives, from what its call returned and what was made of that.
+use mathlib.Core.Path.{_≡_, refl, sym, ap, _∙_}
+use mathlib.Core.Bool.{Bool, true, false, cond}
+use mathlib.Core.List.{List, [], _∷_, _++_}
+use Prim.Native.Nat.{ℕ, _+_, _≤_, _<_, min}
+use native.Mathlib.Nat.{min-eq-left, min-le-right}
+use native.Mathlib.Omega.{arith}
+use lib.ListN.{length, getD, take, drop, replicate, length-append}
+use lib.Seq.{take-at, take-append-le}
+use lib.Dec.{ltb}
+use borrow.Author.Tests.{ltb-true, lt-ltb, le-ltb}
+use Rattle.numbers.specs.Number.{value}
+use Rattle.numbers.specs.Signed.{signed}
+use Rattle.message.specs.Cue.{stepsAt}
+use Rattle.end.specs.declared.Answer.{Answer}
+use Rattle.end.specs.declared.Answer.the-variants as answer
+use Rattle.end.specs.declared.End.{End}
+use Rattle.end.specs.declared.Stepped.{Stepped}
+use Rattle.end.specs.Arrival.{Out, Got, Done, Ignored, Nothing}
+use Rattle.end.specs.Event.{Event, Arrival, Outcome, Refused, Did, Result, eventOf}
+use Rattle.end.specs.Answer.{answerOf, calledOf, bufferOf}
+use Rattle.script.specs.declared.Verb.{Verb}
+use Rattle.script.specs.declared.Verb.the-variants as verb
+use Rattle.answers.specs.declared.Shown.{Shown}
+use Rattle.answers.specs.declared.Shown.the-variants as shown
+use Rattle.store.specs.Store.{most, room, messageIn, firstMessages, messagesIn}
+use Rattle.store.proofs.StoreLaws.{length-first, first-at}
+use Rattle.player.specs.declared.Printed.{Printed}
+use Rattle.player.specs.declared.Printed.the-variants.{Bad, Shows}
+use Rattle.player.specs.declared.Told.{Told}
+use Rattle.player.specs.Play.{draws, eventFor, heardNumber, isKnown, Turn, turnOf, resultOf, playedOf, shows, stops}
+use Rattle.player.specs.Promise.{Plays, printedFor, messagesFor, InOutput}
+use Rattle.player.proofs.CueLaws.{WideOutcome, wide}
+
+-- ---- the message that is heard
+
+-- a known message is in one of the 64 places
+pub known-place : (v : Verb) (k : ℕ) → isKnown v k ≡ true → k ≤ most → heardNumber v < most
+known-place verb.Join k h l = omega arith
+known-place verb.Joined k h l = omega arith
+known-place verb.Leave k h l = omega arith
+known-place verb.Left k h l = omega arith
+known-place verb.Crash k h l = omega arith
+known-place (verb.Send focus) k h l = omega arith
+known-place (verb.Hear n) k h l = omega (arith, ltb-true n k h)
+known-place verb.Fire k h l = omega arith
+known-place verb.Report k h l = omega arith
+
+-- the event, with the message from its place
+event-known : (v : Verb) (places lengths : List ℕ) (k : ℕ) → isKnown v k ≡ true
+    → eventFor v (messageIn places lengths (heardNumber v)) ≡ eventFor v (getD (firstMessages places lengths k) (heardNumber v) [])
+event-known verb.Join places lengths k h = refl
+event-known verb.Joined places lengths k h = refl
+event-known verb.Leave places lengths k h = refl
+event-known verb.Left places lengths k h = refl
+event-known verb.Crash places lengths k h = refl
+event-known (verb.Send focus) places lengths k h = refl
+event-known (verb.Hear n) places lengths k h = ap Arrival (sym (first-at places lengths k n (ltb-true n k h)))
+event-known verb.Fire places lengths k h = refl
+event-known verb.Report places lengths k h = refl
+
+-- ---- what an answer tells
+
+in-buffer : (o : Outcome) (output : List ℕ) → InOutput (answerOf o) (bufferOf o output)
+unfolding InOutput answerOf bufferOf
+in-buffer (Refused k) output = tt
+in-buffer (Did (Out bytes)) output = rw length-append (omega arith)
+in-buffer (Did (Got name cue)) output = tt
+in-buffer (Did Done) output = tt
+in-buffer (Did Ignored) output = tt
+in-buffer (Did Nothing) output = tt
+
+pub in-output : (r : Result) (s : Stepped) (output after : List ℕ) → s ≡ calledOf r → after ≡ bufferOf (r .outcome) output → InOutput (s .answer) after
+in-output r s output after p q = rw (p, q) (in-buffer (r .outcome) output)
+
+-- an answer that puts nothing out
+pub tells : (places lengths output : List ℕ) (count : ℕ) (a : Answer) (s : Shown) (r : Told) → count ≤ most → r ≡ record { printed = Shows s; count = count }
+    → printedFor a output count ≡ Shows s → ((ms : List (List ℕ)) → messagesFor a output ms ≡ ms)
+    → (r .printed ≡ printedFor a output count) × ((r .count ≤ most) × (firstMessages places lengths (r .count) ≡ messagesFor a output (firstMessages places lengths count)))
+tells places lengths output count a s r small p q m =
+    let n : r .count ≡ count = ap (λ (x : Told). x .count) p in
+    (ap (λ (x : Told). x .printed) p ∙ sym q, (omega arith, ap (firstMessages places lengths) n ∙ sym (m (firstMessages places lengths count))))
+
+-- a message that is put out
+module _ (n : ℕ) (output : List ℕ) (ms : List (List ℕ)) (count : ℕ) (counted : length ms ≡ count) where
+  abbrev out : Answer
+  out = answer.Out n
+
+  pub put-kept : count < most → (Shows (shown.Out count) ≡ printedFor out output count) × (ms ++ (take n output ∷ []) ≡ messagesFor out output ms)
+  unfolding printedFor messagesFor
+  put-kept h =
+      let t : ltb count most ≡ true = lt-ltb count most h in
+      (rw t, rw (counted, t))
+
+  pub put-beyond : most ≤ count → (Bad ≡ printedFor out output count) × (ms ≡ messagesFor out output ms)
+  unfolding printedFor messagesFor
+  put-beyond h =
+      let t : ltb count most ≡ false = le-ltb count most h in
+      (rw t, rw (counted, t))
+
+-- ---- the turn of an outcome, by the answer and the output
+
+pub record TurnFor (o : Outcome) (e : End) (output : List ℕ) (ms : List (List ℕ)) : Type 0 where
+  pub printed : printedFor (answerOf o) (bufferOf o output) (length ms) ≡ turnOf o e ms .printed
+  pub messages : messagesFor (answerOf o) (bufferOf o output) ms ≡ turnOf o e ms .messages
+  pub left : e ≡ turnOf o e ms .left
+
+out-turn : (b : Bool) (e : End) (ms : List (List ℕ)) (bytes output : List ℕ)
+    → let turn = cond b (shows (shown.Out (length ms)) e (ms ++ (bytes ∷ []))) (stops e ms) in
+    (cond b (Shows (shown.Out (length ms))) Bad ≡ turn .printed)
+    × ((cond b (ms ++ (take (length bytes) (bytes ++ output) ∷ [])) ms ≡ turn .messages) × (e ≡ turn .left))
+out-turn true e ms bytes output = (refl, (ap (λ (x : List ℕ). ms ++ (x ∷ [])) (take-at bytes output (length bytes) refl), refl))
+out-turn false e ms bytes output = (refl, (refl, refl))
+
+turn-for : (o : Outcome) (e : End) (output : List ℕ) (ms : List (List ℕ)) → WideOutcome o → TurnFor o e output ms
+unfolding printedFor messagesFor answerOf bufferOf turnOf
+turn-for (Refused k) e output ms w = record { printed = refl; messages = refl; left = refl }
+turn-for (Did (Out bytes)) e output ms w =
+    let t = out-turn (ltb (length ms) most) e ms bytes (drop (length bytes) output) in
+    record { printed = t .0; messages = t .1 .0; left = t .1 .1 }
+turn-for (Did (Got name cue)) e output ms w =
+    let two : take 2 (cue ++ drop (length cue) output) ≡ take 2 cue = take-append-le 2 cue (drop (length cue) output) (omega (arith, w)) in
+    record { printed = ap (λ (x : List ℕ). Shows (shown.Got (name .source .0) (name .number .0) (signed (value x)))) two; messages = refl; left = refl }
+turn-for (Did Done) e output ms w = record { printed = refl; messages = refl; left = refl }
+turn-for (Did Ignored) e output ms w = record { printed = refl; messages = refl; left = refl }
+turn-for (Did Nothing) e output ms w = record { printed = refl; messages = refl; left = refl }
+
+-- ---- a played line
+
+module _ (e : End) (v : Verb) (clock count used : ℕ) (places lengths : List ℕ) (is-used : used ≡ min count most) where
+  abbrev ms : List (List ℕ)
+  ms = messagesIn places lengths count
+
+  counted : length ms ≡ used
+  counted = length-first places lengths (min count most) ∙ sym is-used
+
+  -- an unknown message number
+  pub not-played : isKnown v used ≡ false → Plays e v clock ms (record { printed = Bad; end = e; count = used }) (messagesIn places lengths used)
+  unfolding playedOf
+  not-played h =
+      let known : isKnown v (length ms) ≡ false = ap (isKnown v) counted ∙ h in
+      let turn : playedOf e v clock ms ≡ stops e ms = rw known in
+      let small : used ≤ most = rw is-used (min-le-right count most) in
+      record {
+        printed = sym (ap (λ (t : Turn). t .printed) turn);
+        left = sym (ap (λ (t : Turn). t .left) turn);
+        kept = ap (firstMessages places lengths) (min-eq-left small ∙ is-used) ∙ sym (ap (λ (t : Turn). t .messages) turn);
+      }
+
+  -- the call that the code makes
+  abbrev pub Made : Result
+  Made = eventOf e (eventFor v (messageIn places lengths (heardNumber v))) clock room draws
+
+  module _ (known : isKnown v used ≡ true) (s : Stepped) (output : List ℕ) (is-called : s ≡ calledOf Made) (is-left : output ≡ bufferOf (Made .outcome) (replicate 128 0)) where
+    made : Made ≡ resultOf e v clock ms
+    made = ap (λ (ev : Event). eventOf e ev clock room draws) (event-known v places lengths (min count most) (ap (isKnown v) (sym is-used) ∙ known))
+
+    turned : playedOf e v clock ms ≡ turnOf (Made .outcome) (Made .left) ms
+    unfolding playedOf
+    turned =
+        let k : isKnown v (length ms) ≡ true = ap (isKnown v) counted ∙ known in
+        rw k (ap (λ (r : Result). turnOf (r .outcome) (r .left) ms) (sym made))
+
+    pub played : (t : Told) (after lengths′ : List ℕ) → t .printed ≡ printedFor (s .answer) output used → t .count ≤ most
+        → firstMessages after lengths′ (t .count) ≡ messagesFor (s .answer) output (firstMessages places lengths used)
+        → Plays e v clock ms (record { printed = t .printed; end = s .end; count = t .count }) (messagesIn after lengths′ (t .count))
+    played t after lengths′ p small m =
+        let o = Made .outcome in
+        let f = turn-for o (Made .left) (replicate 128 0) ms (wide e (eventFor v (messageIn places lengths (heardNumber v))) clock room draws) in
+        let a : s .answer ≡ answerOf o = ap (λ (x : Stepped). x .answer) is-called in
+        record {
+          printed = p ∙ (λ i. printedFor (a i) (is-left i) (sym counted i)) ∙ f .printed ∙ sym (ap (λ (t : Turn). t .printed) turned);
+          left = ap (λ (x : Stepped). x .end) is-called ∙ f .left ∙ sym (ap (λ (t : Turn). t .left) turned);
+          kept = ap (firstMessages after lengths′) (min-eq-left small) ∙ m ∙ (λ i. messagesFor (a i) (is-left i) (firstMessages places lengths (is-used i))) ∙ f .messages ∙ sym (ap (λ (t : Turn). t .messages) turned);
+        }

@@ -1,0 +1,71 @@
+-- The program "house": from a script's bytes to the printed bytes. Document 01, "Cases".
+use Prim.Native.Nat.{ℕ}
+use mathlib.Core.Bool.{Bool, true, false, cond}
+use mathlib.Core.List.{List, [], _∷_, _++_}
+use lib.Dec.{eqb}
+use Rattle.message.specs.Entry.{asHost}
+use Rattle.end.specs.declared.End.{End}
+use Rattle.end.specs.Opening.{houseParams, openingOf}
+use Rattle.script.specs.declared.Call.{Call}
+use Rattle.script.specs.declared.Line.{Line}
+use Rattle.script.specs.declared.Line.the-variants.{Play, Malformed}
+use Rattle.script.specs.Line.{lineOf}
+use Rattle.answers.specs.AnswerLine.{answerLine}
+use Rattle.player.specs.declared.Printed.{Printed}
+use Rattle.player.specs.declared.Printed.the-variants.{Bad, Shows}
+use Rattle.player.specs.Play.{Turn, playedOf}
+
+-- "bad" and a line feed
+abbrev pub badLine : List ℕ
+badLine = 98 ∷ 97 ∷ 100 ∷ 10 ∷ []
+
+-- what is printed for a line: "end, clock, answer", or "bad"
+unfoldable pub printedLine : ℕ → ℕ → Printed → List ℕ
+printedLine end clock Bad = badLine
+printedLine end clock (Shows a) = answerLine end clock a
+
+-- whether the house stops
+abbrev pub isBad : Printed → Bool
+isBad Bad = true
+isBad (Shows a) = false
+
+-- "the ends are hosts 0 and 1"; the messages so far
+pub record House : Type 0 where
+  pub zero : End
+  pub one : End
+  pub messages : List (List ℕ)
+
+-- "parameters 9,8,4,4,4,8"
+abbrev pub opened : House
+opened = record { zero = openingOf (asHost 0) houseParams .end; one = openingOf (asHost 1) houseParams .end; messages = [] }
+
+-- the end that a line names, and the house after the line
+abbrev pub endAt : ℕ → House → End
+endAt n h = cond (eqb n 0) (h .zero) (h .one)
+
+abbrev pub houseAfter : ℕ → Turn → House → House
+houseAfter n t h = record { zero = cond (eqb n 0) (t .left) (h .zero); one = cond (eqb n 0) (h .one) (t .left); messages = t .messages }
+
+abbrev pub turnAt : Call → House → Turn
+turnAt c h = playedOf (endAt (c .end) h) (c .verb) (c .clock) (h .messages)
+
+-- what a line prints, and then what the rest of the script prints, unless it "prints "bad" and stops"
+abbrev pub afterLine : Line → House → (House → List ℕ) → List ℕ
+afterLine Malformed h rest = badLine
+afterLine (Play c) h rest =
+    printedLine (c .end) (c .clock) (turnAt c h .printed)
+    ++ cond (isBad (turnAt c h .printed)) [] (rest (houseAfter (c .end) (turnAt c h) h))
+
+-- the end of the script: "a line feed after each line", so a line without one is malformed
+abbrev pub atEnd : List ℕ → List ℕ
+atEnd [] = []
+atEnd (b ∷ line) = badLine
+
+-- what is printed from a script, with the bytes of a line so far; 10 is the line feed
+unfoldable pub printsFrom : House → List ℕ → List ℕ → List ℕ
+printsFrom h line [] = atEnd line
+printsFrom h line (b ∷ script) = cond (eqb b 10) (afterLine (lineOf line) h (λ next. printsFrom next [] script)) (printsFrom h (line ++ (b ∷ [])) script)
+
+-- what is printed from a whole script
+abbrev pub houseOf : List ℕ → List ℕ
+houseOf script = printsFrom opened [] script

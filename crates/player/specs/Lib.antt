@@ -1,0 +1,3 @@
+pub mod House
+pub mod Play
+pub mod Promise

@@ -1,0 +1,53 @@
+-- What the functions promise: that of `play` by the definition of Play.antt, those of its parts by the call's answer and output.
+use mathlib.Core.Path.{_≡_}
+use mathlib.Core.Bool.{cond}
+use mathlib.Core.List.{List, [], _∷_, _++_}
+use Prim.Native.Nat.{ℕ, _≤_}
+use lib.ListN.{length, take}
+use lib.Dec.{ltb}
+use Rattle.message.specs.Cue.{stepsAt}
+use Rattle.end.specs.declared.Answer.{Answer}
+use Rattle.end.specs.declared.Answer.the-variants as answer
+use Rattle.end.specs.declared.End.{End}
+use Rattle.script.specs.declared.Verb.{Verb}
+use Rattle.answers.specs.declared.Shown.the-variants as shown
+use Rattle.store.specs.Store.{most}
+use Rattle.player.specs.declared.Printed.{Printed}
+use Rattle.player.specs.declared.Printed.the-variants.{Bad, Shows}
+use Rattle.player.specs.declared.Played.{Played}
+use Rattle.player.specs.Play.{playedOf}
+
+-- a line was played: `after` are the messages that are kept then
+pub record Plays (e : End) (v : Verb) (clock : ℕ) (messages : List (List ℕ)) (r : Played) (after : List (List ℕ)) : Type 0 where
+  pub printed : r .printed ≡ playedOf e v clock messages .printed
+  pub left : r .end ≡ playedOf e v clock messages .left
+  pub kept : after ≡ playedOf e v clock messages .messages
+
+-- ---- by the answer of a call and the output that it left
+
+-- what is printed for an answer
+unfoldable pub printedFor : Answer → List ℕ → ℕ → Printed
+printedFor (answer.Refused question) output count = Shows (shown.Refused question)
+printedFor (answer.Out n) output count = cond (ltb count most) (Shows (shown.Out count)) Bad
+printedFor (answer.Got name) output count = Shows (shown.Got (name .source .0) (name .number .0) (stepsAt output 0))
+printedFor answer.Done output count = Shows shown.Done
+printedFor answer.Ignored output count = Shows shown.Ignored
+printedFor answer.Nothing output count = Shows shown.Nothing
+
+-- the messages then
+unfoldable pub messagesFor : Answer → List ℕ → List (List ℕ) → List (List ℕ)
+messagesFor (answer.Refused question) output messages = messages
+messagesFor (answer.Out n) output messages = cond (ltb (length messages) most) (messages ++ (take n output ∷ [])) messages
+messagesFor (answer.Got name) output messages = messages
+messagesFor answer.Done output messages = messages
+messagesFor answer.Ignored output messages = messages
+messagesFor answer.Nothing output messages = messages
+
+-- a message that was put out is in the output
+unfoldable pub InOutput : Answer → List ℕ → Type 0
+InOutput (answer.Refused question) output = Unit {0}
+InOutput (answer.Out n) output = n ≤ length output
+InOutput (answer.Got name) output = Unit {0}
+InOutput answer.Done output = Unit {0}
+InOutput answer.Ignored output = Unit {0}
+InOutput answer.Nothing output = Unit {0}

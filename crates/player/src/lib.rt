@@ -1,0 +1,222 @@
+// Plays a line of a script on the end that it names, and prints what it gives. The definitions are in specs/: Play.antt (what a line
+// gives) and House.antt (what is printed, for a line and for a whole script).
+use answers::Shown;
+use end::Answer;
+use end::End;
+use end::Stepped;
+use script::Verb;
+use store::MOST;
+use store::ROOM;
+ghost use mathlib.Core.Path.{_≡_};
+ghost use mathlib.Core.List.{_∷_, []};
+ghost use Prim.Native.Nat.{_*_, _≤_, _<_};
+ghost use lib.ListN.{length};
+ghost use Rattle.store.specs.Store.{most, room, messageIn, firstMessages, messagesIn};
+ghost use Rattle.answers.specs.AnswerLine.{withLine, lineLength};
+ghost use Rattle.end.specs.Event.{eventOf};
+ghost use Rattle.end.specs.Answer.{calledOf, bufferOf};
+ghost use Rattle.player.specs.Play.{draws, eventFor, heardNumber, isKnown};
+ghost use Rattle.player.specs.House.{badLine, printedLine};
+ghost use Rattle.player.specs.Promise.{Plays, printedFor, messagesFor, InOutput};
+
+// What is printed for a line: its answer, or "bad", after which the house stops.
+pub enum Printed {
+    Bad,
+    Shows(Shown),
+}
+
+// What a played line gives: what is printed, the end that is left, and how many messages there are then.
+pub struct Played {
+    pub printed: Printed,
+    pub end: End,
+    pub count: usize,
+}
+
+// What an answer tells: what is printed, and how many messages there are then.
+struct Told {
+    printed: Printed,
+    count: usize,
+}
+
+// A line names a message that was put out.
+fn is_known(verb: Verb, count: usize) -> bool
+    ensures { λ r. ⌜ r ≡ isKnown verb count ⌝ }
+{
+    match verb {
+        Verb::Join => true,
+        Verb::Joined => true,
+        Verb::Leave => true,
+        Verb::Left => true,
+        Verb::Crash => true,
+        Verb::Send(_) => true,
+        Verb::Hear(n) => n < count as u64,
+        Verb::Fire => true,
+        Verb::Report => true,
+    }
+}
+
+fn heard_number(verb: Verb) -> u64
+    ensures { λ r. ⌜ r ≡ heardNumber verb ⌝ }
+{
+    match verb {
+        Verb::Join => 0,
+        Verb::Joined => 0,
+        Verb::Leave => 0,
+        Verb::Left => 0,
+        Verb::Crash => 0,
+        Verb::Send(_) => 0,
+        Verb::Hear(n) => n,
+        Verb::Fire => 0,
+        Verb::Report => 0,
+    }
+}
+
+// Makes the call of a verb, with 64 draws of 0; `bytes` are those of the message that is heard.
+fn event(e: End, verb: Verb, clock: u64, bytes: &[u8], out: &mut [u8]) -> Stepped
+    ensures { λ r. ⌜ r ≡ calledOf (eventOf e (eventFor verb (now (bytes .entry))) clock (length (now (out .entry))) draws) ⌝ }
+    ensures { λ _. ⌜ now (out .exit) ≡ bufferOf (eventOf e (eventFor verb (now (bytes .entry))) clock (length (now (out .entry))) draws .outcome) (now (out .entry)) ⌝ }
+{
+    let none = [0u8; 64];
+    match verb {
+        Verb::Join => link::join(e, clock, &none, out),
+        Verb::Joined => link::joined(e, clock, &none, out),
+        Verb::Leave => link::leave(e, clock, &none, out),
+        Verb::Left => link::left(e, clock, &none, out),
+        Verb::Crash => link::crash(e, clock, &none, out),
+        Verb::Send(focus) => {
+            link::send(e, clock, &none, message::cue_with(focus, 0, 0, 0, 0), out)
+        }
+        Verb::Hear(_) => link::arrival(e, clock, &none, bytes, out),
+        Verb::Fire => link::fire(e, clock, &none, out),
+        Verb::Report => link::report(e, clock, &none, out),
+    }
+}
+
+// The same with the message that is heard in its place.
+fn event_in(
+    e: End,
+    verb: Verb,
+    clock: u64,
+    places: &[u8],
+    lengths: &[u8],
+    out: &mut [u8],
+) -> Stepped
+    requires { ⌜ length (now places) ≡ most * room ⌝ }
+    requires { ⌜ length (now lengths) ≡ most ⌝ }
+    requires { ⌜ heardNumber verb < most ⌝ }
+    ensures { λ r. ⌜ r ≡ calledOf (eventOf e (eventFor verb (messageIn (now (places .entry)) (now (lengths .entry)) (heardNumber verb))) clock (length (now (out .entry))) draws) ⌝ }
+    ensures { λ _. ⌜ now (out .exit) ≡ bufferOf (eventOf e (eventFor verb (messageIn (now (places .entry)) (now (lengths .entry)) (heardNumber verb))) clock (length (now (out .entry))) draws .outcome) (now (out .entry)) ⌝ }
+{
+    let k = heard_number(verb) as usize;
+    let n = store::size(lengths, k);
+    let at = k * ROOM;
+    event(e, verb, clock, &places[at..at + n], out)
+}
+
+// A message of n bytes that was put out is kept under the next number, if there is one.
+fn put_out(n: usize, out: &[u8], places: &mut [u8], lengths: &mut [u8], count: usize) -> Told
+    requires { ⌜ (n ≤ length (now out)) × (length (now out) ≡ room) ⌝ }
+    requires { ⌜ length (now places) ≡ most * room ⌝ }
+    requires { ⌜ (length (now lengths) ≡ most) × (count ≤ most) ⌝ }
+    ensures { λ r. ⌜ r .printed ≡ printedFor (Answer.Out n) (now (out .entry)) count ⌝ }
+    ensures { λ r. ⌜ (r .count ≤ most) × (firstMessages (now (places .exit)) (now (lengths .exit)) (r .count) ≡ messagesFor (Answer.Out n) (now (out .entry)) (firstMessages (now (places .entry)) (now (lengths .entry)) count)) ⌝ }
+{
+    if count < MOST {
+        store::keep(places, lengths, count, &out[..n]);
+        Told {
+            printed: Printed::Shows(Shown::Out(count as u64)),
+            count: count + 1,
+        }
+    } else {
+        Told {
+            printed: Printed::Bad,
+            count,
+        }
+    }
+}
+
+fn shows(shown: Shown, count: usize) -> Told
+    ensures { λ r. ⌜ r ≡ record { printed = Printed.Shows shown; count = count } ⌝ }
+{
+    Told {
+        printed: Printed::Shows(shown),
+        count,
+    }
+}
+
+// What an answer tells, with the output that the call left.
+fn tell(answer: Answer, out: &[u8], places: &mut [u8], lengths: &mut [u8], count: usize) -> Told
+    requires { ⌜ InOutput answer (now out) ⌝ }
+    requires { ⌜ (length (now out) ≡ room) × (length (now places) ≡ most * room) ⌝ }
+    requires { ⌜ (length (now lengths) ≡ most) × (count ≤ most) ⌝ }
+    ensures { λ r. ⌜ r .printed ≡ printedFor answer (now (out .entry)) count ⌝ }
+    ensures { λ r. ⌜ (r .count ≤ most) × (firstMessages (now (places .exit)) (now (lengths .exit)) (r .count) ≡ messagesFor answer (now (out .entry)) (firstMessages (now (places .entry)) (now (lengths .entry)) count)) ⌝ }
+{
+    match answer {
+        Answer::Refused(question) => shows(Shown::Refused(question), count),
+        Answer::Out(n) => put_out(n, out, places, lengths, count),
+        Answer::Got(name) => {
+            let focus = numbers::read_i16(out, 0);
+            shows(Shown::Got(name.source.0, name.number.0, focus), count)
+        }
+        Answer::Done => shows(Shown::Done, count),
+        Answer::Ignored => shows(Shown::Ignored, count),
+        Answer::Nothing => shows(Shown::Nothing, count),
+    }
+}
+
+// Plays a line: the verb and the clock on an end, with the messages that were put out so far, of which there are `count`, 64 at
+// most. The next message goes into the next place.
+pub fn play(
+    e: End,
+    verb: Verb,
+    clock: u64,
+    places: &mut [u8; 8192],
+    lengths: &mut [u8; 64],
+    count: usize,
+) -> Played
+    ensures { λ r. ⌜ Plays e verb clock (messagesIn (now (places .entry)) (now (lengths .entry)) count) r (messagesIn (now (places .exit)) (now (lengths .exit)) (r .count)) ⌝ }
+{
+    let used = store::least(count, MOST);
+    if !is_known(verb, used) {
+        return Played {
+            printed: Printed::Bad,
+            end: e,
+            count: used,
+        };
+    }
+    let mut out = [0u8; 128];
+    let stepped = event_in(e, verb, clock, places, lengths, &mut out);
+    let answer = stepped.answer;
+    let t = tell(answer, &out, places, lengths, used);
+    let printed = t.printed;
+    let end = stepped.end;
+    Played {
+        printed,
+        end,
+        count: t.count,
+    }
+}
+
+fn put_bad(out: &mut [u8]) -> usize
+    ensures written { λ r. ⌜ (now (out .exit) ≡ withLine badLine (now (out .entry))) × (r ≡ lineLength badLine (now (out .entry))) ⌝ }
+    ensures within { λ r. ⌜ r ≤ length (now (out .entry)) ⌝ }
+{
+    if out.len() < 64 {
+        return 0;
+    }
+    numbers::put_bytes(out, 0, b"bad\n");
+    4
+}
+
+// Writes what is printed for a line at the start of a buffer of 64 bytes or more, which is always enough, and answers its length; in
+// a smaller buffer nothing is written, and the answer is 0.
+pub fn put_printed(out: &mut [u8], end: u8, clock: u64, printed: Printed) -> usize
+    ensures written { λ r. ⌜ (now (out .exit) ≡ withLine (printedLine end clock printed) (now (out .entry))) × (r ≡ lineLength (printedLine end clock printed) (now (out .entry))) ⌝ }
+    ensures within { λ r. ⌜ r ≤ length (now (out .entry)) ⌝ }
+{
+    match printed {
+        Printed::Bad => put_bad(out),
+        Printed::Shows(a) => answers::put_line(out, end, clock, a),
+    }
+}

@@ -1,0 +1,199 @@
+//! The service's book: whether a list of observed calls is a run of the service.
+
+use std::collections::HashSet;
+
+use crate::cue::Cue;
+use crate::end::{Answer, Event, Status};
+use crate::message::{self, Message};
+use crate::HOSTS;
+
+const ENDS: usize = HOSTS as usize;
+
+/// One call as it was observed: what went in, and the answer, the output buffer
+/// and the end's status after it.
+#[derive(Clone, Debug, PartialEq, Eq)]
+pub struct Call {
+    pub host: u8,
+    pub event: Event,
+    pub answer: Answer,
+    pub out: Vec<u8>,
+    pub status: Status,
+}
+
+/// Why a list is not a run of the service.
+#[derive(Clone, Copy, Debug, PartialEq, Eq)]
+pub enum Fault {
+    /// It is none of the lists that the book speaks about: a host is above 7, or
+    /// an unrefused Arrival brings bytes that no earlier Out put out.
+    NoSuchList,
+    /// The end's status is not the book's.
+    Status,
+    /// The answer, its name or its cue is not the book's.
+    Answer,
+}
+
+pub struct Book {
+    status: [Status; ENDS],
+    /// By source: the cue under each number, "filed for good".
+    filed: [Vec<Cue>; ENDS],
+    /// By reader and source: the numbers handed out since joining, in order.
+    handed: [[Vec<u8>; ENDS]; ENDS],
+    /// What the Outs of the list put out so far.
+    put_out: HashSet<Vec<u8>>,
+}
+
+/// "A list is a run of the service if after every call the end's status and the
+/// answers just named, with their names and cues, are the book's." Otherwise the
+/// place of the first call that is not, and why.
+pub fn check(calls: &[Call]) -> Result<(), (usize, Fault)> {
+    let mut book = Book::default();
+    for (place, call) in calls.iter().enumerate() {
+        book.enter(call).map_err(|fault| (place, fault))?;
+    }
+    Ok(())
+}
+
+impl Default for Book {
+    /// "It starts with every host idle and nothing sent."
+    fn default() -> Book {
+        Book {
+            status: [Status::Idle; ENDS],
+            filed: Default::default(),
+            handed: Default::default(),
+            put_out: HashSet::new(),
+        }
+    }
+}
+
+impl Book {
+    /// Feeds one call and compares what was observed with the book. After a fault
+    /// the list is judged, and the book is of no more use.
+    pub fn enter(&mut self, call: &Call) -> Result<(), Fault> {
+        if call.host >= HOSTS {
+            return Err(Fault::NoSuchList);
+        }
+        // "Refused: nothing changes."
+        if !matches!(call.answer, Answer::Refused(_)) {
+            self.enter_unrefused(call)?;
+        }
+        if call.status != self.status[usize::from(call.host)] {
+            return Err(Fault::Status);
+        }
+        Ok(())
+    }
+
+    fn enter_unrefused(&mut self, call: &Call) -> Result<(), Fault> {
+        let agrees = match &call.event {
+            Event::Join | Event::Joined | Event::Leave | Event::Left | Event::Crash => {
+                call.answer == self.membership(call.host, &call.event)
+            }
+            Event::Send(cue) => self.send(call, cue),
+            Event::Arrival(bytes) => {
+                if !self.put_out.contains(bytes) {
+                    return Err(Fault::NoSuchList);
+                }
+                self.arrival(call, bytes)
+            }
+            // "Other Arrivals, Fire, Report, events added later: nothing changes,
+            // never Got."
+            Event::Fire | Event::Report => !is_got(call),
+        };
+        if !agrees {
+            return Err(Fault::Answer);
+        }
+        if let Some(bytes) = out_bytes(call) {
+            self.put_out.insert(bytes.to_vec());
+        }
+        Ok(())
+    }
+
+    /// "the status moves as under Events, with Done; where it doesn't move,
+    /// Ignored."
+    fn membership(&mut self, host: u8, event: &Event) -> Answer {
+        let host = usize::from(host);
+        let Some(status) = self.status[host].after(event) else {
+            return Answer::Ignored;
+        };
+        self.status[host] = status;
+        // "'Since joining' counts from the last move to member, which clears the
+        // host's handed-out numbers."
+        if status == Status::Member {
+            self.handed[host] = Default::default();
+        }
+        Answer::Done
+    }
+
+    /// "for a member the cue is filed for good under the host's next number, from
+    /// 0; Out, a DATA with that name and cue. Otherwise Ignored."
+    fn send(&mut self, call: &Call, cue: &Cue) -> bool {
+        let host = usize::from(call.host);
+        if self.status[host] != Status::Member {
+            return call.answer == Answer::Ignored;
+        }
+        let number = self.filed[host].len();
+        self.filed[host].push(*cue);
+        out_bytes(call)
+            .and_then(|bytes| message::read(bytes).ok())
+            .is_some_and(|m| {
+                m.kind == message::DATA
+                    && m.names[0].source == call.host
+                    && usize::from(m.names[0].number) == number
+                    && m.cues[0] == *cue
+            })
+    }
+
+    /// "Got comes exactly when an original, or a repair where there is such a
+    /// first, isn't looped and meets the limits. It has the message's name and the
+    /// filed cue, and the number is now handed out."
+    fn arrival(&mut self, call: &Call, bytes: &[u8]) -> bool {
+        let Some((source, number, cue)) = self.deliverable(call.host, bytes) else {
+            return !is_got(call);
+        };
+        self.handed[usize::from(call.host)][usize::from(source)].push(number);
+        call.answer == Answer::Got { source, number } && call.out.starts_with(&cue.0)
+    }
+
+    /// The name and the filed cue that this arrival must hand out, if any.
+    fn deliverable(&self, reader: u8, bytes: &[u8]) -> Option<(u8, u8, Cue)> {
+        let message: Message = message::read(bytes).ok()?;
+        let name = *message.names.first()?;
+        let source = usize::from(name.source);
+        let handed = &self.handed[usize::from(reader)][source];
+        // "the first one handed out from that source since joining, if any": the
+        // first in time.
+        let first = handed.first();
+
+        // "an original is a DATA, a repair a REPL, looped if its sender is its
+        // reader"
+        let kind = match message.kind {
+            message::DATA => true,
+            message::REPL => first.is_some(),
+            _ => false,
+        };
+        let looped = message.sender == reader;
+
+        // "The limits: the reader is a member and not the source; the name is
+        // filed; its number is not below the first one handed out from that source
+        // since joining, if any, and not handed out since joining."
+        let member = self.status[usize::from(reader)] == Status::Member;
+        let cue = *self.filed[source].get(usize::from(name.number))?;
+        let limits = member
+            && reader != name.source
+            && first.is_none_or(|&first| name.number >= first)
+            && !handed.contains(&name.number);
+
+        (kind && !looped && limits).then_some((name.source, name.number, cue))
+    }
+}
+
+fn is_got(call: &Call) -> bool {
+    matches!(call.answer, Answer::Got { .. })
+}
+
+/// The bytes that an Out put out: the first so many of the output.
+fn out_bytes(call: &Call) -> Option<&[u8]> {
+    match call.answer {
+        Answer::Out(length) => call.out.get(..length),
+        _ => None,
+    }
+}

@@ -1,0 +1,53 @@
+//! A cue's fields and their range test.
+
+/// "A cue is 24 bytes": four offsets, the lamp power and 14 free bytes.
+pub const CUE_LEN: usize = 24;
+
+/// The bytes of a cue, in range or not.
+#[derive(Clone, Copy, Debug, PartialEq, Eq, Hash)]
+pub struct Cue(pub [u8; CUE_LEN]);
+
+impl Cue {
+    pub const ZERO: Cue = Cue([0; CUE_LEN]);
+
+    /// A cue with this focus and zeros elsewhere, as the house sends it.
+    pub fn with_focus(focus: i16) -> Cue {
+        let mut cue = Cue::ZERO;
+        cue.0[..2].copy_from_slice(&focus.to_be_bytes());
+        cue
+    }
+
+    pub fn focus(&self) -> i16 {
+        self.offset(0)
+    }
+
+    pub fn zoom(&self) -> i16 {
+        self.offset(2)
+    }
+
+    pub fn sideways(&self) -> i16 {
+        self.offset(4)
+    }
+
+    pub fn upright(&self) -> i16 {
+        self.offset(6)
+    }
+
+    /// "lamp power 0..1000 (16 bits, unsigned)".
+    pub fn lamp(&self) -> u16 {
+        u16::from_be_bytes([self.0[8], self.0[9]])
+    }
+
+    /// "from −2000 to 2000 motor steps", "lamp power 0..1000". The 14 free bytes
+    /// may be anything.
+    pub fn in_range(&self) -> bool {
+        let offsets = [self.focus(), self.zoom(), self.sideways(), self.upright()];
+        offsets.iter().all(|o| (-2000..=2000).contains(o)) && self.lamp() <= 1000
+    }
+
+    /// "each a signed 16-bit two's complement number", and "Numbers are
+    /// big-endian": FF FE is −2 and not 65534, the first fault of earlier links.
+    fn offset(&self, at: usize) -> i16 {
+        i16::from_be_bytes([self.0[at], self.0[at + 1]])
+    }
+}

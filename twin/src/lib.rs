@@ -1,0 +1,28 @@
+//! A twin of the cue link: document 01 read a second time and written down as
+//! plain Rust, so that another implementation can be compared with it call by
+//! call. It favours being easy to hold against the document over being fast.
+//!
+//! Host numbers and cue numbers are both plain `u8` here, because a state must be
+//! able to hold any value; they are still kept apart by name, and "host number
+//! and cue number are never added or compared".
+
+pub mod book;
+pub mod cue;
+pub mod end;
+pub mod house;
+pub mod message;
+
+/// "Hosts are 0..7".
+pub const HOSTS: u8 = 8;
+
+/// "cue numbers 0..63 per source".
+pub const NUMBERS: u8 = 64;
+
+/// "Clocks are 0..2^48−1 ticks"; stamps and held ticks have the same bound.
+pub const CLOCK_MAX: u64 = (1 << 48) - 1;
+
+/// "Has the output at least 128 bytes?"
+pub const OUTPUT_LEN: usize = 128;
+
+/// "Are there 64 draws, one byte each?"
+pub const DRAWS: usize = 64;

@@ -1,0 +1,276 @@
+//! States nobody can reach: any sound one keeps every event's promises, and any
+//! state whatever can be asked for its soundness.
+
+use twin::cue::Cue;
+use twin::end::{
+    Answer, Body, End, Event, Heard, Record, Reply, Request, Source, Status, TIME_LIMIT,
+};
+use twin::message::Message;
+use twin::{CLOCK_MAX, DRAWS, OUTPUT_LEN};
+
+use crate::support::*;
+
+const STATUSES: [Status; 5] = [
+    Status::Member,
+    Status::Idle,
+    Status::Joining,
+    Status::Leaving,
+    Status::Crashed,
+];
+
+/// Times on both sides of the clock, up to the limit.
+fn time(rng: &mut Rng, clock: u64) -> u64 {
+    match rng.below(4) {
+        0 => rng.below(TIME_LIMIT),
+        1 => TIME_LIMIT - 1,
+        _ => (clock + rng.below(2000)).saturating_sub(1000),
+    }
+}
+
+fn other_than(rng: &mut Rng, hosts: &[u8]) -> u8 {
+    loop {
+        let host = rng.small(8);
+        if !hosts.contains(&host) {
+            return host;
+        }
+    }
+}
+
+fn sound_end(rng: &mut Rng) -> End {
+    let host = rng.small(8);
+    let mut end = idle(host);
+    let mut p = [0; 6];
+    p.fill_with(|| rng.small(33));
+    end.params = params(p);
+    end.clock = match rng.below(3) {
+        0 => CLOCK_MAX - rng.below(100),
+        1 => rng.below(CLOCK_MAX),
+        _ => rng.below(3000),
+    };
+    end.next = rng.small(65);
+    end.status = STATUSES[rng.below(8).saturating_sub(3) as usize];
+    if end.status != Status::Member {
+        return end;
+    }
+    for source in 0..8 {
+        let own = source == host;
+        if !own {
+            end.sources[usize::from(source)].distance = 1 + rng.below(1000) as u16;
+            if rng.once_in(2) {
+                end.sources[usize::from(source)].heard = Some(Heard {
+                    stamp: rng.below(CLOCK_MAX + 1),
+                    at: rng.below(end.clock + 1),
+                });
+            }
+        }
+        if rng.once_in(3) || (own && end.next == 0) {
+            continue;
+        }
+        let last = if own { end.next - 1 } else { rng.small(64) };
+        let first = rng.small(last + 1);
+        end.sources[usize::from(source)].first = Some(first);
+        end.sources[usize::from(source)].last = Some(last);
+        for number in first..=last {
+            let mut record = Record::EMPTY;
+            record.reply_quiet = time(rng, end.clock);
+            if own || rng.once_in(2) {
+                record.body = Body::Held;
+                record.cue = rng.cue();
+                if rng.once_in(2) {
+                    record.reply = Some(Reply {
+                        due: time(rng, end.clock),
+                        requester: other_than(rng, &[host, source]),
+                    });
+                }
+            } else {
+                record.body = Body::Waiting(Request {
+                    round: 1 + rng.small(16),
+                    due: time(rng, end.clock),
+                    quiet_until: time(rng, end.clock),
+                });
+            }
+            end.sources[usize::from(source)].names[usize::from(number)] = record;
+        }
+    }
+    assert!(end.sound());
+    end
+}
+
+/// A well-formed message of any kind, of a kind that no end may ever have sent.
+fn any_message(rng: &mut Rng) -> Message {
+    let (source, number, cue) = (rng.small(8), rng.small(64), rng.cue());
+    let sender = other_than(rng, &[source]);
+    let mut message = match rng.below(4) {
+        0 => data(source, number, cue),
+        1 => rqst(sender, source, number),
+        2 => {
+            let requester = other_than(rng, &[source, sender]);
+            let sender = if rng.once_in(2) { source } else { sender };
+            repl(sender, source, number, requester, cue)
+        }
+        _ => {
+            let mut reports = Vec::new();
+            let mut echoes = Vec::new();
+            for host in 0..8 {
+                if rng.once_in(2) {
+                    reports.push((host, rng.small(64)));
+                }
+                if host != sender && rng.once_in(2) {
+                    echoes.push((host, rng.below(CLOCK_MAX + 1), rng.below(5000)));
+                }
+            }
+            sess(sender, 0, &reports, &echoes)
+        }
+    };
+    message.stamp = rng.below(CLOCK_MAX + 1);
+    message
+}
+
+fn any_event(rng: &mut Rng) -> Event {
+    match rng.below(14) {
+        0 => Event::Join,
+        1 => Event::Joined,
+        2 => Event::Leave,
+        3 => Event::Left,
+        4 => Event::Crash,
+        5 => Event::Send(rng.cue()),
+        6 | 7 => Event::Fire,
+        8 => Event::Report,
+        _ => Event::Arrival(bytes(&any_message(rng))),
+    }
+}
+
+#[test]
+fn sound_states_stay_sound() {
+    // `watched` holds every call to the frame; here it must not refuse either,
+    // except a full member's Send.
+    let mut rng = Rng(2);
+    for _ in 0..6000 {
+        let mut end = sound_end(&mut rng);
+        for _ in 0..4 {
+            let event = any_event(&mut rng);
+            let clock = CLOCK_MAX.min(end.clock + rng.below(3000));
+            let draws = rng.bytes(DRAWS);
+            let full = end.status == Status::Member && end.next == 64;
+            let (answer, _) = watched(&mut end, &event, clock, &draws, OUTPUT_LEN);
+            match answer {
+                Answer::Refused(number) => {
+                    assert!(number == 7 && full && matches!(event, Event::Send(_)))
+                }
+                Answer::Nothing => assert_eq!(event, Event::Fire),
+                _ => (),
+            }
+        }
+    }
+}
+
+/// A value that is often small, often near a limit, sometimes anything.
+fn any(rng: &mut Rng) -> u64 {
+    match rng.below(6) {
+        0 => rng.next(),
+        1 => u64::MAX - rng.below(2),
+        2 => CLOCK_MAX - 1 + rng.below(3),
+        3 => TIME_LIMIT - 1 + rng.below(2),
+        _ => rng.below(70),
+    }
+}
+
+fn maybe<T>(rng: &mut Rng, value: impl FnOnce(&mut Rng) -> T) -> Option<T> {
+    if rng.once_in(2) {
+        Some(value(rng))
+    } else {
+        None
+    }
+}
+
+fn any_record(rng: &mut Rng) -> Record {
+    let mut cue = Cue::ZERO;
+    cue.0.copy_from_slice(&rng.bytes(24));
+    Record {
+        body: match rng.below(3) {
+            0 => Body::Nothing,
+            1 => Body::Held,
+            _ => Body::Waiting(Request {
+                round: any(rng) as u8,
+                due: any(rng),
+                quiet_until: any(rng),
+            }),
+        },
+        cue,
+        reply: maybe(rng, |rng| Reply {
+            due: any(rng),
+            requester: any(rng) as u8,
+        }),
+        reply_quiet: any(rng),
+    }
+}
+
+fn any_source(rng: &mut Rng) -> Source {
+    Source {
+        first: maybe(rng, |rng| any(rng) as u8),
+        last: maybe(rng, |rng| any(rng) as u8),
+        distance: any(rng) as u16,
+        heard: maybe(rng, |rng| Heard {
+            stamp: any(rng),
+            at: any(rng),
+        }),
+        names: std::array::from_fn(|_| any_record(rng)),
+    }
+}
+
+#[test]
+fn any_state_can_be_asked() {
+    // One part of a sound state replaced by anything: the answer is 3 exactly if
+    // the state is no longer sound, and nothing panics.
+    let mut rng = Rng(3);
+    let (mut sound, mut unsound) = (0, 0);
+    for _ in 0..6000 {
+        let mut end = sound_end(&mut rng);
+        let (s, n) = (rng.small(8) as usize, rng.small(64) as usize);
+        match rng.below(10) {
+            0 => end.host = any(&mut rng) as u8,
+            1 => end.params.c1 = any(&mut rng) as u8,
+            2 => end.params.d3 = any(&mut rng) as u8,
+            3 => end.clock = any(&mut rng),
+            4 => end.status = STATUSES[rng.below(5) as usize],
+            5 => end.next = any(&mut rng) as u8,
+            6 => end.sources[s] = any_source(&mut rng),
+            7 => end.sources[s].distance = any(&mut rng) as u16,
+            8 => end.sources[s].last = maybe(&mut rng, |rng| any(rng) as u8),
+            _ => end.sources[s].names[n] = any_record(&mut rng),
+        }
+        let event = any_event(&mut rng);
+        let expected = end.sound();
+        let (answer, _) = watched(&mut end, &event, CLOCK_MAX, &[7; DRAWS], OUTPUT_LEN);
+        assert_eq!(answer != Answer::Refused(3), expected);
+        if expected {
+            sound += 1;
+        } else {
+            unsound += 1;
+        }
+    }
+    assert!(sound > 500 && unsound > 500);
+}
+
+#[test]
+fn anything_at_all_can_be_asked() {
+    let mut rng = Rng(4);
+    for _ in 0..300 {
+        let mut p = [0; 6];
+        p.fill_with(|| rng.byte());
+        let mut end = End {
+            host: any(&mut rng) as u8,
+            params: params(p),
+            clock: any(&mut rng),
+            status: STATUSES[rng.below(5) as usize],
+            next: any(&mut rng) as u8,
+            sources: std::array::from_fn(|_| any_source(&mut rng)),
+        };
+        let event = any_event(&mut rng);
+        let draws = vec![0; any(&mut rng) as usize % 130];
+        let output = any(&mut rng) as usize % 300;
+        let clock = any(&mut rng);
+        let (answer, _) = watched(&mut end, &event, clock, &draws, output);
+        assert!(matches!(answer, Answer::Refused(1..=3)));
+    }
+}

@@ -1,0 +1,12 @@
+//! The twin's tests, by content.
+
+mod arbitrary;
+mod book;
+mod cases;
+mod events;
+mod house;
+mod messages;
+mod questions;
+mod runs;
+mod soundness;
+mod support;

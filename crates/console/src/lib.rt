@@ -1,14 +1,22 @@
 // Standard input as lines, and standard output through a buffer, for the programs that play scripts. No contract can say what is
 // read or written: what a line is, what it means and what is printed for it are proved in the crates lines, script and player.
+use end::End;
+use end::Params;
 use libc::STDIN_FILENO;
 use libc::STDOUT_FILENO;
 use lines::Fed;
+use message::Host;
 use player::Printed;
+use script::Call;
 use script::Line;
 ghost use mathlib.Core.Path.{_≡_};
 ghost use Prim.Native.Nat.{_≤_};
 ghost use lib.ListN.{length};
+ghost use Rattle.message.specs.Entry.{asHost};
+ghost use Rattle.end.specs.Opening.{houseParams, openingOf};
+ghost use Rattle.store.specs.Store.{messagesIn};
 ghost use Rattle.player.specs.House.{isBad};
+ghost use Rattle.player.specs.Promise.{Plays};
 ghost use Rattle.console.specs.Asked.{firstOf, askedOf};
 
 // What the input holds next: a line of so many bytes, which are in the line's buffer; a line that is longer than any that can be
@@ -34,6 +42,14 @@ pub struct Place {
 pub struct Found {
     pub next: Next,
     pub place: Place,
+}
+
+// What a played line gives, with how much of the output's buffer is used then.
+pub struct Turned {
+    pub printed: Printed,
+    pub end: End,
+    pub count: usize,
+    pub used: usize,
 }
 
 // How many bytes a printed line needs at most.
@@ -111,10 +127,10 @@ pub fn asked(next: Next, line: &[u8; 34]) -> Ask
     }
 }
 
-// Writes the first bytes of the output's buffer.
-fn write(output: &[u8], used: usize) {
-    if used <= output.len() {
-        io::write_all(STDOUT_FILENO, &output[..used]);
+// Writes the first bytes of a buffer to standard output.
+pub fn write(buffer: &[u8], used: usize) {
+    if used <= buffer.len() {
+        io::write_all(STDOUT_FILENO, &buffer[..used]);
     }
 }
 
@@ -144,6 +160,48 @@ pub fn print(output: &mut [u8; 4096], used: usize, end: u8, clock: u64, printed:
     ensures { λ r. ⌜ r ≤ 4096 ⌝ }
 {
     put(output, used, end, clock, printed)
+}
+
+// A host's end, freshly opened with the parameters of the house.
+pub fn fresh(host: u8) -> End
+    ensures { λ r. ⌜ r ≡ openingOf (asHost host) houseParams .end ⌝ }
+{
+    let params = Params {
+        c1: 9,
+        c2: 8,
+        c3: 4,
+        d1: 4,
+        d2: 4,
+        d3: 8,
+    };
+    let opened = link::open(Host(host), params);
+    opened.end
+}
+
+// Plays a line on the end that it names, and prints what it gives.
+pub fn turn(
+    e: End,
+    call: Call,
+    places: &mut [u8; 8192],
+    lengths: &mut [u8; 64],
+    count: usize,
+    output: &mut [u8; 4096],
+    used: usize,
+) -> Turned
+    ensures { λ r. ⌜ Plays e (call .verb) (call .clock) (messagesIn (now (places .entry)) (now (lengths .entry)) count) (record { printed = r .printed; end = r .end; count = r .count }) (messagesIn (now (places .exit)) (now (lengths .exit)) (r .count)) ⌝ }
+    ensures { λ r. ⌜ r .used ≤ 4096 ⌝ }
+{
+    let verb = call.verb;
+    let played = player::play(e, verb, call.clock, places, lengths, count);
+    let printed = played.printed;
+    let printed_to = print(output, used, call.end, call.clock, printed);
+    let end = played.end;
+    Turned {
+        printed,
+        end,
+        count: played.count,
+        used: printed_to,
+    }
 }
 
 // Writes out what is still in the output's buffer.

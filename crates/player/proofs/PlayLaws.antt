@@ -11,7 +11,6 @@ use lib.Dec.{ltb}
 use borrow.Author.Tests.{ltb-true, lt-ltb, le-ltb}
 use Rattle.numbers.specs.Number.{value}
 use Rattle.numbers.specs.Signed.{signed}
-use Rattle.message.specs.Cue.{stepsAt}
 use Rattle.end.specs.declared.Answer.{Answer}
 use Rattle.end.specs.declared.Answer.the-variants as answer
 use Rattle.end.specs.declared.End.{End}
@@ -25,7 +24,6 @@ use Rattle.answers.specs.declared.Shown.{Shown}
 use Rattle.answers.specs.declared.Shown.the-variants as shown
 use Rattle.store.specs.Store.{most, room, messageIn, firstMessages, messagesIn}
 use Rattle.store.proofs.StoreLaws.{length-first, first-at}
-use Rattle.player.specs.declared.Printed.{Printed}
 use Rattle.player.specs.declared.Printed.the-variants.{Bad, Shows}
 use Rattle.player.specs.declared.Told.{Told}
 use Rattle.player.specs.Play.{draws, eventFor, heardNumber, isKnown, Turn, turnOf, resultOf, playedOf, shows, stops}

@@ -8,7 +8,6 @@ use script::Verb;
 use store::MOST;
 use store::ROOM;
 ghost use mathlib.Core.Path.{_≡_};
-ghost use mathlib.Core.List.{_∷_, []};
 ghost use Prim.Native.Nat.{_*_, _≤_, _<_};
 ghost use lib.ListN.{length};
 ghost use Rattle.store.specs.Store.{most, room, messageIn, firstMessages, messagesIn};

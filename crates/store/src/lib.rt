@@ -3,8 +3,7 @@
 ghost use mathlib.Core.Path.{_≡_};
 ghost use mathlib.Core.List.{_∷_, [], _++_};
 ghost use Prim.Native.Nat.{suc, _+_, _*_, _≤_, _<_, min};
-ghost use lib.ListN.{length, getD, set};
-ghost use Rattle.numbers.specs.Splice.{splice};
+ghost use lib.ListN.{length, getD};
 ghost use Rattle.store.specs.Store.{room, firstMessages};
 
 // How many places there are, and how many bytes each has.

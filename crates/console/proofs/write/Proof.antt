@@ -8,7 +8,7 @@ use Rattle.console.proofs.write.Tie as tie
 slice-aggregate-write-all : tie.Need-slice-aggregate-write-all
 slice-aggregate-write-all c =
     let a = c .before .before .before .args in
-    sym (length-take-le (a .used) (a .output .now) (c .before .if1 .taken))
+    sym (length-take-le (a .used) (a .buffer .now) (c .before .if1 .taken))
 
 write-all-requires : tie.Need-write-all-requires
 write-all-requires c κs = search needs

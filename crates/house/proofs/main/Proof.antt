@@ -5,22 +5,16 @@ use Rattle.house.proofs.main.Statement.{statement}
 use Rattle.house.proofs.main.Tie as tie
 
 abbrev Inv-loop : tie.InvT-loop
-Inv-loop end0₀ end1₀ places₀ lengths₀ count₀ input₀ place₀ line₀ output₀ used₀ turns₀ end0 end1 places lengths count input place line output used turns = Unit {0}
+Inv-loop end0₀ end1₀ places₀ sizes₀ count₀ input₀ place₀ line₀ out₀ used₀ turns₀ end0 end1 places sizes count input place line out used turns = Unit {0}
 
 abbrev μ-loop : tie.MeasureT-loop
-μ-loop end0₀ end1₀ places₀ lengths₀ count₀ input₀ place₀ line₀ output₀ used₀ turns₀ end0 end1 places lengths count input place line output used turns = turns
+μ-loop end0₀ end1₀ places₀ sizes₀ count₀ input₀ place₀ line₀ out₀ used₀ turns₀ end0 end1 places sizes count input place line out used turns = turns
 
-params-requires : tie.Need-params-requires Inv-loop μ-loop
-params-requires c κs = tt
+fresh-requires : tie.Need-fresh-requires Inv-loop μ-loop
+fresh-requires c κs = tt
 
-open-requires : tie.Need-open-requires Inv-loop μ-loop
-open-requires c κs = tt
-
-params-requires-2 : tie.Need-params-requires-2 Inv-loop μ-loop
-params-requires-2 c κs = tt
-
-open-requires-2 : tie.Need-open-requires-2 Inv-loop μ-loop
-open-requires-2 c κs = tt
+fresh-requires-2 : tie.Need-fresh-requires-2 Inv-loop μ-loop
+fresh-requires-2 c κs = tt
 
 loop-holds : tie.Need-loop-holds Inv-loop μ-loop
 loop-holds c = tt
@@ -49,32 +43,26 @@ enum-told-2 c = search needs
 print-requires : tie.Need-print-requires Inv-loop μ-loop
 print-requires c κs = tt
 
-play-requires : tie.Need-play-requires Inv-loop μ-loop
-play-requires c κs = tt
-
-print-requires-2 : tie.Need-print-requires-2 Inv-loop μ-loop
-print-requires-2 c κs = tt
+turn-requires : tie.Need-turn-requires Inv-loop μ-loop
+turn-requires c κs = tt
 
 is-bad-requires : tie.Need-is-bad-requires Inv-loop μ-loop
 is-bad-requires c κs = tt
 
 loop-less : tie.Need-loop-less Inv-loop μ-loop
-loop-less c = omega (arith, c .before .before .before .before .before .before .before .before .before .before .before .before .before .before .before .before .before .before .before .before .before .before .loop-test .taken)
+loop-less c = omega (arith, c .before .before .before .before .before .before .before .before .before .before .before .before .before .before .before .before .before .before .before .before .before .loop-test .taken)
 
 loop-again : tie.Need-loop-again Inv-loop μ-loop
 loop-again c = tt
 
-play-requires-2 : tie.Need-play-requires-2 Inv-loop μ-loop
-play-requires-2 c κs = tt
-
-print-requires-3 : tie.Need-print-requires-3 Inv-loop μ-loop
-print-requires-3 c κs = tt
+turn-requires-2 : tie.Need-turn-requires-2 Inv-loop μ-loop
+turn-requires-2 c κs = tt
 
 is-bad-requires-2 : tie.Need-is-bad-requires-2 Inv-loop μ-loop
 is-bad-requires-2 c κs = tt
 
 loop-less-2 : tie.Need-loop-less-2 Inv-loop μ-loop
-loop-less-2 c = omega (arith, c .before .before .before .before .before .before .before .before .before .before .before .before .before .before .before .before .before .before .before .before .before .before .loop-test .taken)
+loop-less-2 c = omega (arith, c .before .before .before .before .before .before .before .before .before .before .before .before .before .before .before .before .before .before .before .before .before .loop-test .taken)
 
 loop-again-2 : tie.Need-loop-again-2 Inv-loop μ-loop
 loop-again-2 c = tt
@@ -91,10 +79,8 @@ main-spec =
     (tie.spec
     Inv-loop
     μ-loop
-    params-requires
-    open-requires
-    params-requires-2
-    open-requires-2
+    fresh-requires
+    fresh-requires-2
     loop-holds
     sub-turns
     next-line-requires
@@ -104,13 +90,11 @@ main-spec =
     enum-known-meant-2
     enum-told-2
     print-requires
-    play-requires
-    print-requires-2
+    turn-requires
     is-bad-requires
     loop-less
     loop-again
-    play-requires-2
-    print-requires-3
+    turn-requires-2
     is-bad-requires-2
     loop-less-2
     loop-again-2

@@ -1,0 +1,50 @@
+-- `soak::digest::names` meets its contract: the measure is the records that are left. Assumes nothing.
+use native.Mathlib.Omega.{arith}
+use Prim.Native.Nat.{_-_}
+use Rattle.soak.proofs.digest.names.Statement.{statement}
+use Rattle.soak.proofs.digest.names.Tie as tie
+
+abbrev Inv-loop : tie.InvT-loop
+Inv-loop d₀ records n₀ d n = Unit
+
+abbrev μ-loop : tie.MeasureT-loop
+μ-loop d₀ records n₀ d n = 64 - n
+
+loop-holds : tie.Need-loop-holds Inv-loop μ-loop
+loop-holds c = tt
+
+mul-r : tie.Need-mul-r Inv-loop μ-loop
+mul-r c = omega arith
+
+array-copy-out-r : tie.Need-array-copy-out-r Inv-loop μ-loop
+array-copy-out-r c = omega arith
+
+record-requires : tie.Need-record-requires Inv-loop μ-loop
+record-requires c κs = tt
+
+add-n : tie.Need-add-n Inv-loop μ-loop
+add-n c = omega arith
+
+loop-less : tie.Need-loop-less Inv-loop μ-loop
+loop-less c = omega arith
+
+loop-again : tie.Need-loop-again Inv-loop μ-loop
+loop-again c = tt
+
+returns : tie.Need-returns Inv-loop μ-loop
+returns c = tt
+
+pub names-spec : {M : Type 1} → statement M
+names-spec =
+    tie.close
+    (tie.spec
+    Inv-loop
+    μ-loop
+    loop-holds
+    mul-r
+    array-copy-out-r
+    record-requires
+    add-n
+    loop-less
+    loop-again
+    returns)

@@ -12,7 +12,14 @@ fn call(e: &mut End, event: &Event, clock: u64) {
 }
 
 fn opened(host: u8) -> End {
-    let params = Params { c1: 9, c2: 8, c3: 4, d1: 4, d2: 4, d3: 8 };
+    let params = Params {
+        c1: 9,
+        c2: 8,
+        c3: 4,
+        d1: 4,
+        d2: 4,
+        d3: 8,
+    };
     End::open(host, params).1
 }
 
@@ -96,6 +103,10 @@ fn run(kind: &str, n: u64) -> u64 {
 
 fn main() {
     let args: Vec<String> = std::env::args().collect();
+    if args[1] == "size" {
+        print!("{}", std::mem::size_of::<End>());
+        return;
+    }
     let n = 10u64.pow(args[2].parse().expect("a digit"));
     print!("{}", run(&args[1], n));
 }

@@ -12,15 +12,7 @@ fn call(e: &mut End, event: &Event, clock: u64) {
 }
 
 fn opened(host: u8) -> End {
-    let params = Params {
-        c1: 9,
-        c2: 8,
-        c3: 4,
-        d1: 4,
-        d2: 4,
-        d3: 8,
-    };
-    End::open(host, params).1
+    End::open(host, Params::STANDARD).1
 }
 
 fn member(host: u8) -> End {

@@ -1,5 +1,5 @@
 -- The cases of the steps on an arrival, one at a time, as what a call gives.
-use mathlib.Core.Path.{_≡_, ap, _∙_}
+use mathlib.Core.Path.{_≡_, ap, _∙_, subst⁻¹}
 use mathlib.Core.Bool.{Bool, true, false, _&&_, _||_}
 use mathlib.Core.List.{List}
 use Prim.Native.Nat.{ℕ, _≤_, _<_}
@@ -23,10 +23,32 @@ use Rattle.end.specs.Round.{Timing, nextRound}
 use Rattle.end.specs.Names.{setRound, setReply, quietReply}
 use Rattle.end.specs.Arrival.{stepSource, opened, taken, dataOf, passedOver, heldRequest, backedOff, learned, requestOf, repairOf}
 use Rattle.end.specs.Answer.{answerOf, steppedOf}
+use Rattle.end.proofs.Bounds.{Ranges}
+use Rattle.end.proofs.Ready.{Ready, ranges}
+use Rattle.parts.specs.declared.Change.{Change}
+use Rattle.parts.specs.Change.{changed}
+use Rattle.parts.proofs.ChangeLaws.{unchanged}
 
 -- what a call gives that leaves this end
 abbrev pub gives : Answer → End → Stepped
 gives a e = record { answer = a; end = e }
+
+-- the one source that a step is given
+module _ (e : End) (h : Host) (s : Source) (p : s ≡ sourceAt e h) where
+  -- it stays as it was, and so does the end
+  pub stays : (c : Change) → c ≡ record { answer = answer.Ignored; source = s } → changed e h c ≡ gives answer.Ignored e
+  stays c q =
+      ap (changed e h) q
+      ∙ ap (λ (x : Source). gives answer.Ignored (withSource e h x)) p
+      ∙ ap (gives answer.Ignored) (unchanged e h)
+
+  -- it becomes what the step makes of the end's
+  pub becomes : (a : Answer) (f : Source → Source) (x : Source) → x ≡ f s → changed e h (record { answer = a; source = x }) ≡ gives a (withSource e h (f (sourceAt e h)))
+  becomes a f x q = ap (λ (y : Source). gives a (withSource e h y)) (q ∙ ap f p)
+
+  -- the ranges of its waits
+  pub its-ranges : Ready e → h .0 < 8 → Ranges (e .params) (e .clock) (s .distance)
+  its-ranges r l = subst⁻¹ (λ (x : Source). Ranges (e .params) (e .clock) (x .distance)) p (ranges e r h l)
 
 module _ (tm : Timing) (name : Name) (cue : List ℕ) (e : End) (x : Span) where
   -- the source has no first

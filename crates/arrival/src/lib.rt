@@ -1,25 +1,32 @@
-// What a member does with a message of another end: each function is one definition of the crate end, specs/Arrival.antt. They are
+// What a member does with a message about a name: each function is one definition of the crate end, specs/Arrival.antt. A step is given
+// the end and the one source that it may change, and gives back its answer and that source: no other source is copied. They are
 // helpers of the crates above and no calls of the product: each asks in its `requires` for what soundness and the questions give.
 use end::Answer;
 use end::End;
+use end::Params;
 use end::Slot;
 use end::Source;
 use end::Span;
-use end::Stepped;
 use message::CueNumber;
 use message::Host;
 use message::Name;
+use parts::Change;
 ghost use mathlib.Core.Path.{_≡_};
+ghost use mathlib.Core.Bool.{_&&_, _||_};
 ghost use Prim.Native.Nat.{_<_};
 ghost use lib.ListN.{length};
-ghost use Rattle.end.specs.State.{sourceAt, distanceTo, withSource};
+ghost use lib.Dec.{ltb};
+ghost use Rattle.message.specs.Question.{sameHost};
+ghost use Rattle.end.specs.State.{sourceAt};
 ghost use Rattle.end.specs.Round.{nextRound};
-ghost use Rattle.end.specs.Names.{setRound, quietReply};
+ghost use Rattle.end.specs.Names.{setRound};
 ghost use Rattle.end.specs.declared.Span.the-variants.{Open};
-ghost use Rattle.end.specs.Arrival.{stepSource, opened, taken, dataOf, passedOver, heldRequest, backedOff, learned, requestOf, repairOf};
+ghost use Rattle.end.specs.Arrival.{opened, taken, dataOf, heldRequest, backedOff, learned, requestOf, repairOf};
 ghost use Rattle.end.specs.Answer.{steppedOf};
+ghost use Rattle.end.proofs.Bounds.{Ranges};
 ghost use Rattle.end.proofs.Ready.{Ready};
 ghost use Rattle.parts.specs.Timed.{timed, Names};
+ghost use Rattle.parts.specs.Change.{changed};
 
 // The first cue of a source.
 fn open_source(s: Source, name: Name, cue: [u8; 24]) -> Source
@@ -39,250 +46,207 @@ fn open_source(s: Source, name: Name, cue: [u8; 24]) -> Source
 }
 
 // A later cue of an open source: the numbers between are asked for, and it is held.
-fn take_cue(e: End, draws: &[u8], name: Name, cue: [u8; 24]) -> Source
-    requires { ⌜ Ready e ⌝ }
-    requires { ⌜ Names name (length (now draws)) ⌝ }
-    ensures { λ r. ⌜ r ≡ taken (timed e (now (draws .entry))) name cue (sourceAt e (name .source)) ⌝ }
+fn take_cue(s: Source, p: Params, clock: u64, draws: &[u8], name: Name, cue: [u8; 24]) -> Source
+    requires { ⌜ Ranges p clock (s .distance) ⌝ }
+    requires { ⌜ (length (now draws) ≡ 64) × (name .number .0 < 64) ⌝ }
+    ensures { λ r. ⌜ r ≡ taken (record { params = p; clock = clock; draws = now (draws .entry) }) name cue s ⌝ }
 {
-    let s = parts::source_of(e, name.source);
-    let risen = names::rise_to(s, e.params, e.clock, draws, name.number);
+    let risen = names::rise_to(s, p, clock, draws, name.number);
     names::hold_cue(risen, name.number, cue)
 }
 
 // DATA.
-pub fn data(e: End, draws: &[u8], name: Name, cue: [u8; 24]) -> Stepped
+pub fn data(e: End, s: Source, draws: &[u8], name: Name, cue: [u8; 24]) -> Change
     requires { ⌜ Ready e ⌝ }
     requires { ⌜ Names name (length (now draws)) ⌝ }
-    ensures { λ r. ⌜ r ≡ steppedOf (dataOf (timed e (now (draws .entry))) name cue e (sourceAt e (name .source) .span)) ⌝ }
+    requires { ⌜ s ≡ sourceAt e (name .source) ⌝ }
+    ensures { λ r. ⌜ changed e (name .source) r ≡ steppedOf (dataOf (timed e (now (draws .entry))) name cue e (sourceAt e (name .source) .span)) ⌝ }
 {
-    let s = parts::source_of(e, name.source);
     let span = s.span;
     match span {
-        Span::Closed => {
-            let s1 = open_source(s, name, cue);
-            Stepped {
-                answer: Answer::Got(name),
-                end: parts::with_source(e, name.source, s1),
-            }
-        }
-        Span::Open(first, last) => {
+        Span::Closed => Change {
+            answer: Answer::Got(name),
+            source: open_source(s, name, cue),
+        },
+        Span::Open(first, _) => {
             let at = name.number.0 as usize;
             let r = s.names[at];
             let slot = r.slot;
             if (name.number.0 < first.0) | parts::is_held(slot) {
-                return Stepped {
-                    answer: Answer::Ignored,
-                    end: e,
-                };
+                return parts::unchanged(s);
             }
-            let s1 = take_cue(e, draws, name, cue);
-            Stepped {
+            Change {
                 answer: Answer::Got(name),
-                end: parts::with_source(e, name.source, s1),
+                source: take_cue(s, e.params, e.clock, draws, name, cue),
             }
         }
     }
 }
 
 // RQST of a held cue.
-fn held_request(e: End, draws: &[u8], requester: Host, name: Name) -> Stepped
+fn held_request(e: End, s: Source, draws: &[u8], requester: Host, name: Name) -> Change
     requires { ⌜ Ready e ⌝ }
     requires { ⌜ Names name (length (now draws)) ⌝ }
-    requires { ⌜ requester .0 < 8 ⌝ }
-    ensures { λ r. ⌜ r ≡ steppedOf (heldRequest (timed e (now (draws .entry))) requester name e) ⌝ }
+    requires { ⌜ (requester .0 < 8) × (s ≡ sourceAt e (name .source)) ⌝ }
+    ensures { λ r. ⌜ changed e (name .source) r ≡ steppedOf (heldRequest (timed e (now (draws .entry))) requester name e) ⌝ }
 {
-    let s = parts::source_of(e, name.source);
     let at = name.number.0 as usize;
     let r = s.names[at];
     let reply = r.reply;
     if parts::is_no(reply) & (r.quiet <= e.clock) {
         let d = parts::distance_of(e, requester);
-        let s1 = names::set_reply(s, e.params, e.clock, draws, name.number, d, requester);
-        Stepped {
+        Change {
             answer: Answer::Done,
-            end: parts::with_source(e, name.source, s1),
+            source: names::set_reply(s, e.params, e.clock, draws, name.number, d, requester),
         }
     } else {
-        Stepped {
-            answer: Answer::Ignored,
-            end: e,
-        }
+        parts::unchanged(s)
     }
 }
 
 // The next round of a name that waits, with the source's distance.
-pub fn back_off(e: End, draws: &[u8], name: Name, round: u8) -> End
-    requires { ⌜ Ready e ⌝ }
-    requires { ⌜ Names name (length (now draws)) ⌝ }
-    ensures { λ r. ⌜ r ≡ stepSource e name (setRound (timed e (now (draws .entry))) (name .number) (nextRound round)) ⌝ }
+fn back_off(s: Source, p: Params, clock: u64, draws: &[u8], n: CueNumber, round: u8) -> Source
+    requires { ⌜ Ranges p clock (s .distance) ⌝ }
+    requires { ⌜ (length (now draws) ≡ 64) × (n .0 < 64) ⌝ }
+    ensures { λ r. ⌜ r ≡ setRound (record { params = p; clock = clock; draws = now (draws .entry) }) n (nextRound round) s ⌝ }
 {
-    let s = parts::source_of(e, name.source);
     let k = rounds::next_round(round);
-    let s1 = names::set_round(s, e.params, e.clock, draws, name.number, k);
-    parts::with_source(e, name.source, s1)
+    names::set_round(s, p, clock, draws, n, k)
 }
 
 // RQST of a cue not held, up to last.
-fn waiting_request(e: End, draws: &[u8], name: Name, slot: Slot) -> Stepped
+fn waiting_request(e: End, s: Source, draws: &[u8], name: Name, slot: Slot) -> Change
     requires { ⌜ Ready e ⌝ }
     requires { ⌜ Names name (length (now draws)) ⌝ }
-    ensures { λ r. ⌜ r ≡ steppedOf (backedOff (timed e (now (draws .entry))) name e slot) ⌝ }
+    requires { ⌜ s ≡ sourceAt e (name .source) ⌝ }
+    ensures { λ r. ⌜ changed e (name .source) r ≡ steppedOf (backedOff (timed e (now (draws .entry))) name e slot) ⌝ }
 {
     match slot {
-        Slot::Empty => Stepped {
-            answer: Answer::Ignored,
-            end: e,
-        },
-        Slot::Held => Stepped {
-            answer: Answer::Ignored,
-            end: e,
-        },
+        Slot::Empty => parts::unchanged(s),
+        Slot::Held => parts::unchanged(s),
         Slot::Waiting(q) => {
             if q.quiet < e.clock {
-                Stepped {
+                Change {
                     answer: Answer::Done,
-                    end: back_off(e, draws, name, q.round),
+                    source: back_off(s, e.params, e.clock, draws, name.number, q.round),
                 }
             } else {
-                Stepped {
-                    answer: Answer::Ignored,
-                    end: e,
-                }
+                parts::unchanged(s)
             }
         }
     }
 }
 
 // The numbers up to this one are asked for, this one in round 2.
-fn learn(e: End, draws: &[u8], name: Name) -> Source
-    requires { ⌜ Ready e ⌝ }
-    requires { ⌜ Names name (length (now draws)) ⌝ }
-    ensures { λ r. ⌜ r ≡ learned (timed e (now (draws .entry))) name (sourceAt e (name .source)) ⌝ }
+fn learn(s: Source, p: Params, clock: u64, draws: &[u8], name: Name) -> Source
+    requires { ⌜ Ranges p clock (s .distance) ⌝ }
+    requires { ⌜ (length (now draws) ≡ 64) × (name .number .0 < 64) ⌝ }
+    ensures { λ r. ⌜ r ≡ learned (record { params = p; clock = clock; draws = now (draws .entry) }) name s ⌝ }
 {
-    let s = parts::source_of(e, name.source);
-    let risen = names::rise_to(s, e.params, e.clock, draws, name.number);
-    names::set_round(risen, e.params, e.clock, draws, name.number, 2)
+    let risen = names::rise_to(s, p, clock, draws, name.number);
+    names::set_round(risen, p, clock, draws, name.number, 2)
 }
 
 // Below first, or own above last.
-fn is_passed_over(e: End, name: Name, first: CueNumber, last: CueNumber) -> bool
-    ensures { λ r. ⌜ r ≡ passedOver e name (first .0) (last .0) ⌝ }
+fn is_passed_over(me: Host, name: Name, first: CueNumber, last: CueNumber) -> bool
+    ensures { λ r. ⌜ r ≡ (ltb (name .number .0) (first .0) || (sameHost (name .source) me && ltb (last .0) (name .number .0))) ⌝ }
 {
-    (name.number.0 < first.0) | ((name.source.0 == e.host.0) & (last.0 < name.number.0))
+    (name.number.0 < first.0) | ((name.source.0 == me.0) & (last.0 < name.number.0))
 }
 
 // RQST of an open source.
 fn open_request(
     e: End,
+    s: Source,
     draws: &[u8],
     requester: Host,
     name: Name,
     first: CueNumber,
     last: CueNumber,
-) -> Stepped
+) -> Change
     requires { ⌜ Ready e ⌝ }
     requires { ⌜ Names name (length (now draws)) ⌝ }
-    requires { ⌜ requester .0 < 8 ⌝ }
-    ensures { λ r. ⌜ r ≡ steppedOf (requestOf (timed e (now (draws .entry))) requester name e (Open first last)) ⌝ }
+    requires { ⌜ (requester .0 < 8) × (s ≡ sourceAt e (name .source)) ⌝ }
+    ensures { λ r. ⌜ changed e (name .source) r ≡ steppedOf (requestOf (timed e (now (draws .entry))) requester name e (Open first last)) ⌝ }
 {
-    if is_passed_over(e, name, first, last) {
-        return Stepped {
-            answer: Answer::Ignored,
-            end: e,
-        };
+    if is_passed_over(e.host, name, first, last) {
+        return parts::unchanged(s);
     }
-    let slot = parts::slot_of(e, name);
+    let at = name.number.0 as usize;
+    let r = s.names[at];
+    let slot = r.slot;
     if parts::is_held(slot) {
-        return held_request(e, draws, requester, name);
+        return held_request(e, s, draws, requester, name);
     }
     if last.0 < name.number.0 {
-        let s1 = learn(e, draws, name);
-        return Stepped {
+        return Change {
             answer: Answer::Done,
-            end: parts::with_source(e, name.source, s1),
+            source: learn(s, e.params, e.clock, draws, name),
         };
     }
-    waiting_request(e, draws, name, slot)
+    waiting_request(e, s, draws, name, slot)
 }
 
 // RQST.
-pub fn request(e: End, draws: &[u8], requester: Host, name: Name) -> Stepped
+pub fn request(e: End, s: Source, draws: &[u8], requester: Host, name: Name) -> Change
     requires { ⌜ Ready e ⌝ }
     requires { ⌜ Names name (length (now draws)) ⌝ }
-    requires { ⌜ requester .0 < 8 ⌝ }
-    ensures { λ r. ⌜ r ≡ steppedOf (requestOf (timed e (now (draws .entry))) requester name e (sourceAt e (name .source) .span)) ⌝ }
+    requires { ⌜ (requester .0 < 8) × (s ≡ sourceAt e (name .source)) ⌝ }
+    ensures { λ r. ⌜ changed e (name .source) r ≡ steppedOf (requestOf (timed e (now (draws .entry))) requester name e (sourceAt e (name .source) .span)) ⌝ }
 {
-    let span = parts::span_of(e, name.source);
+    let span = s.span;
     match span {
-        Span::Closed => Stepped {
-            answer: Answer::Ignored,
-            end: e,
-        },
-        Span::Open(first, last) => open_request(e, draws, requester, name, first, last),
+        Span::Closed => parts::unchanged(s),
+        Span::Open(first, last) => open_request(e, s, draws, requester, name, first, last),
     }
-}
-
-// The source of a repair with its cue taken, if it was not held, and without a reply.
-pub fn repaired(e: End, draws: &[u8], requester: Host, name: Name, s: Source) -> End
-    requires { ⌜ Ready e ⌝ }
-    requires { ⌜ Names name (length (now draws)) ⌝ }
-    requires { ⌜ requester .0 < 8 ⌝ }
-    ensures { λ r. ⌜ r ≡ withSource e (name .source) (quietReply (timed e (now (draws .entry))) (name .number) (distanceTo e requester) s) ⌝ }
-{
-    let d = parts::distance_of(e, requester);
-    let s1 = names::quiet_reply(s, e.params, e.clock, draws, name.number, d);
-    parts::with_source(e, name.source, s1)
 }
 
 // REPL of an open source.
 fn open_repair(
     e: End,
+    s: Source,
     draws: &[u8],
     requester: Host,
     name: Name,
     cue: [u8; 24],
     first: CueNumber,
     last: CueNumber,
-) -> Stepped
+) -> Change
     requires { ⌜ Ready e ⌝ }
     requires { ⌜ Names name (length (now draws)) ⌝ }
-    requires { ⌜ requester .0 < 8 ⌝ }
-    ensures { λ r. ⌜ r ≡ steppedOf (repairOf (timed e (now (draws .entry))) requester name cue e (Open first last)) ⌝ }
+    requires { ⌜ (requester .0 < 8) × (s ≡ sourceAt e (name .source)) ⌝ }
+    ensures { λ r. ⌜ changed e (name .source) r ≡ steppedOf (repairOf (timed e (now (draws .entry))) requester name cue e (Open first last)) ⌝ }
 {
-    if is_passed_over(e, name, first, last) {
-        return Stepped {
-            answer: Answer::Ignored,
-            end: e,
-        };
+    if is_passed_over(e.host, name, first, last) {
+        return parts::unchanged(s);
     }
-    let slot = parts::slot_of(e, name);
+    let at = name.number.0 as usize;
+    let r = s.names[at];
+    let slot = r.slot;
+    let d = parts::distance_of(e, requester);
     if parts::is_held(slot) {
-        let s = parts::source_of(e, name.source);
-        return Stepped {
+        return Change {
             answer: Answer::Done,
-            end: repaired(e, draws, requester, name, s),
+            source: names::quiet_reply(s, e.params, e.clock, draws, name.number, d),
         };
     }
-    let s1 = take_cue(e, draws, name, cue);
-    Stepped {
+    let s1 = take_cue(s, e.params, e.clock, draws, name, cue);
+    Change {
         answer: Answer::Got(name),
-        end: repaired(e, draws, requester, name, s1),
+        source: names::quiet_reply(s1, e.params, e.clock, draws, name.number, d),
     }
 }
 
 // REPL.
-pub fn repair(e: End, draws: &[u8], requester: Host, name: Name, cue: [u8; 24]) -> Stepped
+pub fn repair(e: End, s: Source, draws: &[u8], requester: Host, name: Name, cue: [u8; 24]) -> Change
     requires { ⌜ Ready e ⌝ }
     requires { ⌜ Names name (length (now draws)) ⌝ }
-    requires { ⌜ requester .0 < 8 ⌝ }
-    ensures { λ r. ⌜ r ≡ steppedOf (repairOf (timed e (now (draws .entry))) requester name cue e (sourceAt e (name .source) .span)) ⌝ }
+    requires { ⌜ (requester .0 < 8) × (s ≡ sourceAt e (name .source)) ⌝ }
+    ensures { λ r. ⌜ changed e (name .source) r ≡ steppedOf (repairOf (timed e (now (draws .entry))) requester name cue e (sourceAt e (name .source) .span)) ⌝ }
 {
-    let span = parts::span_of(e, name.source);
+    let span = s.span;
     match span {
-        Span::Closed => Stepped {
-            answer: Answer::Ignored,
-            end: e,
-        },
-        Span::Open(first, last) => open_repair(e, draws, requester, name, cue, first, last),
+        Span::Closed => parts::unchanged(s),
+        Span::Open(first, last) => open_repair(e, s, draws, requester, name, cue, first, last),
     }
 }

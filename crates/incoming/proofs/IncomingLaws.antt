@@ -3,12 +3,13 @@
 use mathlib.Core.Path.{_≡_, refl, sym, ap, _∙_, subst}
 use Prim.Native.Nat.{ℕ, _<_}
 use native.Mathlib.Omega.{arith}
-use mathlib.Core.Bool.{Bool, true, false, cond, _||_}
+use mathlib.Core.Bool.{Bool, true, false, cond, _&&_, _||_}
 use mathlib.Core.Logic.{⊎-elim}
 use mathlib.Core.List.{List, [], _∷_, _++_}
 use lib.ListN.{length, take, drop, getD}
 use lib.Dec.{ltb, eqb}
 use borrow.Author.Tests.{eqb-true, ltb-true, eq-eqb, ne-eqb}
+use Rattle.numbers.proofs.Cases.{by-flag}
 use Rattle.message.specs.declared.Host.{Host}
 use Rattle.message.specs.declared.Name.{Name}
 use Rattle.message.specs.declared.NameEntry.{NameEntry}
@@ -16,7 +17,7 @@ use Rattle.message.specs.declared.Counts.{Counts}
 use Rattle.message.specs.declared.Message.{Message}
 use Rattle.message.specs.Section.{all}
 use Rattle.message.specs.Entry.{blankName, blankCue}
-use Rattle.message.specs.Message.{DATA, RQST, REPL, meaningOf}
+use Rattle.message.specs.Message.{DATA, RQST, REPL, SESS, meaningOf}
 use Rattle.message.specs.Question.{countsAre, kindHasCounts, hostIn, numberIn, nameIn, inRange, sameHost}
 use Rattle.message.proofs.QuestionLaws.{and-both, or-either}
 use Rattle.end.specs.declared.Slot.{Slot}
@@ -33,6 +34,7 @@ use Rattle.end.specs.Answer.{answerOf, steppedOf, bufferOf}
 use Rattle.session.proofs.SessionLaws.{in-range}
 use Rattle.arrival.proofs.ArrivalLaws.{MayReply}
 use Rattle.incoming.specs.Got.{isGot}
+use Rattle.incoming.specs.Hearing.{entryOf}
 
 -- ---- the counts of a kind
 
@@ -60,6 +62,20 @@ module _ (kind : ℕ) (c : Counts) (h : kindHasCounts kind c ≡ true) where
   pub repair-counts : kind ≡ REPL → (c .names ≡ 1) × (c .cues ≡ 1)
   repair-counts e = counts-are c 1 1 (at-kind REPL e)
 
+  -- the kind that is left
+  pub repair-left : (kind ≡ DATA → ⊥) → (kind ≡ RQST → ⊥) → (kind ≡ SESS → ⊥) → kind ≡ REPL
+  repair-left d r s =
+      let t : ((eqb kind REPL && countsAre c 1 1) || false) ≡ true = rw (ne-eqb kind DATA d, ne-eqb kind RQST r, ne-eqb kind SESS s) at h in
+      let u : (eqb kind REPL && countsAre c 1 1) ≡ true = ⊎-elim (λ p. p) (λ p. absurd (false-true p)) (or-either (eqb kind REPL && countsAre c 1 1) false t) in
+      eqb-true kind REPL (and-both (eqb kind REPL) (countsAre c 1 1) u .0)
+
+  -- every kind but SESS has one name
+  pub one-name : (kind ≡ SESS → ⊥) → c .names ≡ 1
+  one-name s =
+      by-flag (eqb kind DATA) (λ d. data-counts (eqb-true kind DATA d) .0)
+      (λ d. by-flag (eqb kind RQST) (λ r. request-counts (eqb-true kind RQST r))
+      (λ r. repair-counts (repair-left (λ p. false-true (sym d ∙ eq-eqb kind DATA p)) (λ p. false-true (sym r ∙ eq-eqb kind RQST p)) s) .0))
+
 -- ---- the name and the cue
 
 first-place : {A : Type 0} (l : List A) (d : A) → getD (take 1 l) 0 d ≡ getD l 0 d
@@ -75,10 +91,6 @@ all-first : {A : Type 0} (p : A → Bool) (l : List A) (d : A) → all p l ≡ t
 unfolding all
 all-first p [] d h k = k
 all-first p (a ∷ l) d h k = and-both (p a) (all p l) h .0
-
--- the name's entry, where the counts say that there is one
-abbrev pub entryOf : Message → NameEntry
-entryOf m = getD (m .names) 0 blankName
 
 pub record EntryIn (n : NameEntry) : Type 0 where
   pub source : n .name .source .0 < 8
@@ -124,15 +136,15 @@ module _ (tm : Timing) (m : Message) (e : End) where
           rw (ne-eqb (m .kind) DATA notData, ne-eqb (m .kind) RQST notRequest, eq-eqb (m .kind) REPL k)
           (λ i. steppedOf (repairOf tm (n i .host) (n i .name) (cue-is m (c .1) i) e (sourceAt e (n i .name .source) .span)))
 
-      pub session-step : (m .kind ≡ REPL → ⊥) → messageStep tm (meaningOf m) e ≡ sessionOf tm (meaningOf m) e
-      unfolding messageStep
-      session-step notRepair = rw (ne-eqb (m .kind) DATA notData, ne-eqb (m .kind) RQST notRequest, ne-eqb (m .kind) REPL notRepair)
+  pub session-step : m .kind ≡ SESS → messageStep tm (meaningOf m) e ≡ sessionOf tm (meaningOf m) e
+  unfolding messageStep
+  session-step k = rw k
 
-  pub arrival-own : m .sender .0 ≡ e .host .0 → steppedOf (arrivalOf tm (meaningOf m) e) ≡ record { answer = answer.Ignored; end = e }
-  unfolding arrivalOf answerOf
+  pub arrival-own : m .sender .0 ≡ e .host .0 → arrivalOf tm (meaningOf m) e ≡ give Ignored e
+  unfolding arrivalOf
   arrival-own k = rw (eq-eqb (m .sender .0) (e .host .0) k)
 
-  pub arrival-other : (m .sender .0 ≡ e .host .0 → ⊥) → steppedOf (arrivalOf tm (meaningOf m) e) ≡ steppedOf (messageStep tm (meaningOf m) e)
+  pub arrival-other : (m .sender .0 ≡ e .host .0 → ⊥) → arrivalOf tm (meaningOf m) e ≡ messageStep tm (meaningOf m) e
   unfolding arrivalOf
   arrival-other k = rw (ne-eqb (m .sender .0) (e .host .0) k)
 
@@ -197,7 +209,7 @@ module _ (cue : List ℕ) where
 
 -- a message hands out its own cue
 module _ (tm : Timing) (m : Message) (e : End) (h : kindHasCounts (m .kind) (m .counts) ≡ true) where
-  message-hands : Hands (m .cue) (messageStep tm (meaningOf m) e)
+  pub message-hands : Hands (m .cue) (messageStep tm (meaningOf m) e)
   unfolding messageStep
   message-hands =
       let x = sourceAt e (messageName (meaningOf m) .source) .span in
@@ -211,7 +223,3 @@ module _ (tm : Timing) (m : Message) (e : End) (h : kindHasCounts (m .kind) (m .
       (sym (cue-is m (repair-counts (m .kind) (m .counts) h (eqb-true (m .kind) REPL k) .1)))
       (repair-hands (m .cue) tm (messageName (meaningOf m)) e (messageHost (meaningOf m)) x))
       (done-hands (m .cue) _)))
-
-  pub arrival-hands : Hands (m .cue) (arrivalOf tm (meaningOf m) e)
-  unfolding arrivalOf
-  arrival-hands = cond-hands (m .cue) (sameHost (m .sender) (e .host)) (λ t. ignored-hands (m .cue) e) message-hands

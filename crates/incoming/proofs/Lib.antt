@@ -1,1 +1,2 @@
 pub mod IncomingLaws
+pub mod ArrivingLaws

@@ -7,7 +7,8 @@ use Prim.Native.Nat.{ℕ, _≤_, _<_}
 use native.Mathlib.Omega.{arith}
 use lib.ListN.{length}
 use lib.Dec.{eqb, leb, ltb}
-use borrow.Author.Tests.{eqb-true, leb-true, ltb-true}
+use borrow.Author.Tests.{eqb-true, eqb-false, leb-true, ltb-true}
+use Rattle.numbers.proofs.Cases.{by-flag}
 use Rattle.message.specs.Cue.{cueIn}
 use Rattle.message.specs.Question.{Question, ask, firstNo, ticksIn}
 use Rattle.message.proofs.QuestionLaws.{all-passed}
@@ -20,6 +21,7 @@ use Rattle.end.specs.Arrival.{Effect, Out, Got, Done, Ignored, Nothing, Step, g
 use Rattle.end.specs.Event.{Event, Moving, Move, Send, moves, movedEnd, moveOf, ifMember, actOf, stepOf, anyQuestions, ownQuestions, questionOf, Refused, Did, Result, done, timing, eventOf}
 use Rattle.end.specs.Answer.{answerOf, steppedOf, calledOf, bufferOf, answerNumber}
 use Rattle.end.proofs.SoundLaws.{sound-end}
+use Rattle.parts.specs.Change as change
 use Rattle.parts.proofs.Settled.{Settled, settled}
 
 -- ---- the questions
@@ -72,6 +74,16 @@ module _ (e : End) (ev : Event) (clock room draws : ℕ) where
   unfolding questionOf
   asked-own q h o = first-of five (ownQuestions ev e) numbers .1 h ∙ o
 
+  -- the first no of the two, one after the other
+  pub asked-first : (any own : ℕ) → firstNo five ≡ any → firstNo (ownQuestions ev e) ≡ own → questionOf e ev clock room draws ≡ cond (eqb any 0) own any
+  asked-first any own h o =
+      by-flag (eqb any 0)
+      (λ t. asked-own own (h ∙ eqb-true any 0 t) o ∙ sym (rw t))
+      (λ t. asked-any any h (above-zero any t) ∙ sym (rw t))
+    where
+      above-zero : (k : ℕ) → eqb k 0 ≡ false → 0 < k
+      above-zero k t = let n : k ≡ 0 → ⊥ = eqb-false k 0 t in omega (arith, n)
+
   pub passed : questionOf e ev clock room draws ≡ 0 → Passed e ev clock room draws
   unfolding questionOf
   passed h =
@@ -110,6 +122,11 @@ did-number (Got name cue) = refl
 did-number Done = refl
 did-number Ignored = refl
 did-number Nothing = refl
+
+-- the number of a call by its first no
+by-number : (q : ℕ) (step : Step) (e : End) → answerNumber (answerOf (cond (eqb q 0) (done step) (record { outcome = Refused q; left = e }) .outcome)) ≡ q
+unfolding answerOf
+by-number q step e = by-flag (eqb q 0) (λ t. rw t (did-number (step .effect) ∙ sym (eqb-true q 0 t))) (λ t. rw t)
 
 module _ (ev : Event) (e : End) (clock : ℕ) (draws out : List ℕ) where
   abbrev pub Called : Result
@@ -157,18 +174,14 @@ module _ (ev : Event) (e : End) (clock : ℕ) (draws out : List ℕ) where
   unfolding byStatus
   call-acts step r last h x a p l = promised (done step) r last (unrefused h ∙ ap byStatus x ∙ ap done a) p l (did-number (step .effect) ∙ sym h)
 
-  -- outside membership: Ignored, and the clock is set
-  pub call-aside : (step : Step) (r : Stepped) → Asked ≡ 0 → isCrashed (e .status) ≡ false → isMember (e .status) ≡ false
-      → actOf (timing e clock draws) ev (withClock e clock) ≡ ifMember (withClock e clock) step → r ≡ record { answer = answer.Ignored; end = withClock e clock } → Promise r out
-  unfolding answerOf bufferOf
-  call-aside step r h x m a p =
-      call-acts (give Ignored (withClock e clock)) r out h x (a ∙ ap (λ (b : Bool). cond b step (give Ignored (withClock e clock))) m) p refl
-
-  -- a member takes the step
-  pub call-member : (step : Step) (r : Stepped) (last : List ℕ) → Asked ≡ 0 → isCrashed (e .status) ≡ false → isMember (e .status) ≡ true
-      → actOf (timing e clock draws) ev (withClock e clock) ≡ ifMember (withClock e clock) step → r ≡ steppedOf step → last ≡ bufferOf (Did (step .effect)) out → Promise r last
-  call-member step r last h x m a p l =
-      call-acts step r last h x (a ∙ ap (λ (b : Bool). cond b step (give Ignored (withClock e clock))) m) p l
+  -- an event that only a member takes, by its first no
+  pub call-by-number : (q : ℕ) (step : Step) (r : Stepped) (last : List ℕ) → Asked ≡ q → actOf (timing e clock draws) ev (withClock e clock) ≡ ifMember (withClock e clock) step
+      → r ≡ calledOf (change.called q e clock step) → last ≡ bufferOf (change.called q e clock step .outcome) out → Promise r last
+  unfolding byNumber stepOf
+  call-by-number q step r last h a p l =
+      let same : Called ≡ change.called q e clock step =
+      called ∙ ap byNumber h ∙ ap (λ (x : Step). cond (eqb q 0) (done (cond (isCrashed (e .status)) (give Ignored e) x)) (record { outcome = Refused q; left = e })) a in
+      promised (change.called q e clock step) r last same p l (by-number q (cond (isCrashed (e .status)) (give Ignored e) (ifMember (withClock e clock) step)) e ∙ sym h)
 
 -- ---- a move: nothing is written
 writes-nothing : (b : Bool) (to at : End) (out : List ℕ) → out ≡ bufferOf (Did (cond b (give Done to) (give Ignored at) .effect)) out

@@ -20,6 +20,10 @@ pub own-reading : (s : List ℕ) (e : End) (k : ℕ) → readRefusal s ≡ k →
 unfolding readRefusal
 own-reading s e k h = h
 
+pub own-accepted : (s : List ℕ) (e : End) → firstNo (ownQuestions (Arrival s) e) ≡ 0 → readRefusal s ≡ 0
+unfolding readRefusal
+own-accepted s e h = h
+
 -- the message that is read from accepted bytes
 pub record ReadAs (s : List ℕ) (m : Message) : Type 0 where
   pub counts-in : kindHasCounts (m .kind) (m .counts) ≡ true

@@ -118,24 +118,10 @@ pub fn send(e: End, clock: u64, draws: &[u8], cue: [u8; 24], out: &mut [u8]) -> 
     ensures { λ _. ⌜ now (out .exit) ≡ bufferOf (eventOf e (Send cue) clock (length (now (out .entry))) (now (draws .entry)) .outcome) (now (out .entry)) ⌝ }
     ensures { λ r. ⌜ answerNumber (r .answer) ≡ questionOf e (Send cue) clock (length (now (out .entry))) (length (now (draws .entry))) ⌝ }
 {
-    let q = questions::any_refusal(e, clock, out.len(), draws.len());
-    if q != 0 { // Send is refused by questions 1 to 5
-        return parts::refused(e, q);
-    }
+    let any = questions::any_refusal(e, clock, out.len(), draws.len());
     let own = questions::send_refusal(e, cue);
-    if own != 0 {
-        return parts::refused(e, own);
-    }
-    let status = e.status;
-    if parts::is_crashed(status) {
-        return parts::ignored(e);
-    }
-    let end = parts::at_clock(e, clock);
-    if parts::is_member(status) {
-        steps::send(end, cue, out)
-    } else {
-        parts::ignored(end) // Send outside membership
-    }
+    let q = questions::first_of(any, own);
+    steps::send(e, q, clock, cue, out)
 }
 
 // Arrival: a member takes a message. After questions 1 to 5 it asks the reader's, 8 to 11.
@@ -144,27 +130,13 @@ pub fn arrival(e: End, clock: u64, draws: &[u8], bytes: &[u8], out: &mut [u8]) -
     ensures { λ _. ⌜ now (out .exit) ≡ bufferOf (eventOf e (Arrival (now (bytes .entry))) clock (length (now (out .entry))) (now (draws .entry)) .outcome) (now (out .entry)) ⌝ }
     ensures { λ r. ⌜ answerNumber (r .answer) ≡ questionOf e (Arrival (now (bytes .entry))) clock (length (now (out .entry))) (length (now (draws .entry))) ⌝ }
 {
-    let q = questions::any_refusal(e, clock, out.len(), draws.len());
-    if q != 0 { // Arrival is refused by questions 1 to 5
-        return parts::refused(e, q);
-    }
+    let any = questions::any_refusal(e, clock, out.len(), draws.len());
     let reading = reader::read(bytes);
     let verdict = reading.verdict;
     let own = questions::number_of(verdict);
-    if own != 0 {
-        return parts::refused(e, own);
-    }
-    let status = e.status;
-    if parts::is_crashed(status) {
-        return parts::ignored(e);
-    }
-    let end = parts::at_clock(e, clock);
-    if parts::is_member(status) {
-        let message = reading.message;
-        incoming::incoming(end, draws, message, out)
-    } else {
-        parts::ignored(end) // Arrival outside membership
-    }
+    let q = questions::first_of(any, own);
+    let message = reading.message;
+    incoming::arrival(e, q, clock, draws, message, out)
 }
 
 // Fire: the earliest wait that is due goes out.
@@ -174,19 +146,7 @@ pub fn fire(e: End, clock: u64, draws: &[u8], out: &mut [u8]) -> Stepped
     ensures { λ r. ⌜ answerNumber (r .answer) ≡ questionOf e (Else Fire) clock (length (now (out .entry))) (length (now (draws .entry))) ⌝ }
 {
     let q = questions::any_refusal(e, clock, out.len(), draws.len());
-    if q != 0 { // Fire is refused by questions 1 to 5
-        return parts::refused(e, q);
-    }
-    let status = e.status;
-    if parts::is_crashed(status) {
-        return parts::ignored(e);
-    }
-    let end = parts::at_clock(e, clock);
-    if parts::is_member(status) {
-        steps::fire(end, draws, out)
-    } else {
-        parts::ignored(end) // Fire outside membership
-    }
+    steps::fire(e, q, clock, draws, out)
 }
 
 // Report: a session message goes out.
@@ -196,17 +156,5 @@ pub fn report(e: End, clock: u64, draws: &[u8], out: &mut [u8]) -> Stepped
     ensures { λ r. ⌜ answerNumber (r .answer) ≡ questionOf e (Else Report) clock (length (now (out .entry))) (length (now (draws .entry))) ⌝ }
 {
     let q = questions::any_refusal(e, clock, out.len(), draws.len());
-    if q != 0 { // Report is refused by questions 1 to 5
-        return parts::refused(e, q);
-    }
-    let status = e.status;
-    if parts::is_crashed(status) {
-        return parts::ignored(e);
-    }
-    let end = parts::at_clock(e, clock);
-    if parts::is_member(status) {
-        steps::report(end, out)
-    } else {
-        parts::ignored(end) // Report outside membership
-    }
+    steps::report(e, q, clock, out)
 }

@@ -4,6 +4,8 @@
 use end::End;
 use end::Params;
 use message::Host;
+ghost use Prim.Native.Nat.{_≤_};
+ghost use lib.ListN.{length};
 
 fn opened(host: u8) -> End {
     let params = Params {
@@ -74,59 +76,54 @@ fn sends(n: u64) -> u64 {
     e.clock
 }
 
-fn heard(e: End, clock: u64, bytes: &[u8]) -> End {
+fn heard(e: End, clock: u64, bytes: &[u8], len: usize) -> End
+    requires { ⌜ len ≤ length (now bytes) ⌝ }
+{
     let draws: [u8; 64] = [0; 64];
     let mut out: [u8; 128] = [0; 128];
-    let s = link::arrival(e, clock, &draws, bytes, &mut out);
+    let s = link::arrival(e, clock, &draws, &bytes[..len], &mut out);
     s.end
 }
 
-// The message with host 0's cue of this number, all zeros, sent at clock 0.
-fn original(number: u8) -> [u8; 39] {
+// A message of host 0, sent at clock 0: a session message that reports nothing, in the first 12 bytes, or its cue of this number, all
+// zeros.
+fn message(session: bool, number: u8) -> [u8; 39] {
     let mut bytes: [u8; 39] = [0; 39];
-    bytes[0] = 1;
-    bytes[8] = 1;
-    bytes[10] = number;
-    bytes[12] = 1;
+    if session {
+        bytes[0] = 4;
+    } else {
+        bytes[0] = 1;
+        bytes[8] = 1;
+        bytes[10] = number;
+        bytes[12] = 1;
+    }
     bytes
 }
 
-// g: a member gets 64 cues in their order; then another does.
-fn gets(n: u64) -> u64 {
+// g: a member gets 64 cues in their order; then another does. h: a member hears session messages. One loop for both, so that the call
+// stands at one place, as in a controller's loop.
+fn hears(n: u64, session: bool) -> u64 {
+    let len: usize = if session { 12 } else { 39 };
     let mut e = member(1);
     let mut i: u64 = 0;
     while i < n {
-        if i % 64 == 0 {
+        if !session & (i % 64 == 0) {
             e = member(1);
         }
-        let bytes = original((i % 64) as u8);
-        e = heard(e, i, &bytes);
+        let bytes = message(session, (i % 64) as u8);
+        e = heard(e, i, &bytes, len);
         i += 1;
     }
     e.clock
 }
 
-// h: a member hears host 0's session message, which reports nothing.
-fn hears(n: u64) -> u64 {
-    let mut bytes: [u8; 12] = [0; 12];
-    bytes[0] = 4;
-    let mut e = member(1);
-    let mut i: u64 = 0;
-    while i < n {
-        e = heard(e, i, &bytes);
-        i += 1;
-    }
-    e.clock
-}
-
-// f: Fire with nothing due.
-fn fires(n: u64) -> u64 {
-    let draws: [u8; 64] = [0; 64];
+// f: Fire with nothing due. x: with 63 draws, refused as 2 before the state is looked at.
+fn fires(n: u64, draws: &[u8]) -> u64 {
     let mut e = member(0);
     let mut i: u64 = 0;
     while i < n {
         let mut out: [u8; 128] = [0; 128];
-        let s = link::fire(e, i, &draws, &mut out);
+        let s = link::fire(e, i, draws, &mut out);
         e = s.end;
         i += 1;
     }
@@ -147,20 +144,6 @@ fn reports(n: u64) -> u64 {
     e.clock
 }
 
-// x: refused as 2, before the state is looked at.
-fn refusals(n: u64) -> u64 {
-    let draws: [u8; 63] = [0; 63];
-    let mut e = member(0);
-    let mut i: u64 = 0;
-    while i < n {
-        let mut out: [u8; 128] = [0; 128];
-        let s = link::fire(e, i, &draws, &mut out);
-        e = s.end;
-        i += 1;
-    }
-    e.clock
-}
-
 // 10^d, for a digit's byte.
 fn times(d: u8) -> u64 {
     match d {
@@ -175,14 +158,16 @@ fn times(d: u8) -> u64 {
 }
 
 fn run(kind: u8, n: u64) -> u64 {
+    let all: [u8; 64] = [0; 64];
+    let few: [u8; 63] = [0; 63];
     match kind {
         109 => moves(n),
         115 => sends(n),
-        103 => gets(n),
-        104 => hears(n),
-        102 => fires(n),
+        103 => hears(n, false),
+        104 => hears(n, true),
+        102 => fires(n, &all),
         114 => reports(n),
-        _ => refusals(n),
+        _ => fires(n, &few),
     }
 }
 

@@ -13,11 +13,19 @@ use end::Stepped;
 use message::Host;
 use message::Name;
 ghost use mathlib.Core.Path.{_≡_};
-ghost use mathlib.Core.Bool.{true};
+ghost use mathlib.Core.Bool.{_&&_};
+ghost use lib.Dec.{eqb};
 ghost use Prim.Native.Nat.{_<_};
-ghost use Rattle.end.specs.State.{sourceAt, recordAt, distanceTo, withSource, withClock, isHeld, isNo, isMember, isCrashed};
+ghost use Rattle.end.specs.State.{sourceAt, distanceTo, withClock, isHeld, isNo, isMember, isCrashed};
 ghost use Rattle.end.specs.Sound.{allOf, paramsTests};
 ghost use Rattle.end.specs.declared.Answer.the-variants.{Refused, Ignored};
+ghost use Rattle.parts.specs.Change.{clockedFor, untakenFor};
+
+// What a step changes: its answer, and the one source that it was given, as the step leaves it.
+pub struct Change {
+    pub answer: Answer,
+    pub source: Source,
+}
 
 pub fn is_member(status: Status) -> bool
     ensures { λ r. ⌜ r ≡ isMember status ⌝ }
@@ -69,14 +77,6 @@ pub fn params_small(p: Params) -> bool
     (p.c1 <= 32) & (p.c2 <= 32) & (p.c3 <= 32) & (p.d1 <= 32) & (p.d2 <= 32) & (p.d3 <= 32)
 }
 
-pub fn source_of(e: End, h: Host) -> Source
-    requires { ⌜ h .0 < 8 ⌝ }
-    ensures { λ r. ⌜ r ≡ sourceAt e h ⌝ }
-{
-    let at = h.0 as usize;
-    e.sources[at]
-}
-
 pub fn span_of(e: End, h: Host) -> Span
     requires { ⌜ h .0 < 8 ⌝ }
     ensures { λ r. ⌜ r ≡ sourceAt e h .span ⌝ }
@@ -95,33 +95,21 @@ pub fn heard_of(e: End, h: Host) -> Heard
     s.heard
 }
 
-pub fn slot_of(e: End, name: Name) -> Slot
-    requires { ⌜ (name .source .0 < 8) × (name .number .0 < 64) ⌝ }
-    ensures { λ r. ⌜ r ≡ recordAt (sourceAt e (name .source)) (name .number) .slot ⌝ }
-{
-    let s = source_of(e, name.source);
-    let at = name.number.0 as usize;
-    let r = s.names[at];
-    r.slot
-}
-
 pub fn distance_of(e: End, h: Host) -> u64
     requires { ⌜ h .0 < 8 ⌝ }
     ensures { λ r. ⌜ r ≡ distanceTo e h ⌝ }
 {
-    let at = h.0 as usize;
-    e.sources[at].distance
-}
-
-// The end with one source changed.
-pub fn with_source(e: End, h: Host, s: Source) -> End
-    requires { ⌜ h .0 < 8 ⌝ }
-    ensures { λ r. ⌜ r ≡ withSource e h s ⌝ }
-{
-    let at = h.0 as usize;
-    let mut out = e;
-    out.sources[at] = s;
-    out
+    let at = h.0;
+    match at {
+        0 => e.sources[0].distance,
+        1 => e.sources[1].distance,
+        2 => e.sources[2].distance,
+        3 => e.sources[3].distance,
+        4 => e.sources[4].distance,
+        5 => e.sources[5].distance,
+        6 => e.sources[6].distance,
+        _ => e.sources[7].distance,
+    }
 }
 
 // The end as an unrefused event finds it.
@@ -148,5 +136,45 @@ pub fn ignored(end: End) -> Stepped
     Stepped {
         answer: Answer::Ignored,
         end,
+    }
+}
+
+// Whether a member takes a call whose first no is q, 0 where there is none.
+pub fn takes(q: u8, status: Status) -> bool
+    ensures { λ r. ⌜ r ≡ (eqb q 0 && isMember status) ⌝ }
+{
+    (q == 0) & is_member(status)
+}
+
+// The end before a call whose first no is q takes its step: an unrefused call sets the clock, but not of a crashed end.
+pub fn clocked(e: End, q: u8, clock: u64) -> End
+    ensures { λ r. ⌜ r ≡ clockedFor q e clock ⌝ }
+{
+    let status = e.status;
+    let mut end = e;
+    if (q == 0) & !is_crashed(status) {
+        end.clock = clock;
+    }
+    end
+}
+
+// The answer of a call that takes no step.
+pub fn untaken(q: u8) -> Answer
+    ensures { λ r. ⌜ r ≡ untakenFor q ⌝ }
+{
+    if q == 0 {
+        Answer::Ignored
+    } else {
+        Answer::Refused(q)
+    }
+}
+
+// A step that leaves its source as it was.
+pub fn unchanged(source: Source) -> Change
+    ensures { λ r. ⌜ r ≡ record { answer = Ignored; source = source } ⌝ }
+{
+    Change {
+        answer: Answer::Ignored,
+        source,
     }
 }

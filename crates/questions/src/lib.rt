@@ -6,7 +6,8 @@ ghost use Rattle.message.specs.Question.{ask, firstNo, ticksIn, refusalOf};
 ghost use Rattle.end.specs.Event.{Send, anyQuestions, ownQuestions};
 ghost use Rattle.end.specs.Sound.{soundOf};
 ghost use mathlib.Core.List.{[], _∷_};
-ghost use lib.Dec.{leb};
+ghost use mathlib.Core.Bool.{cond};
+ghost use lib.Dec.{leb, eqb};
 
 // Questions 3, 4 and 5: the number of the first no, 0 where every answer is yes.
 fn state_refusal(e: End, clock: u64) -> u8
@@ -60,4 +61,11 @@ pub fn number_of(verdict: Verdict) -> u8
         Verdict::Accepted => 0,
         Verdict::Refused(k) => k,
     }
+}
+
+// The first no of two lists of questions, one after the other.
+pub fn first_of(any: u8, own: u8) -> u8
+    ensures { λ r. ⌜ r ≡ cond (eqb any 0) own any ⌝ }
+{
+    if any == 0 { own } else { any }
 }

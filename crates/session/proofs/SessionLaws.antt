@@ -25,6 +25,8 @@ use Rattle.end.specs.Round.{Timing}
 use Rattle.end.specs.Names.{rise}
 use Rattle.end.specs.Arrival.{isAbove, reported, allReported, measured}
 use Rattle.end.proofs.Ready.{rise-distance}
+use Rattle.parts.proofs.ChangeLaws.{unchanged}
+use Rattle.session.specs.Reported.{reportedSource}
 
 -- ---- a loop over the first places of an array
 
@@ -55,13 +57,19 @@ abbrev pub Rises : Report → End → Bool
 Rises r e = not (sameHost (r .source) (e .host)) && isAbove (sourceAt e (r .source) .span) (r .last .0)
 
 module _ (tm : Timing) where
-  pub report-rises : (r : Report) (e : End) → Rises r e ≡ true → reported tm r e ≡ withSource e (r .source) (rise tm (r .last) (sourceAt e (r .source)) (sourceAt e (r .source) .span))
+  report-rises : (r : Report) (e : End) → Rises r e ≡ true → reported tm r e ≡ withSource e (r .source) (rise tm (r .last) (sourceAt e (r .source)) (sourceAt e (r .source) .span))
   unfolding reported
   report-rises r e t = rw t
 
-  pub report-not : (r : Report) (e : End) → Rises r e ≡ false → reported tm r e ≡ e
+  report-not : (r : Report) (e : End) → Rises r e ≡ false → reported tm r e ≡ e
   unfolding reported
   report-not r e t = rw t
+
+  -- a report steps its own source and no other
+  pub report-steps : (r : Report) (e : End) → reported tm r e ≡ withSource e (r .source) (reportedSource tm (e .host) r (sourceAt e (r .source)))
+  report-steps r e = by-flag (Rises r e)
+      (λ t. report-rises r e t ∙ sym (rw t))
+      (λ t. report-not r e t ∙ sym (unchanged e (r .source)) ∙ sym (rw t))
 
   pub reports-turn : (l : List Report) (i : ℕ) (d : Report) (start before after : End) → i < length l
       → before ≡ allReported tm (take i l) start → after ≡ reported tm (getD l i d) before → after ≡ allReported tm (take (i + 1) l) start

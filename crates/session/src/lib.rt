@@ -1,6 +1,6 @@
-// What a member does with a session message of another end: each function is one definition of the crate end, specs/Arrival.antt.
-// They are helpers of the crates above and no calls of the product: each asks in its `requires` for what soundness and the
-// questions give.
+// What a member does with a session message of another end: each function is one definition of the crate end, specs/Arrival.antt, on
+// the one source that it may change: no other source is copied. They are helpers of the crates above and no calls of the product: each
+// asks in its `requires` for what soundness and the questions give.
 use end::End;
 use end::Heard;
 use end::Source;
@@ -13,16 +13,26 @@ use message::Report;
 ghost use mathlib.Core.Path.{_≡_};
 ghost use mathlib.Core.Bool.{true, cond, not, _&&_};
 ghost use Prim.Native.Nat.{_+_, _-_, _≤_, _<_};
-ghost use lib.ListN.{length, take};
+ghost use lib.ListN.{length, take, getD};
 ghost use lib.Dec.{leb};
 ghost use Rattle.message.specs.Section.{all};
+ghost use Rattle.message.specs.Entry.{blankReport};
 ghost use Rattle.message.specs.Message.{meaningOf};
-ghost use Rattle.message.specs.Question.{reportIn, echoIn, inRange, sameHost};
+ghost use Rattle.message.specs.Question.{echoIn, inRange, sameHost};
 ghost use Rattle.message.proofs.QuestionLaws.{Small};
 ghost use Rattle.end.specs.Round.{halfTrip};
-ghost use Rattle.end.specs.Arrival.{isAbove, allReported, measured, echoed};
-ghost use Rattle.end.proofs.Ready.{Ready};
+ghost use Rattle.end.specs.Arrival.{isAbove, measured, heardFrom};
+ghost use Rattle.end.proofs.Bounds.{Ranges};
 ghost use Rattle.parts.specs.Timed.{timed};
+ghost use Rattle.session.specs.Reported.{reportedSource};
+
+// A report by its place, of eight.
+pub fn report_at(reports: [Report; 8], i: usize) -> Report
+    requires { ⌜ i < 8 ⌝ }
+    ensures { λ r. ⌜ (r ≡ getD reports i blankReport) × (length reports ≡ 8) ⌝ }
+{
+    reports[i]
+}
 
 // Whether a number is above last of an open source.
 fn is_above(span: Span, n: CueNumber) -> bool
@@ -41,26 +51,18 @@ fn rises(me: Host, span: Span, r: Report) -> bool
     !(r.source.0 == me.0) & is_above(span, r.last)
 }
 
-// The reports, in their order. Each copies its own source and no other, and sets it where it rises.
-fn all_reports(e: End, draws: &[u8], reports: [Report; 8], count: usize) -> End
-    requires { ⌜ Ready e ⌝ }
-    requires { ⌜ (length (now draws) ≡ 64) × (count ≤ 8) × (all reportIn (take count reports) ≡ true) ⌝ }
-    ensures { λ r. ⌜ r ≡ allReported (timed e (now (draws .entry))) (take count reports) e ⌝ }
+// The source of a report: where the report makes its last rise, the new numbers are asked for.
+pub fn report(e: End, s: Source, draws: &[u8], r: Report) -> Source
+    requires { ⌜ Ranges (e .params) (e .clock) (s .distance) ⌝ }
+    requires { ⌜ (length (now draws) ≡ 64) × (r .last .0 < 64) ⌝ }
+    ensures { λ x. ⌜ x ≡ reportedSource (timed e (now (draws .entry))) (e .host) r s ⌝ }
 {
-    let mut out = e;
-    let mut i: usize = 0;
-    while i < count {
-        let r = reports[i];
-        let at = r.source.0 as usize;
-        let s = out.sources[at];
-        let span = s.span;
-        if rises(out.host, span, r) {
-            let s1 = names::rise_to(s, e.params, e.clock, draws, r.last);
-            out.sources[at] = s1;
-        }
-        i += 1;
+    let span = s.span;
+    if rises(e.host, span, r) {
+        names::rise_to(s, e.params, e.clock, draws, r.last)
+    } else {
+        s
     }
-    out
 }
 
 // The distance after an echo, from what it was: an echo of oneself measures half the round trip.
@@ -91,40 +93,21 @@ fn measure(me: Host, clock: u64, echoes: [Echo; 7], count: usize, d: u64) -> u64
     out
 }
 
-// The sender is heard now, and its distance measured.
-fn hear(e: End, m: Message) -> End
+// The sender's source: it is heard now, and its distance measured.
+pub fn hear(e: End, s: Source, m: Message) -> Source
     requires { ⌜ Small (m .counts) ⌝ }
     requires { ⌜ inRange (meaningOf m) ≡ true ⌝ }
-    ensures { λ r. ⌜ r ≡ echoed (meaningOf m) e ⌝ }
+    ensures { λ r. ⌜ r ≡ heardFrom (meaningOf m) e s ⌝ }
 {
     let counts = m.counts;
     let echoes = m.echoes;
-    let at = m.sender.0 as usize;
-    let s = e.sources[at];
     let d = measure(e.host, e.clock, echoes, counts.echoes, s.distance);
     let span = s.span;
     let names = s.names;
-    let heard = Source {
+    Source {
         span,
         distance: d,
         heard: Heard::At(m.stamp, e.clock),
         names,
-    };
-    let mut out = e;
-    out.sources[at] = heard;
-    out
-}
-
-// SESS. The reports come first: new rounds take the distance from before the echo.
-pub fn session(e: End, draws: &[u8], m: Message) -> End
-    requires { ⌜ Ready e ⌝ }
-    requires { ⌜ length (now draws) ≡ 64 ⌝ }
-    requires { ⌜ Small (m .counts) ⌝ }
-    requires { ⌜ inRange (meaningOf m) ≡ true ⌝ }
-    ensures { λ r. ⌜ r ≡ echoed (meaningOf m) (allReported (timed e (now (draws .entry))) (meaningOf m .reports) e) ⌝ }
-{
-    let counts = m.counts;
-    let reports = m.reports;
-    let asked = all_reports(e, draws, reports, counts.reports);
-    hear(asked, m)
+    }
 }

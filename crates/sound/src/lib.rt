@@ -190,35 +190,28 @@ fn source_sound(me: Host, next: u32, clock: u64, member: bool, h: Host, s: Sourc
         & names_sound(me, h, span, records)
 }
 
-fn sized_sources(sources: [Source; 8]) -> [Source; 8]
-    ensures { λ r. ⌜ (r ≡ sources) × (length sources ≡ 8) ⌝ }
-{
-    sources
-}
-
+// The sources by their constant places: a loop over them would copy the whole state.
 fn sources_sound(e: End) -> bool
     ensures { λ r. ⌜ r ≡ sourcesSound e 8 ⌝ }
 {
     let status = e.status;
     let member = parts::is_member(status);
-    let sources = e.sources;
-    let mut ok = true;
-    let mut h: u8 = 0;
-    while h < 8 {
-        let at = h as usize;
-        let s = sources[at];
-        ok = ok & source_sound(e.host, e.next, e.clock, member, Host(h), s);
-        h += 1;
-    }
-    ok
+    let me = e.host;
+    let s0 = source_sound(me, e.next, e.clock, member, Host(0), e.sources[0]);
+    let s1 = source_sound(me, e.next, e.clock, member, Host(1), e.sources[1]);
+    let s2 = source_sound(me, e.next, e.clock, member, Host(2), e.sources[2]);
+    let s3 = source_sound(me, e.next, e.clock, member, Host(3), e.sources[3]);
+    let s4 = source_sound(me, e.next, e.clock, member, Host(4), e.sources[4]);
+    let s5 = source_sound(me, e.next, e.clock, member, Host(5), e.sources[5]);
+    let s6 = source_sound(me, e.next, e.clock, member, Host(6), e.sources[6]);
+    let s7 = source_sound(me, e.next, e.clock, member, Host(7), e.sources[7]);
+    s0 & s1 & s2 & s3 & s4 & s5 & s6 & s7
 }
 
 // Whether a state is sound, of any state value.
 pub fn sound(e: End) -> bool
     ensures { λ r. ⌜ r ≡ soundOf e ⌝ }
 {
-    let sources = e.sources;
-    let eight = sized_sources(sources);
     (e.host.0 < 8)
         & parts::params_small(e.params)
         & (e.clock < 281474976710656)

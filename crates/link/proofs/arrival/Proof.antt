@@ -1,21 +1,19 @@
--- `link::arrival` meets its contract: refused, on a crashed end, outside membership, or heard.
-use mathlib.Core.Path.{_≡_, refl, sym, ap, subst, _∙_}
+-- `link::arrival` meets its contract: the questions decide, the reader's among them, and the step is taken by their first no.
+use mathlib.Core.Path.{_≡_, refl, sym, ap, _∙_}
 use native.Mathlib.Omega.{arith}
 use lib.ListN.{length}
+use lib.Dec.{eqb}
 use denote.Ref.{now}
-use borrow.Author.Tests.{ne-eqb}
-use Rattle.message.specs.Message.{Meaning, meaningFrom}
-use Rattle.message.specs.Question.{readRefusal}
-use Rattle.end.specs.declared.Answer.the-variants as answer
-use Rattle.end.specs.declared.End.{End}
+use borrow.Author.Tests.{eqb-true}
+use Rattle.numbers.proofs.Cases.{by-flag}
+use Rattle.message.specs.Message.{Meaning, meaningOf, meaningFrom}
 use Rattle.end.specs.State.{withClock}
-use Rattle.end.specs.Arrival.{Step}
-use Rattle.end.specs.Event.{Arrival, arrivalOf, actOf, Did}
-use Rattle.end.specs.Answer.{steppedOf, bufferOf}
-use Rattle.end.proofs.Ready.{Ready}
+use Rattle.end.specs.Event.{Arrival, Result, arrivalOf, actOf}
+use Rattle.end.specs.Answer.{calledOf, bufferOf}
 use Rattle.parts.specs.Timed.{timed}
-use Rattle.link.proofs.CallLaws.{Asked, asked-any, asked-own, passed, call-refused, call-ignored, call-aside, call-member}
-use Rattle.link.proofs.ReadingLaws.{own-reading, read-as}
+use Rattle.parts.specs.Change.{called}
+use Rattle.link.proofs.CallLaws.{Asked, asked-first, passed, call-by-number}
+use Rattle.link.proofs.ReadingLaws.{own-reading, own-accepted, read-as}
 use borrow.Author.Needs.{needs}
 use Rattle.link.proofs.arrival.Statement.{statement}
 use Rattle.link.proofs.arrival.Tie as tie
@@ -23,111 +21,69 @@ use Rattle.link.proofs.arrival.Tie as tie
 any-refusal-requires : tie.Need-any-refusal-requires
 any-refusal-requires c κs = search needs
 
-refused-requires : tie.Need-refused-requires
-refused-requires c κs = search needs
-
-returns : tie.Need-returns
-returns c =
-    let a = c .before .before .before .before .before .before .args in
-    let q = c .before .before .any-refusal in
-    call-refused (Arrival (now (a .bytes))) (a .e) (a .clock) (now (a .draws)) (now (a .out)) (q .result) (c .refused .result) (asked-any (a .e) (Arrival (now (a .bytes))) (a .clock) (length (now (a .out))) (length (now (a .draws))) (q .result) (sym (q .ensures)) (omega arith)) (ne-eqb (q .result) 0 (c .before .if1 .taken)) (c .refused .ensures)
-
 read-requires : tie.Need-read-requires
 read-requires c κs = search needs
 
 number-of-requires : tie.Need-number-of-requires
 number-of-requires c κs = search needs
 
-refused-requires-2 : tie.Need-refused-requires-2
-refused-requires-2 c κs = search needs
+first-of-requires : tie.Need-first-of-requires
+first-of-requires c κs = search needs
 
-returns-2 : tie.Need-returns-2
-returns-2 c =
-    let a = c .before .before .before .before .before .before .before .before .before .args in
-    let q = c .before .before .number-of in
-    let own = own-reading (now (a .bytes)) (a .e) (q .result) (sym (c .before .before .before .read .ensures .1) ∙ sym (q .ensures)) in
-    call-refused (Arrival (now (a .bytes))) (a .e) (a .clock) (now (a .draws)) (now (a .out)) (q .result) (c .refused2 .result) (asked-own (a .e) (Arrival (now (a .bytes))) (a .clock) (length (now (a .out))) (length (now (a .draws))) (q .result) (sym (c .before .before .before .before .before .any-refusal .ensures) ∙ c .before .before .before .before .if1 .left) own) (ne-eqb (q .result) 0 (c .before .if2 .taken)) (c .refused2 .ensures)
-
--- the reader refused nothing
-accepted : (c : tie.Else2) → readRefusal (now (c .before .before .before .before .before .before .before .before .args .bytes)) ≡ 0
-accepted c = sym (c .before .before .read .ensures .1) ∙ sym (c .before .number-of .ensures) ∙ c .if2 .left
-
--- every question was answered yes
-asked : (c : tie.Else2) → let a = c .before .before .before .before .before .before .before .before .args in Asked (Arrival (now (a .bytes))) (a .e) (a .clock) (now (a .draws)) (now (a .out)) ≡ 0
+-- the first no of the call
+asked : (c : tie.After-first-of) → let a = c .before .before .before .before .before .before .before .args in Asked (Arrival (now (a .bytes))) (a .e) (a .clock) (now (a .draws)) (now (a .out)) ≡ c .first-of .result
 asked c =
-    let a = c .before .before .before .before .before .before .before .before .args in
-    asked-own (a .e) (Arrival (now (a .bytes))) (a .clock) (length (now (a .out))) (length (now (a .draws))) 0 (sym (c .before .before .before .before .any-refusal .ensures) ∙ c .before .before .before .if1 .left) (own-reading (now (a .bytes)) (a .e) 0 (accepted c))
+    let a = c .before .before .before .before .before .before .before .args in
+    let own = own-reading (now (a .bytes)) (a .e) (c .before .number-of .result) (sym (c .before .before .read .ensures .1) ∙ sym (c .before .number-of .ensures)) in
+    asked-first (a .e) (Arrival (now (a .bytes))) (a .clock) (length (now (a .out))) (length (now (a .draws))) (c .before .before .before .any-refusal .result) (c .before .number-of .result) (sym (c .before .before .before .any-refusal .ensures)) own
+    ∙ sym (c .first-of .ensures)
 
-is-crashed-requires : tie.Need-is-crashed-requires
-is-crashed-requires c κs = search needs
-
-ignored-requires : tie.Need-ignored-requires
-ignored-requires c κs = search needs
-
-returns-3 : tie.Need-returns-3
-returns-3 c =
-    let a = c .before .before .before .before .before .before .before .before .before .before .before .args in
-    call-ignored (Arrival (now (a .bytes))) (a .e) (a .clock) (now (a .draws)) (now (a .out)) (c .ignored .result) (asked (c .before .before .before)) (sym (c .before .before .is-crashed .ensures) ∙ c .before .if3 .taken) (c .ignored .ensures)
-
-at-clock-requires : tie.Need-at-clock-requires
-at-clock-requires c κs = search needs
-
-is-member-requires : tie.Need-is-member-requires
-is-member-requires c κs = search needs
-
-incoming-requires : tie.Need-incoming-requires
-incoming-requires c κs =
-    let a = c .before .before .before .before .before .before .before .before .before .before .before .before .before .before .before .args in
-    let p = passed (a .e) (Arrival (now (a .bytes))) (a .clock) (length (now (a .out))) (length (now (a .draws))) (asked (c .before .before .before .before .before .before .before)) in
-    let r = c .before .before .before .before .before .before .before .before .before .read in
-    let m = read-as (now (a .bytes)) (r .result) (r .ensures .0) (accepted (c .before .before .before .before .before .before .before)) in
-    (subst Ready (sym (c .before .before .before .before .at-clock .ensures)) (p .settled-then .ready), (p .draws-in, (m .counts-in, (m .ranges-in, omega (arith, p .room-in)))))
-
-ignored-requires-2 : tie.Need-ignored-requires-2
-ignored-requires-2 c κs = search needs
+arrival-requires : tie.Need-arrival-requires
+arrival-requires c κs =
+    let a = c .before .before .before .before .before .before .before .before .before .args in
+    let r = c .before .before .before .before .read in
+    λ h.
+    let p = passed (a .e) (Arrival (now (a .bytes))) (a .clock) (length (now (a .out))) (length (now (a .draws))) (asked (c .before .before) ∙ h) in
+    let m = read-as (now (a .bytes)) (r .result) (r .ensures .0) (own-accepted (now (a .bytes)) (a .e) (p .own)) in
+    record { ready = p .settled-then .ready; draws-in = p .draws-in; room-in = omega (arith, p .room-in); counts-in = m .counts-in; ranges-in = m .ranges-in }
 
 same-length : tie.Need-same-length
 same-length c = search needs
 
-returns-4 : tie.Need-returns-4
-unfolding actOf
-returns-4 c =
-    let a = c .before .before .before .before .before .before .before .before .before .before .before .before .before .before .before .before .before .before .args in
-    let s : End → Meaning → Step = λ x m. arrivalOf (timed x (now (a .draws))) m x in
-    let f = c .before .before .incoming in
-    let at = c .before .before .before .before .before .before .before .at-clock .ensures in
-    let r = c .before .before .before .before .before .before .before .before .before .before .before .before .read in
-    let means = read-as (now (a .bytes)) (r .result) (r .ensures .0) (accepted (c .before .before .before .before .before .before .before .before .before .before)) .means in
-    call-member (Arrival (now (a .bytes))) (a .e) (a .clock) (now (a .draws)) (now (a .out)) (s (withClock (a .e) (a .clock)) (meaningFrom (now (a .bytes)))) (f .result) (f .last .1 .1 .1 .0) (asked (c .before .before .before .before .before .before .before .before .before .before)) (sym (c .before .before .before .before .before .before .before .before .before .is-crashed .ensures) ∙ c .before .before .before .before .before .before .before .before .if3 .left) (sym (c .before .before .before .before .before .before .is-member .ensures) ∙ c .before .before .before .before .before .if4 .taken) refl
-    (f .ensures .0 ∙ (λ i. steppedOf (s (at i) (means i))))
-    (f .ensures .1 ∙ (λ i. bufferOf (Did (s (at i) (means i) .effect)) (now (a .out))))
+-- the step is that of the bytes: where nothing was refused, they mean what the reader's message means, and a refused call takes no step
+steps-alike : (c : tie.After-first-of) → let a = c .before .before .before .before .before .before .before .args in let e = withClock (a .e) (a .clock) in let tm = timed e (now (a .draws)) in
+    called (c .first-of .result) (a .e) (a .clock) (arrivalOf tm (meaningOf (c .before .before .read .result .message)) e) ≡ called (c .first-of .result) (a .e) (a .clock) (arrivalOf tm (meaningFrom (now (a .bytes))) e)
+steps-alike c =
+    let a = c .before .before .before .before .before .before .before .args in
+    let q = c .first-of .result in
+    let r = c .before .before .read in
+    let e = withClock (a .e) (a .clock) in
+    by-flag (eqb q 0)
+    (λ t.
+    let p = passed (a .e) (Arrival (now (a .bytes))) (a .clock) (length (now (a .out))) (length (now (a .draws))) (asked c ∙ eqb-true q 0 t) in
+    let m = read-as (now (a .bytes)) (r .result) (r .ensures .0) (own-accepted (now (a .bytes)) (a .e) (p .own)) in
+    ap (λ (x : Meaning). called q (a .e) (a .clock) (arrivalOf (timed e (now (a .draws))) x e)) (m .means))
+    (λ t. rw t)
 
-returns-5 : tie.Need-returns-5
+returns : tie.Need-returns
 unfolding actOf
-returns-5 c =
-    let a = c .before .before .before .before .before .before .before .before .before .before .before .before .before .before .args in
-    let s : End → Meaning → Step = λ x m. arrivalOf (timed x (now (a .draws))) m x in
-    call-aside (Arrival (now (a .bytes))) (a .e) (a .clock) (now (a .draws)) (now (a .out)) (s (withClock (a .e) (a .clock)) (meaningFrom (now (a .bytes)))) (c .ignored2 .result) (asked (c .before .before .before .before .before .before)) (sym (c .before .before .before .before .before .is-crashed .ensures) ∙ c .before .before .before .before .if3 .left) (sym (c .before .before .is-member .ensures) ∙ c .before .if4 .left) refl
-    (c .ignored2 .ensures ∙ ap (λ (x : End). record { answer = answer.Ignored; end = x }) (c .before .before .before .at-clock .ensures))
+returns c =
+    let a = c .before .before .before .before .before .before .before .before .before .before .before .before .args in
+    let f = c .before .before .arrival in
+    let t = c .before .before .before .before .before in
+    let e = withClock (a .e) (a .clock) in
+    call-by-number (Arrival (now (a .bytes))) (a .e) (a .clock) (now (a .draws)) (now (a .out)) (t .first-of .result) (arrivalOf (timed e (now (a .draws))) (meaningFrom (now (a .bytes))) e) (f .result) (f .last .1 .1 .1 .1 .1 .0) (asked t) refl
+    (f .ensures .0 ∙ ap calledOf (steps-alike t))
+    (f .ensures .1 ∙ ap (λ (x : Result). bufferOf (x .outcome) (now (a .out))) (steps-alike t))
 
 pub arrival-spec : {M : Type 1} → statement M
 arrival-spec =
     tie.close
     (tie.spec
     any-refusal-requires
-    refused-requires
-    returns
     read-requires
     number-of-requires
-    refused-requires-2
-    returns-2
-    is-crashed-requires
-    ignored-requires
-    returns-3
-    at-clock-requires
-    is-member-requires
-    incoming-requires
-    ignored-requires-2
+    first-of-requires
+    arrival-requires
     same-length
-    returns-4
-    returns-5)
+    returns)

@@ -19,9 +19,6 @@ loop-holds c = omega arith
 slice-aggregate-fire : tie.Need-slice-aggregate-fire Inv-loop μ-loop
 slice-aggregate-fire c = omega arith
 
-slice-aggregate-fire-2 : tie.Need-slice-aggregate-fire-2 Inv-loop μ-loop
-slice-aggregate-fire-2 c = omega arith
-
 fire-requires : tie.Need-fire-requires Inv-loop μ-loop
 fire-requires c κs = tt
 
@@ -46,7 +43,6 @@ fires-spec =
     member-requires
     loop-holds
     slice-aggregate-fire
-    slice-aggregate-fire-2
     fire-requires
     add-i
     loop-less

@@ -1,29 +1,41 @@
--- `pace::hears` ends, and never wraps: the turns are counted.
+-- `pace::hears` ends, and never wraps: the turns are counted, and a message has at most 39 bytes.
 use Prim.Native.Nat.{_-_, _≤_}
 use native.Mathlib.Omega.{arith}
+use mathlib.Core.Path.{_≡_}
+use mathlib.Core.Logic.{⊎-elim}
+use lib.ListN.{length}
+use borrow.Author.Needs.{needs}
 use Rattle.pace.proofs.hears.Statement.{statement}
 use Rattle.pace.proofs.hears.Tie as tie
 
 abbrev Inv-loop : tie.InvT-loop
-Inv-loop n bytes e₀ i₀ e i = i ≤ n
+Inv-loop n session len e₀ i₀ e i = (i ≤ n) × (len ≤ 39)
 
 abbrev μ-loop : tie.MeasureT-loop
-μ-loop n bytes e₀ i₀ e i = n - i
-
-array-write-bytes : tie.Need-array-write-bytes Inv-loop μ-loop
-array-write-bytes c = omega arith
+μ-loop n session len e₀ i₀ e i = n - i
 
 member-requires : tie.Need-member-requires Inv-loop μ-loop
 member-requires c κs = tt
 
 loop-holds : tie.Need-loop-holds Inv-loop μ-loop
-loop-holds c = omega arith
+loop-holds c = (omega arith, ⊎-elim (λ w. omega (arith, w)) (λ w. omega (arith, w)) (c .before .if1 .came))
+
+member-requires-2 : tie.Need-member-requires-2 Inv-loop μ-loop
+member-requires-2 c κs = tt
+
+cast-message : tie.Need-cast-message Inv-loop μ-loop
+cast-message c = omega arith
+
+message-requires : tie.Need-message-requires Inv-loop μ-loop
+message-requires c κs = tt
 
 slice-aggregate-heard : tie.Need-slice-aggregate-heard Inv-loop μ-loop
 slice-aggregate-heard c = omega arith
 
 heard-requires : tie.Need-heard-requires Inv-loop μ-loop
-heard-requires c κs = tt
+heard-requires c κs =
+    let k : length (c .before .message .result) ≡ 39 = search needs in
+    omega (arith, k, c .before .before .before .before .loop .inv)
 
 add-i : tie.Need-add-i Inv-loop μ-loop
 add-i c = omega arith
@@ -32,7 +44,7 @@ loop-less : tie.Need-loop-less Inv-loop μ-loop
 loop-less c = omega arith
 
 loop-again : tie.Need-loop-again Inv-loop μ-loop
-loop-again c = omega arith
+loop-again c = (omega arith, c .before .before .before .before .before .loop .inv .1)
 
 returns : tie.Need-returns Inv-loop μ-loop
 returns c = tt
@@ -43,9 +55,11 @@ hears-spec =
     (tie.spec
     Inv-loop
     μ-loop
-    array-write-bytes
     member-requires
     loop-holds
+    member-requires-2
+    cast-message
+    message-requires
     slice-aggregate-heard
     heard-requires
     add-i

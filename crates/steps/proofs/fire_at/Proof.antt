@@ -1,5 +1,6 @@
 -- `steps::fire_at` meets its contract: the slot that was matched decides.
-use mathlib.Core.Path.{sym, _∙_}
+use mathlib.Core.Path.{refl}
+use Rattle.parts.specs.Change.{changed}
 use Rattle.parts.specs.Timed.{timed}
 use Rattle.steps.specs.Steps.{requestFired, firedAt}
 use Rattle.steps.proofs.StepLaws.{gives-nothing, gives-as, fired-empty, fired-request}
@@ -7,8 +8,14 @@ use borrow.Author.Needs.{needs}
 use Rattle.steps.proofs.fire_at.Statement.{statement}
 use Rattle.steps.proofs.fire_at.Tie as tie
 
-slot-of-requires : tie.Need-slot-of-requires
-slot-of-requires c κs = search needs
+cast-at : tie.Need-cast-at
+cast-at c = search needs
+
+mul-r : tie.Need-mul-r
+mul-r c = search needs
+
+element-copy-out-r : tie.Need-element-copy-out-r
+element-copy-out-r c = search needs
 
 enum-told : tie.Need-enum-told
 enum-told c = search needs
@@ -21,8 +28,9 @@ enum-told-2 c = search needs
 
 fire-held-requires : tie.Need-fire-held-requires
 fire-held-requires c κs =
-    let a = c .before .before .before .before .before .before in
-    (a .pre .0, (a .pre .1 .0, (a .pre .1 .1, sym (c .before .before .before .slot-of .ensures) ∙ c .before .enum-told2 .given .1)))
+    let s = c .before .before .before .before .before .before .before in
+    let p = s .pre in
+    (p .0, (p .1 .0, (p .1 .1, (c .before .enum-told2 .given .1, refl))))
 
 enum-known-slot : tie.Need-enum-known-slot
 enum-known-slot c = search needs
@@ -32,11 +40,12 @@ fire-request-requires c κs = search needs
 
 returns : tie.Need-returns
 returns c =
-    let a = c .before .before .before .before .before .before in
-    let e = a .args .e in
-    let tm = timed e (a .args .draws .now) in
-    let slot = sym (c .before .before .before .slot-of .ensures) ∙ c .before .enum-told .given .1 in
-    gives-nothing (firedAt tm (a .args .name) e) e (c .nothing .result) (a .args .out .now) (fired-empty tm (a .args .name) e slot) (c .nothing .ensures)
+    let s = c .before .before .before .before .before .before .before in
+    let a = s .args in
+    let e = a .e in
+    let tm = timed e (a .draws .now) in
+    let none = fired-empty tm (a .name) e (a .t2) (s .pre .1 .1 .1) (c .before .enum-told .given .1) in
+    gives-nothing (firedAt tm (a .name) e) e (a .name .source) (a .t2) (c .nothing .result) (a .out .now) (s .pre .1 .1 .1) none (c .nothing .ensures)
 
 same-length : tie.Need-same-length
 same-length c = search needs
@@ -49,19 +58,22 @@ same-length-2 c = search needs
 
 returns-3 : tie.Need-returns-3
 returns-3 c =
-    let a = c .before .before .before .before .before .before .before .before .before .before in
-    let e = a .args .e in
-    let tm = timed e (a .args .draws .now) in
+    let s = c .before .before .before .before .before .before .before .before .before .before .before in
+    let a = s .args in
+    let e = a .e in
+    let tm = timed e (a .draws .now) in
     let x = c .before .before .before .before .before .slot .given in
-    let slot = sym (c .before .before .before .before .before .before .before .slot-of .ensures) ∙ x .1 in
     let f = c .before .before .fire-request in
-    gives-as (firedAt tm (a .args .name) e) (requestFired tm (a .args .name) e (x .0 .0 .round)) (f .result) (a .args .out .now) (f .last .1 .1 .1 .1 .0) (fired-request tm (a .args .name) e (x .0 .0) slot) (f .ensures)
+    let waiting = fired-request tm (a .name) e (a .t2) (s .pre .1 .1 .1) (x .0 .0) (x .1) in
+    gives-as (firedAt tm (a .name) e) (requestFired tm (a .name) e (x .0 .0 .round)) (changed e (a .name .source) (f .result)) (a .out .now) (f .last .1 .1 .1 .1 .1 .0) waiting (f .ensures)
 
 pub fire-at-spec : {M : Type 1} → statement M
 fire-at-spec =
     tie.close
     (tie.spec
-    slot-of-requires
+    cast-at
+    mul-r
+    element-copy-out-r
     enum-told
     nothing-requires
     enum-told-2

@@ -1,0 +1,21 @@
+-- `steps::name_of` meets its contract: the wait that was matched decides.
+use mathlib.Core.Path.{sym, ap}
+use Rattle.steps.specs.Steps.{nameOf}
+use borrow.Author.Needs.{needs}
+use Rattle.steps.proofs.name_of.Statement.{statement}
+use Rattle.steps.proofs.name_of.Tie as tie
+
+enum-told : tie.Need-enum-told
+enum-told c = search needs
+
+enum-known-first : tie.Need-enum-known-first
+enum-known-first c = search needs
+
+returns : tie.Need-returns
+returns c = ap nameOf (sym (c .enum-told .given .1))
+
+returns-2 : tie.Need-returns-2
+returns-2 c = search needs
+
+pub name-of-spec : {M : Type 1} → statement M
+name-of-spec = tie.close (tie.spec enum-told enum-known-first returns returns-2)

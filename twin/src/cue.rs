@@ -3,6 +3,12 @@
 /// "A cue is 24 bytes": four offsets, the lamp power and 14 free bytes.
 pub const CUE_LEN: usize = 24;
 
+/// "from −2000 to 2000 motor steps".
+const OFFSET_MAX: i16 = 2000;
+
+/// "lamp power 0..1000".
+const LAMP_MAX: u16 = 1000;
+
 /// The bytes of a cue, in range or not.
 #[derive(Clone, Copy, Debug, PartialEq, Eq, Hash)]
 pub struct Cue(pub [u8; CUE_LEN]);
@@ -10,7 +16,7 @@ pub struct Cue(pub [u8; CUE_LEN]);
 impl Cue {
     pub const ZERO: Cue = Cue([0; CUE_LEN]);
 
-    /// A cue with this focus and zeros elsewhere, as the house sends it.
+    /// A cue with this focus: "other cue bytes 0".
     pub fn with_focus(focus: i16) -> Cue {
         let mut cue = Cue::ZERO;
         cue.0[..2].copy_from_slice(&focus.to_be_bytes());
@@ -38,15 +44,18 @@ impl Cue {
         u16::from_be_bytes([self.0[8], self.0[9]])
     }
 
-    /// "from −2000 to 2000 motor steps", "lamp power 0..1000". The 14 free bytes
-    /// may be anything.
+    /// "focus, zoom, sideways and upright offset, each a signed 16-bit two's
+    /// complement number from −2000 to 2000 motor steps; lamp power 0..1000 (16 bits,
+    /// unsigned); 14 free bytes."
     pub fn in_range(&self) -> bool {
         let offsets = [self.focus(), self.zoom(), self.sideways(), self.upright()];
-        offsets.iter().all(|o| (-2000..=2000).contains(o)) && self.lamp() <= 1000
+        offsets
+            .iter()
+            .all(|offset| (-OFFSET_MAX..=OFFSET_MAX).contains(offset))
+            && self.lamp() <= LAMP_MAX
     }
 
-    /// "each a signed 16-bit two's complement number", and "Numbers are
-    /// big-endian": FF FE is −2 and not 65534, the first fault of earlier links.
+    /// "each a signed 16-bit two's complement number"; "Numbers are big-endian."
     fn offset(&self, at: usize) -> i16 {
         i16::from_be_bytes([self.0[at], self.0[at + 1]])
     }

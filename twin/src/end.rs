@@ -126,32 +126,38 @@ pub enum Answer {
     Nothing,
 }
 
-/// The two kinds of wait; their order is the tie rule "request before reply".
-#[derive(Clone, Copy, PartialEq, Eq, PartialOrd, Ord)]
-enum Wait {
-    Request,
-    Reply,
-}
+/// "A distance (half a round trip) is 1..1000 whole milliseconds".
+const DISTANCE_MIN: u16 = 1;
+const DISTANCE_MAX: u16 = 1000;
+
+/// "to oneself it is 0".
+const OWN_DISTANCE: u16 = 0;
+
+/// "Parameters C1, C2, C3, D1, D2, D3 are 0..32 quarters".
+const PARAM_MAX: u8 = 32;
+
+/// "the next own cue number, 0..64".
+const NEXT_MAX: u8 = NUMBERS;
 
 impl Status {
-    /// Where a membership event moves this status, if it moves it. The service's
-    /// book uses the same table: "the status moves as under Events".
+    /// "Join: idle to joining. Joined: joining to member. Leave: joining or member to
+    /// leaving. Left: leaving to idle. Crash: to crashed."; "On a crashed end everything
+    /// unrefused is Ignored".
     pub fn after(self, event: &Event) -> Option<Status> {
-        use Status::*;
         match (event, self) {
-            (Event::Join, Idle) => Some(Joining),
-            (Event::Joined, Joining) => Some(Member),
-            (Event::Leave, Joining | Member) => Some(Leaving),
-            (Event::Left, Leaving) => Some(Idle),
-            // "On a crashed end everything unrefused is Ignored", Crash too.
-            (Event::Crash, Idle | Joining | Member | Leaving) => Some(Crashed),
+            (Event::Join, Status::Idle) => Some(Status::Joining),
+            (Event::Joined, Status::Joining) => Some(Status::Member),
+            (Event::Leave, Status::Joining | Status::Member) => Some(Status::Leaving),
+            (Event::Left, Status::Leaving) => Some(Status::Idle),
+            (Event::Crash, Status::Crashed) => None,
+            (Event::Crash, _) => Some(Status::Crashed),
             _ => None,
         }
     }
 }
 
 impl Params {
-    /// The parameters of a refused opening's end and of the house.
+    /// "parameters 9,8,4,4,4,8".
     pub const STANDARD: Params = Params {
         c1: 9,
         c2: 8,
@@ -163,46 +169,144 @@ impl Params {
 
     /// "Parameters C1, C2, C3, D1, D2, D3 are 0..32 quarters".
     fn in_range(&self) -> bool {
-        [self.c1, self.c2, self.c3, self.d1, self.d2, self.d3]
-            .iter()
-            .all(|&p| p <= 32)
+        let all = [self.c1, self.c2, self.c3, self.d1, self.d2, self.d3];
+        all.iter().all(|&parameter| parameter <= PARAM_MAX)
     }
 
     /// "C3 < C1, D1+D2+8 < 2×C1, D1+D2+D3 < 2×C1."
     fn constrained(&self) -> bool {
-        let [c1, d1, d2, d3] = [self.c1, self.d1, self.d2, self.d3].map(u16::from);
-        self.c3 < self.c1 && d1 + d2 + 8 < 2 * c1 && d1 + d2 + d3 < 2 * c1
+        let twice_c1 = 2 * u16::from(self.c1);
+        let d1_d2 = u16::from(self.d1) + u16::from(self.d2);
+        self.c3 < self.c1 && d1_d2 + 8 < twice_c1 && d1_d2 + u16::from(self.d3) < twice_c1
     }
 }
 
+impl Request {
+    /// "round 1..16"; "due and quiet times are below 2^48+2^32".
+    fn in_range(&self) -> bool {
+        (1..=LAST_ROUND).contains(&self.round)
+            && self.due < TIME_LIMIT
+            && self.quiet_until < TIME_LIMIT
+    }
+
+    /// "After 16 comes 16."
+    fn next_round(&self) -> u8 {
+        LAST_ROUND.min(self.round + 1)
+    }
+}
+
+/// What waits at a name; the order is Fire's: "request before reply".
+#[derive(Clone, Copy, Debug, PartialEq, Eq, PartialOrd, Ord)]
+enum Wait {
+    Request,
+    Reply,
+}
+
 impl Record {
+    /// Nothing held or waiting, and "a reply-quiet time, at first 0".
     pub const EMPTY: Record = Record {
         body: Body::Nothing,
         cue: Cue::ZERO,
         reply: None,
         reply_quiet: 0,
     };
-}
 
-impl End {
-    /// The opening: questions 12 and 13. A refused one gives the number and
-    /// "beside the number host 0's crashed end with parameters 9,8,4,4,4,8,
-    /// otherwise fresh".
-    pub fn open(host: u8, params: Params) -> (Option<u8>, End) {
-        let refused = if host >= HOSTS {
-            Some(12)
-        } else if !(params.in_range() && params.constrained()) {
-            Some(13)
-        } else {
-            None
-        };
-        let end = match refused {
-            None => End::fresh(host, params, Status::Idle),
-            Some(_) => End::fresh(0, Params::STANDARD, Status::Crashed),
-        };
-        (refused, end)
+    fn is_held(&self) -> bool {
+        self.body == Body::Held
     }
 
+    /// Hold the cue in place of a request, if there is one: "hold it, drop its request".
+    fn hold(&mut self, cue: Cue) {
+        self.body = Body::Held;
+        self.cue = cue;
+    }
+
+    /// "names outside first..last hold nothing and have reply-quiet 0".
+    fn is_empty(&self) -> bool {
+        self.body == Body::Nothing && self.reply.is_none() && self.reply_quiet == 0
+    }
+
+    /// What waits here, and when it is due. In a sound state it is one wait at most: a
+    /// request stands in the place of a held cue, a reply only "with a held cue".
+    fn wait(&self) -> Option<(u64, Wait)> {
+        match (self.body, self.reply) {
+            (Body::Waiting(request), _) => Some((request.due, Wait::Request)),
+            (_, Some(reply)) => Some((reply.due, Wait::Reply)),
+            _ => None,
+        }
+    }
+}
+
+impl Source {
+    /// A source at its start: no first, no heard stamp, every name empty.
+    fn fresh(distance: u16) -> Source {
+        Source {
+            first: None,
+            last: None,
+            distance,
+            heard: None,
+            names: [Record::EMPTY; NUMBERS as usize],
+        }
+    }
+
+    /// "first and last (both or neither)"; "first ≤ last"; "cue numbers 0..63".
+    fn span_sound(&self) -> bool {
+        match (self.first, self.last) {
+            (None, None) => true,
+            (Some(first), Some(last)) => first <= last && last < NUMBERS,
+            _ => false,
+        }
+    }
+
+    /// Is the number inside first..last?
+    fn spans(&self, number: u8) -> bool {
+        match (self.first, self.last) {
+            (Some(first), Some(last)) => (first..=last).contains(&number),
+            _ => false,
+        }
+    }
+
+    /// "RQST: no first, below first [...]: Ignored."; "DATA: [...] Below first".
+    fn closed_or_below(&self, number: u8) -> bool {
+        self.first.is_none_or(|first| number < first)
+    }
+
+    /// Is there a last, and the number above it?
+    fn is_above_last(&self, number: u8) -> bool {
+        self.last.is_some_and(|last| number > last)
+    }
+}
+
+/// Sources at their start: a distance is "at first 40; to oneself it is 0".
+fn fresh_sources(host: u8) -> [Source; HOSTS as usize] {
+    std::array::from_fn(|source| {
+        let own = source == usize::from(host);
+        Source::fresh(if own { OWN_DISTANCE } else { FIRST_DISTANCE })
+    })
+}
+
+/// "floor(F×C2×d×u/255)" and "floor(D2×d×u/255)": the drawn part of a delay.
+fn drawn(longest: u64, draw: u8) -> u64 {
+    longest * u64::from(draw) / 255
+}
+
+/// The opening.
+impl End {
+    /// "Opening: is the host below 8? 12. Are parameters in range and constrained as
+    /// above? 13. It gives an idle end at clock 0 with next number 0; refused, it gives
+    /// beside the number host 0's crashed end with parameters 9,8,4,4,4,8, otherwise
+    /// fresh."
+    pub fn open(host: u8, params: Params) -> (Option<u8>, End) {
+        match opening_questions(host, &params) {
+            Ok(()) => (None, End::fresh(host, params, Status::Idle)),
+            Err(number) => (
+                Some(number),
+                End::fresh(0, Params::STANDARD, Status::Crashed),
+            ),
+        }
+    }
+
+    /// An end "at clock 0 with next number 0".
     fn fresh(host: u8, params: Params, status: Status) -> End {
         End {
             host,
@@ -213,497 +317,521 @@ impl End {
             sources: fresh_sources(host),
         }
     }
+}
 
-    /// Question 3, asked of any state whatever: nothing here may rely on a field
-    /// being in range before it was found to be.
+/// "is the host below 8? 12. Are parameters in range and constrained as above? 13."
+fn opening_questions(host: u8, params: &Params) -> Result<(), u8> {
+    message::ask(host < HOSTS, 12)?;
+    message::ask(params.in_range() && params.constrained(), 13)
+}
+
+/// Question 3.
+impl End {
+    /// "A state is sound if: fields are in range; own last, if any, is next−1; first ≤
+    /// last; names outside first..last hold nothing and have reply-quiet 0; those inside
+    /// have a cue or a request, own ones a cue; a requester is neither oneself nor the
+    /// source; due and quiet times are below 2^48+2^32; heard times are at most the
+    /// clock; no stamp is heard from oneself; a non-member has no first, request, reply
+    /// or heard stamp, and distances to others at 40."
     pub fn sound(&self) -> bool {
+        self.own_fields_in_range()
+            && self.own_last_sound()
+            && (0..HOSTS).all(|source| self.source_sound(source))
+            && (self.status == Status::Member || self.non_member_sound())
+    }
+
+    /// "fields are in range": host, parameters, clock and next number.
+    fn own_fields_in_range(&self) -> bool {
         self.host < HOSTS
             && self.params.in_range()
             && self.clock <= CLOCK_MAX
-            && self.next <= NUMBERS
-            && (0..HOSTS).all(|host| self.source_sound(host))
+            && self.next <= NEXT_MAX
     }
 
-    fn source_sound(&self, host: u8) -> bool {
-        let source = self.source(host);
-        let own = host == self.host;
-        let member = self.status == Status::Member;
-
-        let ends = match (source.first, source.last) {
-            (None, None) => true,
-            // "a non-member has no first"; "first ≤ last"; "own last, if any, is
-            // next−1".
-            (Some(first), Some(last)) => {
-                member
-                    && first <= last
-                    && last < NUMBERS
-                    && (!own || u16::from(last) + 1 == u16::from(self.next))
-            }
-            // "first and last (both or neither)"
-            _ => false,
-        };
-        // "A distance is 1..1000 whole milliseconds; to oneself it is 0"; "a
-        // non-member has distances to others at 40".
-        let distance = match (own, member) {
-            (true, _) => source.distance == 0,
-            (false, true) => (1..=1000).contains(&source.distance),
-            (false, false) => source.distance == FIRST_DISTANCE,
-        };
-        // "heard times are at most the clock; no stamp is heard from oneself; a
-        // non-member has no heard stamp"; a stamp is a clock and has its range.
-        let heard = source
-            .heard
-            .is_none_or(|h| member && !own && h.stamp <= CLOCK_MAX && h.at <= self.clock);
-
-        ends && distance && heard && (0..NUMBERS).all(|number| self.name_sound(host, number))
+    /// "own last, if any, is next−1".
+    fn own_last_sound(&self) -> bool {
+        let last = self.source(self.host).last;
+        last.is_none_or(|last| self.next.checked_sub(1) == Some(last))
     }
 
-    fn name_sound(&self, source: u8, number: u8) -> bool {
-        let record = self.record(source, number);
-        let inside = match (self.source(source).first, self.source(source).last) {
-            (Some(first), Some(last)) => first <= number && number <= last,
-            _ => false,
-        };
-        match record.body {
-            // "names outside first..last hold nothing and have reply-quiet 0;
-            // those inside have a cue or a request"
-            Body::Nothing => !inside && record.reply.is_none() && record.reply_quiet == 0,
-            // "with a held cue perhaps one waiting reply"; "a requester is neither
-            // oneself nor the source"
-            Body::Held => {
-                inside
-                    && record.cue.in_range()
-                    && record.reply.is_none_or(|r| {
-                        r.due < TIME_LIMIT
-                            && r.requester < HOSTS
-                            && r.requester != self.host
-                            && r.requester != source
-                    })
-                    && record.reply_quiet < TIME_LIMIT
-            }
-            // "own ones a cue": an own name never waits for a cue.
-            Body::Waiting(r) => {
-                inside
-                    && source != self.host
-                    && (1..=LAST_ROUND).contains(&r.round)
-                    && r.due < TIME_LIMIT
-                    && r.quiet_until < TIME_LIMIT
-                    && record.reply.is_none()
-                    && record.reply_quiet < TIME_LIMIT
-            }
+    fn source_sound(&self, source: u8) -> bool {
+        let kept = self.source(source);
+        kept.span_sound()
+            && self.distance_sound(source)
+            && self.heard_sound(source)
+            && (0..NUMBERS).all(|number| self.record_sound(source, number))
+    }
+
+    /// "A distance (half a round trip) is 1..1000 whole milliseconds, at first 40; to
+    /// oneself it is 0."
+    fn distance_sound(&self, source: u8) -> bool {
+        let distance = self.source(source).distance;
+        if source == self.host {
+            distance == OWN_DISTANCE
+        } else {
+            (DISTANCE_MIN..=DISTANCE_MAX).contains(&distance)
         }
     }
 
-    /// One event. "A refusal gives only its number; state, clock and buffers keep
-    /// every byte."
-    pub fn event(&mut self, event: &Event, clock: u64, draws: &[u8], out: &mut [u8]) -> Answer {
-        self.step(event, clock, draws, out)
-            .unwrap_or_else(Answer::Refused)
-    }
-
-    /// All of an event's questions stand before its first change, so that an
-    /// early return leaves everything as it was.
-    fn step(
-        &mut self,
-        event: &Event,
-        clock: u64,
-        draws: &[u8],
-        out: &mut [u8],
-    ) -> Result<Answer, u8> {
-        self.ask(clock, draws, out)?;
-        Ok(match event {
-            Event::Send(cue) => {
-                if !cue.in_range() {
-                    return Err(6);
-                }
-                // "For a member, is the next number below 64?"
-                if self.status == Status::Member && self.next >= NUMBERS {
-                    return Err(7);
-                }
-                self.as_member(clock, |end| end.send(cue, out))
-            }
-            Event::Arrival(bytes) => {
-                let message = message::read(bytes)?;
-                self.as_member(clock, |end| end.arrival(&message, draws, out))
-            }
-            Event::Fire => self.as_member(clock, |end| end.fire(draws, out)),
-            Event::Report => self.as_member(clock, |end| end.report(out)),
-            Event::Join | Event::Joined | Event::Leave | Event::Left | Event::Crash => {
-                self.membership(event, clock)
-            }
+    /// "heard times are at most the clock; no stamp is heard from oneself"; a stamp is
+    /// "the sender's clock" and "Clocks are 0..2^48−1 ticks."
+    fn heard_sound(&self, source: u8) -> bool {
+        self.source(source).heard.is_none_or(|heard| {
+            source != self.host && heard.stamp <= CLOCK_MAX && heard.at <= self.clock
         })
     }
 
-    /// The questions of "Any event", 1 to 5.
-    fn ask(&self, clock: u64, draws: &[u8], out: &[u8]) -> Result<(), u8> {
-        if out.len() < OUTPUT_LEN {
-            return Err(1);
+    /// "names outside first..last hold nothing and have reply-quiet 0; those inside have
+    /// a cue or a request, own ones a cue"; "due and quiet times are below 2^48+2^32".
+    fn record_sound(&self, source: u8, number: u8) -> bool {
+        let record = self.record(source, number);
+        if !self.source(source).spans(number) {
+            return record.is_empty();
         }
-        if draws.len() != DRAWS {
-            return Err(2);
-        }
-        if !self.sound() {
-            return Err(3);
-        }
-        if clock > CLOCK_MAX {
-            return Err(4);
-        }
-        if clock < self.clock {
-            return Err(5);
-        }
-        Ok(())
+        self.body_sound(source, record)
+            && self.reply_sound(source, record)
+            && record.reply_quiet < TIME_LIMIT
     }
 
-    /// "An unrefused event sets the clock. On a crashed end everything unrefused
-    /// is Ignored and nothing changes, clock included."
-    fn set_clock(&mut self, clock: u64) {
-        if self.status != Status::Crashed {
-            self.clock = clock;
+    /// "those inside have a cue or a request, own ones a cue"; "fields are in range".
+    fn body_sound(&self, source: u8, record: &Record) -> bool {
+        match record.body {
+            Body::Nothing => false,
+            Body::Held => record.cue.in_range(),
+            Body::Waiting(request) => source != self.host && request.in_range(),
         }
     }
 
-    /// "Send, Fire, Report, Arrival outside membership: Ignored." Below this, the
-    /// clock `t` of the document is `self.clock`.
-    fn as_member(&mut self, clock: u64, work: impl FnOnce(&mut End) -> Answer) -> Answer {
-        self.set_clock(clock);
-        if self.status == Status::Member {
-            work(self)
-        } else {
-            Answer::Ignored
+    /// "with a held cue perhaps one waiting reply (due, requester)"; "a requester is
+    /// neither oneself nor the source; due and quiet times are below 2^48+2^32".
+    fn reply_sound(&self, source: u8, record: &Record) -> bool {
+        record.reply.is_none_or(|reply| {
+            record.is_held()
+                && reply.requester < HOSTS
+                && reply.requester != self.host
+                && reply.requester != source
+                && reply.due < TIME_LIMIT
+        })
+    }
+
+    /// "a non-member has no first, request, reply or heard stamp, and distances to
+    /// others at 40": with no first every name is outside, so without request and reply.
+    fn non_member_sound(&self) -> bool {
+        (0..HOSTS).all(|source| {
+            let kept = self.source(source);
+            kept.first.is_none()
+                && kept.heard.is_none()
+                && (source == self.host || kept.distance == FIRST_DISTANCE)
+        })
+    }
+}
+
+/// The events.
+impl End {
+    /// "Each call stops at its first no. A refusal gives only its number; state, clock
+    /// and buffers keep every byte."
+    pub fn event(&mut self, event: &Event, clock: u64, draws: &[u8], out: &mut [u8]) -> Answer {
+        match self.questions(event, clock, draws, out) {
+            Err(number) => Answer::Refused(number),
+            Ok(arrived) => self.unrefused(event, arrived, clock, draws, out),
         }
     }
 
-    /// Join, Joined, Leave, Left and Crash: "These give Done, from any other
-    /// status Ignored."
-    fn membership(&mut self, event: &Event, clock: u64) -> Answer {
-        self.set_clock(clock);
-        let Some(status) = self.status.after(event) else {
+    /// The questions in their order; the message that an Arrival brings comes with the yes.
+    fn questions(
+        &self,
+        event: &Event,
+        clock: u64,
+        draws: &[u8],
+        out: &[u8],
+    ) -> Result<Option<Message>, u8> {
+        self.questions_of_any(clock, draws, out)?;
+        match event {
+            Event::Send(cue) => self.questions_of_send(cue).map(|()| None),
+            Event::Arrival(bytes) => message::read(bytes).map(Some),
+            _ => Ok(None),
+        }
+    }
+
+    /// "Any event: Has the output at least 128 bytes? 1. Are there 64 draws, one byte
+    /// each? 2. Is the state sound? 3. Is the clock at most 2^48−1? 4. Is it at least
+    /// the state's? 5."
+    fn questions_of_any(&self, clock: u64, draws: &[u8], out: &[u8]) -> Result<(), u8> {
+        message::ask(out.len() >= OUTPUT_LEN, 1)?;
+        message::ask(draws.len() == DRAWS, 2)?;
+        message::ask(self.sound(), 3)?;
+        message::ask(clock <= CLOCK_MAX, 4)?;
+        message::ask(clock >= self.clock, 5)
+    }
+
+    /// "Send: are offsets and lamp in range? 6. For a member, is the next number below
+    /// 64? 7."
+    fn questions_of_send(&self, cue: &Cue) -> Result<(), u8> {
+        message::ask(cue.in_range(), 6)?;
+        message::ask(self.status != Status::Member || self.next < NUMBERS, 7)
+    }
+
+    /// "An unrefused event sets the clock. On a crashed end everything unrefused is
+    /// Ignored and nothing changes, clock included."; "These give Done, from any other
+    /// status Ignored."; "Send, Fire, Report, Arrival outside membership [...]: Ignored."
+    fn unrefused(
+        &mut self,
+        event: &Event,
+        arrived: Option<Message>,
+        clock: u64,
+        draws: &[u8],
+        out: &mut [u8],
+    ) -> Answer {
+        if self.status == Status::Crashed {
             return Answer::Ignored;
-        };
+        }
+        self.clock = clock;
+        if let Some(status) = self.status.after(event) {
+            return self.move_to(status);
+        }
+        if self.status != Status::Member {
+            return Answer::Ignored;
+        }
+        match (event, arrived) {
+            (Event::Send(cue), _) => self.send(*cue, out),
+            (Event::Fire, _) => self.fire(draws, out),
+            (Event::Report, _) => self.report(out),
+            (Event::Arrival(_), Some(message)) => self.arrival(&message, draws, out),
+            _ => Answer::Ignored,
+        }
+    }
+
+    /// "These give Done"; "Leave and Crash clear firsts, names and heard stamps and set
+    /// distances to others to 40. The next own number stays."
+    fn move_to(&mut self, status: Status) -> Answer {
         self.status = status;
-        if matches!(event, Event::Leave | Event::Crash) {
-            // "Leave and Crash clear firsts, names and heard stamps and set
-            // distances to others to 40. The next own number stays." It must: a
-            // restarted number would give one name two cues.
+        if matches!(status, Status::Leaving | Status::Crashed) {
             self.sources = fresh_sources(self.host);
         }
         Answer::Done
     }
 
-    /// "Send: hold the cue under the next number; it becomes last, and first if
-    /// none; Out DATA."
-    fn send(&mut self, cue: &Cue, out: &mut [u8]) -> Answer {
+    /// "Send: hold the cue under the next number; it becomes last, and first if none;
+    /// Out DATA."
+    fn send(&mut self, cue: Cue, out: &mut [u8]) -> Answer {
         let (host, number) = (self.host, self.next);
-        self.hold(host, number, cue);
-        let source = self.source_mut(host);
-        source.last = Some(number);
-        source.first.get_or_insert(number);
         self.next += 1;
+        let own = self.source_mut(host);
+        own.last = Some(number);
+        own.first = own.first.or(Some(number));
+        own.names[usize::from(number)].hold(cue);
         let name = Name {
             source: host,
             number,
             host,
         };
-        self.put(message::DATA, vec![name], vec![*cue], out)
-    }
-
-    fn arrival(&mut self, message: &Message, draws: &[u8], out: &mut [u8]) -> Answer {
-        // "an arrival whose sender is oneself: Ignored"
-        if message.sender == self.host {
-            return Answer::Ignored;
-        }
-        // A read message of kind 1 to 3 has just one name, and a DATA or a REPL
-        // just one cue.
-        match message.kind {
-            message::DATA => self.data(message.names[0], &message.cues[0], draws, out),
-            message::RQST => self.rqst(message.names[0], draws),
-            message::REPL => self.repl(message.names[0], &message.cues[0], draws, out),
-            _ => self.sess(message, draws),
-        }
-    }
-
-    fn data(&mut self, name: Name, cue: &Cue, draws: &[u8], out: &mut [u8]) -> Answer {
-        match self.source(name.source).first {
-            // "no first: first = last = the number, Got."
-            None => {
-                let source = self.source_mut(name.source);
-                source.first = Some(name.number);
-                source.last = Some(name.number);
-                self.hold(name.source, name.number, cue);
-                got(name, cue, out)
-            }
-            // "Below first or held: Ignored."
-            Some(first) if name.number < first || self.holds(name) => Answer::Ignored,
-            Some(_) => self.take(name, cue, draws, out),
-        }
-    }
-
-    /// "Otherwise hold it, drop its request, Got; if it is above last, each number
-    /// between gets round 1 and last rises."
-    fn take(&mut self, name: Name, cue: &Cue, draws: &[u8], out: &mut [u8]) -> Answer {
-        self.rise(name.source, name.number, draws);
-        // Holding drops the request that waited here, or that `rise` just set.
-        self.hold(name.source, name.number, cue);
-        got(name, cue, out)
-    }
-
-    fn rqst(&mut self, name: Name, draws: &[u8]) -> Answer {
-        if self.closed_to(name) {
-            return Answer::Ignored;
-        }
-        let clock = self.clock;
-        let record = *self.record(name.source, name.number);
-        match record.body {
-            // "with no reply waiting and clock ≥ reply-quiet, set a reply due at
-            // t + D1×d + floor(D2×d×u/255), d to the requester, Done; otherwise
-            // Ignored." The host in a RQST's name is its sender, who asks.
-            Body::Held => {
-                if record.reply.is_some() || clock < record.reply_quiet {
-                    return Answer::Ignored;
-                }
-                let d = self.distance(name.host);
-                let u = draw(draws, name.number);
-                let due =
-                    clock + u64::from(self.params.d1) * d + u64::from(self.params.d2) * d * u / 255;
-                self.record_mut(name.source, name.number).reply = Some(Reply {
-                    due,
-                    requester: name.host,
-                });
-                Answer::Done
-            }
-            // "Not held and above last: numbers between get round 1, this one
-            // round 2, last rises, Done."
-            Body::Nothing => {
-                self.rise(name.source, name.number, draws);
-                self.set_round(name.source, name.number, 2, draws);
-                Answer::Done
-            }
-            // "Not held up to last: clock above quiet-until (lemma 4.24 is strict)
-            // sets the next round, Done; otherwise Ignored."
-            Body::Waiting(request) => {
-                if clock <= request.quiet_until {
-                    return Answer::Ignored;
-                }
-                self.set_round(name.source, name.number, next_round(request.round), draws);
-                Answer::Done
-            }
-        }
-    }
-
-    fn repl(&mut self, name: Name, cue: &Cue, draws: &[u8], out: &mut [u8]) -> Answer {
-        // "Ignored as RQST's first line has it; a repair never opens a source."
-        if self.closed_to(name) {
-            return Answer::Ignored;
-        }
-        // "Not held: as DATA, Got; held: Done."
-        let answer = if self.holds(name) {
-            Answer::Done
-        } else {
-            self.take(name, cue, draws, out)
-        };
-        // "Either way its waiting reply goes and reply-quiet = t + D3×d, d to the
-        // requester."
-        self.end_reply(name);
-        answer
-    }
-
-    fn sess(&mut self, message: &Message, draws: &[u8]) -> Answer {
-        // "For each report of another, opened source above its last, the new
-        // numbers get round 1 and last rises."
-        for report in &message.reports {
-            if report.source != self.host && self.source(report.source).first.is_some() {
-                self.rise(report.source, report.last, draws);
-            }
-        }
-        // "After that, an echo of oneself, by that echo's stamp and held ticks,
-        // with e = clock − stamp − held ≥ 0 sets the distance to the sender to
-        // floor(e/8), brought into 1..1000."
-        let (host, clock) = (self.host, self.clock);
-        let sender = self.source_mut(message.sender);
-        if let Some(echo) = message.echoes.iter().find(|e| e.host == host) {
-            if let Some(e) = clock.checked_sub(echo.stamp + echo.held) {
-                sender.distance = (e / 8).clamp(1, 1000) as u16;
-            }
-        }
-        // "The sender's stamp is kept as heard now."
-        sender.heard = Some(Heard {
-            stamp: message.stamp,
-            at: clock,
-        });
-        Answer::Done
+        self.put_out(self.about(message::DATA, name, Some(cue)), out)
     }
 
     /// "Report: Out SESS with all firsts' sources and all heard stamps."
-    fn report(&mut self, out: &mut [u8]) -> Answer {
-        let mut reports = Vec::new();
-        let mut echoes = Vec::new();
-        for host in 0..HOSTS {
-            let source = self.source(host);
-            if let Some(last) = source.last {
-                reports.push(Report { source: host, last });
+    fn report(&self, out: &mut [u8]) -> Answer {
+        let mut message = self.message(message::SESS);
+        for (host, kept) in (0..HOSTS).zip(&self.sources) {
+            if let Some(last) = kept.last {
+                message.reports.push(Report { source: host, last });
             }
-            if let Some(heard) = source.heard {
-                echoes.push(Echo {
+            if let Some(Heard { stamp, at }) = kept.heard {
+                message.echoes.push(Echo {
                     host,
-                    stamp: heard.stamp,
-                    held: self.clock - heard.at,
+                    stamp,
+                    held: self.clock - at,
                 });
             }
         }
-        let sess = Message {
-            reports,
-            echoes,
-            ..self.message(message::SESS)
-        };
-        written(&sess, out)
+        self.put_out(message, out)
     }
 
-    /// "of all waits with due ≤ clock the earliest; ties: request before reply,
-    /// then lower source, lower number."
+    /// "Fire: of all waits with due ≤ clock the earliest [...]. None due: Nothing."
     fn fire(&mut self, draws: &[u8], out: &mut [u8]) -> Answer {
-        let mut earliest: Option<(u64, Wait, u8, u8)> = None;
-        for source in 0..HOSTS {
-            for number in 0..NUMBERS {
-                let record = self.record(source, number);
-                let request = match record.body {
-                    Body::Waiting(request) => Some((request.due, Wait::Request)),
-                    _ => None,
-                };
-                let reply = record.reply.map(|reply| (reply.due, Wait::Reply));
-                for (due, wait) in request.into_iter().chain(reply) {
-                    let this = (due, wait, source, number);
-                    if due <= self.clock && earliest.is_none_or(|other| this < other) {
-                        earliest = Some(this);
-                    }
-                }
-            }
-        }
-        // "None due: Nothing."
-        let Some((_, _, source, number)) = earliest else {
-            return Answer::Nothing;
-        };
-        // A sound name has a request or a reply, never both.
-        let record = *self.record(source, number);
-        match (record.body, record.reply) {
-            // "A request goes out as RQST and its next round is set."
-            (Body::Waiting(request), _) => {
-                self.set_round(source, number, next_round(request.round), draws);
-                let name = Name {
-                    source,
-                    number,
-                    host: self.host,
-                };
-                self.put(message::RQST, vec![name], vec![], out)
-            }
-            // "A reply goes out as REPL, is dropped, and reply-quiet is set as
-            // above." The cue is the named one, not the latest.
-            (_, Some(reply)) => {
-                let name = Name {
-                    source,
-                    number,
-                    host: reply.requester,
-                };
-                self.end_reply(name);
-                self.put(message::REPL, vec![name], vec![record.cue], out)
-            }
+        match self.earliest_wait() {
+            Some((due, wait, source, number)) if due <= self.clock => match wait {
+                Wait::Request => self.fire_request(source, number, draws, out),
+                Wait::Reply => self.fire_reply(source, number, out),
+            },
             _ => Answer::Nothing,
         }
     }
 
-    /// "no first, below first, or own above last: Ignored."
-    fn closed_to(&self, name: Name) -> bool {
-        let source = self.source(name.source);
-        match (source.first, source.last) {
-            (Some(first), Some(last)) => {
-                name.number < first || (name.source == self.host && name.number > last)
-            }
-            _ => true,
+    /// "the earliest; ties: request before reply, then lower source, lower number".
+    fn earliest_wait(&self) -> Option<(u64, Wait, u8, u8)> {
+        let names = (0..HOSTS).flat_map(|source| (0..NUMBERS).map(move |number| (source, number)));
+        names
+            .filter_map(|(source, number)| {
+                let (due, wait) = self.record(source, number).wait()?;
+                Some((due, wait, source, number))
+            })
+            .min()
+    }
+
+    /// "A request goes out as RQST and its next round is set."
+    fn fire_request(&mut self, source: u8, number: u8, draws: &[u8], out: &mut [u8]) -> Answer {
+        if let Body::Waiting(request) = self.record(source, number).body {
+            self.set_round(source, number, request.next_round(), draws);
+        }
+        let name = Name {
+            source,
+            number,
+            host: self.host,
+        };
+        self.put_out(self.about(message::RQST, name, None), out)
+    }
+
+    /// "A reply goes out as REPL, is dropped, and reply-quiet is set as above."
+    fn fire_reply(&mut self, source: u8, number: u8, out: &mut [u8]) -> Answer {
+        let Record {
+            cue,
+            reply: Some(Reply { requester, .. }),
+            ..
+        } = *self.record(source, number)
+        else {
+            return Answer::Nothing;
+        };
+        self.quiet_reply(source, number, requester);
+        let name = Name {
+            source,
+            number,
+            host: requester,
+        };
+        self.put_out(self.about(message::REPL, name, Some(cue)), out)
+    }
+}
+
+/// Arrivals.
+impl End {
+    /// "an arrival whose sender is oneself: Ignored."
+    fn arrival(&mut self, message: &Message, draws: &[u8], out: &mut [u8]) -> Answer {
+        if message.sender == self.host {
+            return Answer::Ignored;
+        }
+        match (message.kind, &message.names[..], &message.cues[..]) {
+            (message::DATA, [name], [cue]) => self.data(name, *cue, draws, out),
+            (message::RQST, [name], []) => self.rqst(name, draws),
+            (message::REPL, [name], [cue]) => self.repl(name, *cue, draws, out),
+            _ => self.sess(message, draws),
         }
     }
 
-    fn holds(&self, name: Name) -> bool {
-        self.record(name.source, name.number).body == Body::Held
+    /// "DATA: no first: first = last = the number, Got. Below first or held: Ignored.
+    /// Otherwise hold it, drop its request, Got".
+    fn data(&mut self, name: &Name, cue: Cue, draws: &[u8], out: &mut [u8]) -> Answer {
+        let kept = self.source_mut(name.source);
+        if kept.first.is_none() {
+            kept.first = Some(name.number);
+            kept.last = Some(name.number);
+        }
+        if kept.closed_or_below(name.number) || self.record(name.source, name.number).is_held() {
+            return Answer::Ignored;
+        }
+        self.hand_out(name, cue, draws, out)
     }
 
-    fn hold(&mut self, source: u8, number: u8, cue: &Cue) {
-        let record = self.record_mut(source, number);
-        record.body = Body::Held;
-        record.cue = *cue;
+    /// "Otherwise hold it, drop its request, Got; if it is above last, each number
+    /// between gets round 1 and last rises."; "Got (name, and its cue in the first 24)".
+    fn hand_out(&mut self, name: &Name, cue: Cue, draws: &[u8], out: &mut [u8]) -> Answer {
+        self.raise_last(name.source, name.number, draws);
+        self.record_mut(name.source, name.number).hold(cue);
+        out[..cue.0.len()].copy_from_slice(&cue.0);
+        Answer::Got {
+            source: name.source,
+            number: name.number,
+        }
     }
 
-    /// Round 1 for every number above last up to this one, which becomes last;
-    /// nothing if it is not above last. Who wants something else for the number
-    /// itself sets it afterwards.
-    fn rise(&mut self, source: u8, number: u8, draws: &[u8]) {
-        let Some(last) = self.source(source).last else {
+    /// "RQST: no first, below first, or own above last: Ignored."
+    fn out_of_reach(&self, name: &Name) -> bool {
+        let kept = self.source(name.source);
+        kept.closed_or_below(name.number)
+            || name.source == self.host && kept.is_above_last(name.number)
+    }
+
+    /// "RQST: no first, below first, or own above last: Ignored. Held: [...] Not held
+    /// and above last: [...] Not held up to last: [...]".
+    fn rqst(&mut self, name: &Name, draws: &[u8]) -> Answer {
+        if self.out_of_reach(name) {
+            return Answer::Ignored;
+        }
+        match self.record(name.source, name.number).body {
+            Body::Held => self.rqst_held(name, draws),
+            Body::Nothing => self.rqst_above(name, draws),
+            Body::Waiting(request) => self.rqst_waiting(name, request, draws),
+        }
+    }
+
+    /// "Held: with no reply waiting and clock ≥ reply-quiet, set a reply due at
+    /// t + D1×d + floor(D2×d×u/255), d to the requester, Done; otherwise Ignored."
+    fn rqst_held(&mut self, name: &Name, draws: &[u8]) -> Answer {
+        let record = self.record(name.source, name.number);
+        if record.reply.is_some() || self.clock < record.reply_quiet {
+            return Answer::Ignored;
+        }
+        let d = self.distance(name.host);
+        let due = self.clock
+            + u64::from(self.params.d1) * d
+            + drawn(
+                u64::from(self.params.d2) * d,
+                draws[usize::from(name.number)],
+            );
+        let reply = Reply {
+            due,
+            requester: name.host,
+        };
+        self.record_mut(name.source, name.number).reply = Some(reply);
+        Answer::Done
+    }
+
+    /// "Not held and above last: numbers between get round 1, this one round 2, last
+    /// rises, Done." In a sound state a name in reach with nothing is one above last.
+    fn rqst_above(&mut self, name: &Name, draws: &[u8]) -> Answer {
+        self.raise_last(name.source, name.number, draws);
+        self.set_round(name.source, name.number, 2, draws);
+        Answer::Done
+    }
+
+    /// "Not held up to last: clock above quiet-until (lemma 4.24 is strict) sets the next
+    /// round, Done; otherwise Ignored."
+    fn rqst_waiting(&mut self, name: &Name, request: Request, draws: &[u8]) -> Answer {
+        if self.clock <= request.quiet_until {
+            return Answer::Ignored;
+        }
+        self.set_round(name.source, name.number, request.next_round(), draws);
+        Answer::Done
+    }
+
+    /// "REPL: Ignored as RQST's first line has it; a repair never opens a source. Not
+    /// held: as DATA, Got; held: Done. Either way its waiting reply goes and reply-quiet
+    /// = t + D3×d, d to the requester."
+    fn repl(&mut self, name: &Name, cue: Cue, draws: &[u8], out: &mut [u8]) -> Answer {
+        if self.out_of_reach(name) {
+            return Answer::Ignored;
+        }
+        let answer = if self.record(name.source, name.number).is_held() {
+            Answer::Done
+        } else {
+            self.hand_out(name, cue, draws, out)
+        };
+        self.quiet_reply(name.source, name.number, name.host);
+        answer
+    }
+
+    /// "SESS: Done. For each report [...]. After that, an echo of oneself [...]. The
+    /// sender's stamp is kept as heard now."
+    fn sess(&mut self, message: &Message, draws: &[u8]) -> Answer {
+        for report in &message.reports {
+            self.hear_report(report, draws);
+        }
+        for echo in &message.echoes {
+            self.hear_echo(message.sender, echo);
+        }
+        let heard = Heard {
+            stamp: message.stamp,
+            at: self.clock,
+        };
+        self.source_mut(message.sender).heard = Some(heard);
+        Answer::Done
+    }
+
+    /// "For each report of another, opened source above its last, the new numbers get
+    /// round 1 and last rises."
+    fn hear_report(&mut self, report: &Report, draws: &[u8]) {
+        if report.source != self.host {
+            self.raise_last(report.source, report.last, draws);
+        }
+    }
+
+    /// "an echo of oneself, by that echo's stamp and held ticks, with e = clock − stamp −
+    /// held ≥ 0 sets the distance to the sender to floor(e/8), brought into 1..1000."
+    fn hear_echo(&mut self, sender: u8, echo: &Echo) {
+        if echo.host != self.host {
+            return;
+        }
+        let since_stamp = self.clock.checked_sub(echo.stamp);
+        if let Some(e) = since_stamp.and_then(|ticks| ticks.checked_sub(echo.held)) {
+            let distance = (e / 8).clamp(DISTANCE_MIN.into(), DISTANCE_MAX.into());
+            self.source_mut(sender).distance = distance as u16;
+        }
+    }
+}
+
+/// What the events share.
+impl End {
+    /// "the new numbers get round 1 and last rises", where the source is opened and the
+    /// number is above its last; else nothing. An arrived cue or a request's round 2 then
+    /// takes the place of the new last's own round 1.
+    fn raise_last(&mut self, source: u8, to: u8, draws: &[u8]) {
+        let Some(last) = self.source(source).last.filter(|&last| last < to) else {
             return;
         };
-        if number > last {
-            for new in last + 1..=number {
-                self.set_round(source, new, 1, draws);
-            }
-            self.source_mut(source).last = Some(number);
+        for number in last + 1..=to {
+            self.set_round(source, number, 1, draws);
         }
+        self.source_mut(source).last = Some(to);
     }
 
-    /// "Setting round k at clock t, F = 2^(k−1), d the distance to the source, u
-    /// the draw at the cue number: due = t + F×C1×d + floor(F×C2×d×u/255);
-    /// quiet-until = t + F×C3×d". The largest product is below 2^38.
+    /// "Setting round k at clock t, F = 2^(k−1), d the distance to the source, u the draw
+    /// at the cue number: due = t + F×C1×d + floor(F×C2×d×u/255); quiet-until = t +
+    /// F×C3×d (001, lemma 4.24: for every round)."
     fn set_round(&mut self, source: u8, number: u8, round: u8, draws: &[u8]) {
-        let [c1, c2, c3] = [self.params.c1, self.params.c2, self.params.c3].map(u64::from);
-        let f = 1 << (round - 1);
-        let d = self.distance(source);
-        let u = draw(draws, number);
-        let clock = self.clock;
-        self.record_mut(source, number).body = Body::Waiting(Request {
+        let fd = (1 << (round - 1)) * self.distance(source);
+        let drawn = drawn(fd * u64::from(self.params.c2), draws[usize::from(number)]);
+        let request = Request {
             round,
-            due: clock + f * c1 * d + f * c2 * d * u / 255,
-            quiet_until: clock + f * c3 * d,
-        });
+            due: self.clock + fd * u64::from(self.params.c1) + drawn,
+            quiet_until: self.clock + fd * u64::from(self.params.c3),
+        };
+        self.record_mut(source, number).body = Body::Waiting(request);
     }
 
-    /// A repair of this name was heard or sent: "its waiting reply goes and
-    /// reply-quiet = t + D3×d, d to the requester" (the name's host). If the
-    /// requester is oneself, d is 0.
-    fn end_reply(&mut self, name: Name) {
-        let quiet = self.clock + u64::from(self.params.d3) * self.distance(name.host);
-        let record = self.record_mut(name.source, name.number);
+    /// "its waiting reply goes and reply-quiet = t + D3×d, d to the requester."
+    fn quiet_reply(&mut self, source: u8, number: u8, requester: u8) {
+        let quiet = self.clock + u64::from(self.params.d3) * self.distance(requester);
+        let record = self.record_mut(source, number);
         record.reply = None;
         record.reply_quiet = quiet;
     }
 
-    fn put(&self, kind: u8, names: Vec<Name>, cues: Vec<Cue>, out: &mut [u8]) -> Answer {
-        let message = Message {
-            names,
-            cues,
-            ..self.message(kind)
-        };
-        written(&message, out)
-    }
-
-    /// An own message with empty sections; "stamp (6, the sender's clock)".
+    /// A message of this end with empty sections: "stamp (6, the sender's clock)".
     fn message(&self, kind: u8) -> Message {
         Message {
             kind,
             sender: self.host,
             stamp: self.clock,
-            names: vec![],
-            cues: vec![],
-            reports: vec![],
-            echoes: vec![],
+            names: Vec::new(),
+            cues: Vec::new(),
+            reports: Vec::new(),
+            echoes: Vec::new(),
         }
     }
 
+    /// A message of this end with one name and perhaps its cue.
+    fn about(&self, kind: u8, name: Name, cue: Option<Cue>) -> Message {
+        Message {
+            names: vec![name],
+            cues: cue.into_iter().collect(),
+            ..self.message(kind)
+        }
+    }
+
+    /// "Out (length, the message in the first output bytes)"; "Other output bytes are
+    /// untouched." A sound end's messages pass the writer's questions.
+    fn put_out(&self, message: Message, out: &mut [u8]) -> Answer {
+        message::write(&message, out).map_or_else(Answer::Refused, Answer::Out)
+    }
+
     fn distance(&self, host: u8) -> u64 {
-        u64::from(self.source(host).distance)
+        self.source(host).distance.into()
     }
 
-    fn source(&self, host: u8) -> &Source {
-        &self.sources[usize::from(host)]
+    fn source(&self, source: u8) -> &Source {
+        &self.sources[usize::from(source)]
     }
 
-    fn source_mut(&mut self, host: u8) -> &mut Source {
-        &mut self.sources[usize::from(host)]
+    fn source_mut(&mut self, source: u8) -> &mut Source {
+        &mut self.sources[usize::from(source)]
     }
 
     fn record(&self, source: u8, number: u8) -> &Record {
@@ -713,44 +841,4 @@ impl End {
     fn record_mut(&mut self, source: u8, number: u8) -> &mut Record {
         &mut self.source_mut(source).names[usize::from(number)]
     }
-}
-
-/// Nothing known of any host: "at first 40; to oneself it is 0".
-fn fresh_sources(own: u8) -> [Source; HOSTS as usize] {
-    std::array::from_fn(|host| Source {
-        first: None,
-        last: None,
-        distance: if host == usize::from(own) {
-            0
-        } else {
-            FIRST_DISTANCE
-        },
-        heard: None,
-        names: [Record::EMPTY; NUMBERS as usize],
-    })
-}
-
-/// "After 16 comes 16."
-fn next_round(round: u8) -> u8 {
-    LAST_ROUND.min(round + 1)
-}
-
-/// "u the draw at the cue number".
-fn draw(draws: &[u8], number: u8) -> u64 {
-    u64::from(draws[usize::from(number)])
-}
-
-fn got(name: Name, cue: &Cue, out: &mut [u8]) -> Answer {
-    out[..cue.0.len()].copy_from_slice(&cue.0);
-    Answer::Got {
-        source: name.source,
-        number: name.number,
-    }
-}
-
-/// What a sound state gives to write is well-formed: a waiting name is another's,
-/// a requester is neither oneself nor the source, held cues and heard stamps are
-/// in range, and the output's length was asked before. So the writer says yes.
-fn written(message: &Message, out: &mut [u8]) -> Answer {
-    Answer::Out(message::write(message, out).expect("a sound end writes well-formed messages"))
 }

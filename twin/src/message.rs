@@ -42,180 +42,81 @@ pub struct Message {
     pub echoes: Vec<Echo>,
 }
 
-/// The reader: questions 8, 9, 10 and 11, in this order.
+/// "Kind (1 byte), sender (1), stamp (6, the sender's clock)".
+const HEAD_LEN: usize = 8;
+
+/// "Are there 12 bytes or more".
+const LEAST_LEN: usize = 12;
+
+/// "names (source, cue number, host: 3 bytes)".
+const NAME_LEN: usize = 3;
+
+/// "reports (source, last: 2)".
+const REPORT_LEN: usize = 2;
+
+/// "echoes (host, stamp, held ticks: 1+6+6)".
+const ECHO_LEN: usize = 13;
+
+/// The reader: "Arrival, and the reader alone" have questions 8, 9, 10 and 11; "Each
+/// call stops at its first no."
 pub fn read(bytes: &[u8]) -> Result<Message, u8> {
-    let message = split(bytes).ok_or(8)?;
-    message.well_formed()?;
+    let message = take_apart(bytes)?;
+    check(&message)?;
     Ok(message)
 }
 
-/// "The writer has questions 1, 9, 10, 11." It answers the length; only the
-/// first so many output bytes change, and none when it refuses.
+/// "The writer has questions 1, 9, 10, 11."; "A refusal gives only its number; state,
+/// clock and buffers keep every byte."; "Other output bytes are untouched."
 pub fn write(message: &Message, out: &mut [u8]) -> Result<usize, u8> {
-    if out.len() < OUTPUT_LEN {
-        return Err(1);
-    }
-    message.well_formed()?;
-    // The longest message, a SESS with 8 reports and 7 echoes, has 119 bytes, so
-    // whatever passed question 9 fits.
-    let bytes = message.layout();
+    ask(out.len() >= OUTPUT_LEN, 1)?;
+    check(message)?;
+    let bytes = put_together(message);
     out[..bytes.len()].copy_from_slice(&bytes);
     Ok(bytes.len())
 }
 
-impl Message {
-    /// Questions 9, 10 and 11, which reader and writer share.
-    fn well_formed(&self) -> Result<(), u8> {
-        if !self.kind_has_its_counts() {
-            return Err(9);
-        }
-        if !self.in_range() {
-            return Err(10);
-        }
-        if !self.hosts_and_order_hold() {
-            return Err(11);
-        }
+/// One question: the number is given at a no.
+pub(crate) fn ask(yes: bool, number: u8) -> Result<(), u8> {
+    if yes {
         Ok(())
-    }
-
-    /// "Is the kind 1..4 with its counts?"
-    fn kind_has_its_counts(&self) -> bool {
-        let counts = (
-            self.names.len(),
-            self.cues.len(),
-            self.reports.len(),
-            self.echoes.len(),
-        );
-        match self.kind {
-            DATA | REPL => counts == (1, 1, 0, 0),
-            RQST => counts == (1, 0, 0, 0),
-            SESS => matches!(counts, (0, 0, 0..=8, 0..=7)),
-            _ => false,
-        }
-    }
-
-    /// "Are hosts, cue numbers and cue fields in range, stamps and held ticks
-    /// below 2^48?" A report's last is a cue number too.
-    fn in_range(&self) -> bool {
-        self.sender < HOSTS
-            && self.stamp <= CLOCK_MAX
-            && self
-                .names
-                .iter()
-                .all(|n| n.source < HOSTS && n.number < NUMBERS && n.host < HOSTS)
-            && self.cues.iter().all(Cue::in_range)
-            && self
-                .reports
-                .iter()
-                .all(|r| r.source < HOSTS && r.last < NUMBERS)
-            && self
-                .echoes
-                .iter()
-                .all(|e| e.host < HOSTS && e.stamp <= CLOCK_MAX && e.held <= CLOCK_MAX)
-    }
-
-    /// "Do the table's last column and the line under the table hold?"
-    fn hosts_and_order_hold(&self) -> bool {
-        let column = self.names.iter().all(|n| match self.kind {
-            // "the source, also the sender"
-            DATA => n.host == n.source && n.host == self.sender,
-            // "the sender, not the source"
-            RQST => n.host == self.sender && n.host != n.source,
-            // "the requester, neither sender nor source"; the sender may well be
-            // the source, which repairs its own cues.
-            REPL => n.host != self.sender && n.host != n.source,
-            _ => true,
-        });
-        // "Reports rise strictly by source, echoes by host; no echo names the
-        // sender."
-        column
-            && self.reports.windows(2).all(|r| r[0].source < r[1].source)
-            && self.echoes.windows(2).all(|e| e[0].host < e[1].host)
-            && self.echoes.iter().all(|e| e.host != self.sender)
-    }
-
-    /// "Kind (1 byte), sender (1), stamp (6, the sender's clock), then four
-    /// sections, each after its one-byte count". Only asked of a well-formed
-    /// message, whose counts are small and whose numbers fit their width.
-    fn layout(&self) -> Vec<u8> {
-        let mut bytes = vec![self.kind, self.sender];
-        bytes.extend(six(self.stamp));
-        bytes.push(self.names.len() as u8);
-        for name in &self.names {
-            bytes.extend([name.source, name.number, name.host]);
-        }
-        bytes.push(self.cues.len() as u8);
-        for cue in &self.cues {
-            bytes.extend(cue.0);
-        }
-        bytes.push(self.reports.len() as u8);
-        for report in &self.reports {
-            bytes.extend([report.source, report.last]);
-        }
-        bytes.push(self.echoes.len() as u8);
-        for echo in &self.echoes {
-            bytes.push(echo.host);
-            bytes.extend(six(echo.stamp));
-            bytes.extend(six(echo.held));
-        }
-        bytes
+    } else {
+        Err(number)
     }
 }
 
-/// "Are there 12 bytes or more, and do the counts account for the length
-/// exactly?" The parts are taken as they are; nothing else is asked yet.
-fn split(bytes: &[u8]) -> Option<Message> {
-    if bytes.len() < 12 {
-        return None;
-    }
-    let (head, mut rest) = bytes.split_at(8);
-    let names = section(&mut rest, 3)?
-        .map(|b| Name {
-            source: b[0],
-            number: b[1],
-            host: b[2],
-        })
-        .collect();
-    let cues = section(&mut rest, CUE_LEN)?
-        .map(|b| {
-            let mut cue = Cue::ZERO;
-            cue.0.copy_from_slice(b);
-            cue
-        })
-        .collect();
-    let reports = section(&mut rest, 2)?
-        .map(|b| Report {
-            source: b[0],
-            last: b[1],
-        })
-        .collect();
-    let echoes = section(&mut rest, 13)?
-        .map(|b| Echo {
-            host: b[0],
-            stamp: number(&b[1..7]),
-            held: number(&b[7..13]),
-        })
-        .collect();
-    if !rest.is_empty() {
-        return None;
-    }
-    Some(Message {
+/// The questions that reader and writer share, in their order.
+fn check(message: &Message) -> Result<(), u8> {
+    ask(counts_fit(message), 9)?;
+    ask(in_range(message), 10)?;
+    ask(hosts_fit(message) && order_fits(message), 11)
+}
+
+/// "Are there 12 bytes or more, and do the counts account for the length exactly? 8."
+fn take_apart(bytes: &[u8]) -> Result<Message, u8> {
+    ask(bytes.len() >= LEAST_LEN, 8)?;
+    let (head, rest) = bytes.split_at(HEAD_LEN);
+    let (names, rest) = section(rest, NAME_LEN)?;
+    let (cues, rest) = section(rest, CUE_LEN)?;
+    let (reports, rest) = section(rest, REPORT_LEN)?;
+    let (echoes, rest) = section(rest, ECHO_LEN)?;
+    ask(rest.is_empty(), 8)?;
+    Ok(Message {
         kind: head[0],
         sender: head[1],
-        stamp: number(&head[2..8]),
-        names,
-        cues,
-        reports,
-        echoes,
+        stamp: number(&head[2..]),
+        names: names.chunks_exact(NAME_LEN).map(read_name).collect(),
+        cues: cues.chunks_exact(CUE_LEN).map(read_cue).collect(),
+        reports: reports.chunks_exact(REPORT_LEN).map(read_report).collect(),
+        echoes: echoes.chunks_exact(ECHO_LEN).map(read_echo).collect(),
     })
 }
 
-/// Takes one section off the front of `rest`: its count, then so many entries.
-fn section<'a>(rest: &mut &'a [u8], size: usize) -> Option<std::slice::ChunksExact<'a, u8>> {
-    let (&count, after) = rest.split_first()?;
-    let (entries, after) = after.split_at_checked(usize::from(count) * size)?;
-    *rest = after;
-    Some(entries.chunks_exact(size))
+/// "then four sections, each after its one-byte count": one section and what follows it.
+fn section(bytes: &[u8], size: usize) -> Result<(&[u8], &[u8]), u8> {
+    let (&count, rest) = bytes.split_first().ok_or(8)?;
+    let len = usize::from(count) * size;
+    ask(rest.len() >= len, 8)?;
+    Ok(rest.split_at(len))
 }
 
 /// "Numbers are big-endian."
@@ -225,8 +126,137 @@ fn number(bytes: &[u8]) -> u64 {
         .fold(0, |value, &byte| value << 8 | u64::from(byte))
 }
 
-/// The six low bytes of a number below 2^48, big-endian.
-fn six(value: u64) -> [u8; 6] {
-    let [_, _, bytes @ ..] = value.to_be_bytes();
+/// "names (source, cue number, host: 3 bytes)".
+fn read_name(bytes: &[u8]) -> Name {
+    Name {
+        source: bytes[0],
+        number: bytes[1],
+        host: bytes[2],
+    }
+}
+
+/// "cues (24)".
+fn read_cue(bytes: &[u8]) -> Cue {
+    let mut cue = Cue::ZERO;
+    cue.0.copy_from_slice(bytes);
+    cue
+}
+
+/// "reports (source, last: 2)".
+fn read_report(bytes: &[u8]) -> Report {
+    Report {
+        source: bytes[0],
+        last: bytes[1],
+    }
+}
+
+/// "echoes (host, stamp, held ticks: 1+6+6)".
+fn read_echo(bytes: &[u8]) -> Echo {
+    Echo {
+        host: bytes[0],
+        stamp: number(&bytes[1..7]),
+        held: number(&bytes[7..13]),
+    }
+}
+
+/// "Is the kind 1..4 with its counts? 9.": the table's column "counts".
+fn counts_fit(message: &Message) -> bool {
+    let counts = (
+        message.names.len(),
+        message.cues.len(),
+        message.reports.len(),
+        message.echoes.len(),
+    );
+    match message.kind {
+        DATA | REPL => counts == (1, 1, 0, 0),
+        RQST => counts == (1, 0, 0, 0),
+        SESS => matches!(counts, (0, 0, 0..=8, 0..=7)),
+        _ => false,
+    }
+}
+
+/// "Are hosts, cue numbers and cue fields in range, stamps and held ticks below 2^48? 10."
+fn in_range(message: &Message) -> bool {
+    message.sender < HOSTS
+        && message.stamp <= CLOCK_MAX
+        && message.names.iter().all(name_in_range)
+        && message.cues.iter().all(Cue::in_range)
+        && message.reports.iter().all(report_in_range)
+        && message.echoes.iter().all(echo_in_range)
+}
+
+/// "Hosts are 0..7, cue numbers 0..63 per source."
+fn name_in_range(name: &Name) -> bool {
+    name.source < HOSTS && name.number < NUMBERS && name.host < HOSTS
+}
+
+/// "Hosts are 0..7, cue numbers 0..63 per source."
+fn report_in_range(report: &Report) -> bool {
+    report.source < HOSTS && report.last < NUMBERS
+}
+
+/// "stamps and held ticks below 2^48".
+fn echo_in_range(echo: &Echo) -> bool {
+    echo.host < HOSTS && echo.stamp <= CLOCK_MAX && echo.held <= CLOCK_MAX
+}
+
+/// "Do the table's last column [...] hold? 11.": the column "host in the name".
+fn hosts_fit(message: &Message) -> bool {
+    let sender = message.sender;
+    message.names.iter().all(|name| match message.kind {
+        DATA => name.host == name.source && name.host == sender,
+        RQST => name.host == sender && name.host != name.source,
+        REPL => name.host != sender && name.host != name.source,
+        _ => false,
+    })
+}
+
+/// "Reports rise strictly by source, echoes by host; no echo names the sender."
+fn order_fits(message: &Message) -> bool {
+    message
+        .reports
+        .windows(2)
+        .all(|pair| pair[0].source < pair[1].source)
+        && message
+            .echoes
+            .windows(2)
+            .all(|pair| pair[0].host < pair[1].host)
+        && message
+            .echoes
+            .iter()
+            .all(|echo| echo.host != message.sender)
+}
+
+/// "Kind (1 byte), sender (1), stamp (6, the sender's clock), then four sections, each
+/// after its one-byte count: names (source, cue number, host: 3 bytes), cues (24),
+/// reports (source, last: 2), echoes (host, stamp, held ticks: 1+6+6)." Asked only of
+/// messages with counts that fit.
+fn put_together(message: &Message) -> Vec<u8> {
+    let mut bytes = vec![message.kind, message.sender];
+    bytes.extend(six_bytes(message.stamp));
+    bytes.push(message.names.len() as u8);
+    for name in &message.names {
+        bytes.extend([name.source, name.number, name.host]);
+    }
+    bytes.push(message.cues.len() as u8);
+    for cue in &message.cues {
+        bytes.extend(cue.0);
+    }
+    bytes.push(message.reports.len() as u8);
+    for report in &message.reports {
+        bytes.extend([report.source, report.last]);
+    }
+    bytes.push(message.echoes.len() as u8);
+    for echo in &message.echoes {
+        bytes.push(echo.host);
+        bytes.extend(six_bytes(echo.stamp));
+        bytes.extend(six_bytes(echo.held));
+    }
     bytes
+}
+
+/// "Numbers are big-endian."; "stamp (6, the sender's clock)".
+fn six_bytes(value: u64) -> [u8; 6] {
+    let [_, _, six @ ..] = value.to_be_bytes();
+    six
 }

@@ -62,17 +62,12 @@ not-heard q e clock m draws out h =
     (λ s. absurd (let z : _≡_ {A = Bool} true false = sym (λ i. t i && not (s i)) ∙ h in true≢false z)))
     (λ t. aside q e clock _ out t)
 
--- ---- the reports leave the timing and the host as they were
+-- ---- the reports leave the timing as it was
 module _ (tm : Timing) (draws : List ℕ) where
   pub reports-timed : (l : List Report) (e : End) → timed (allReported tm l e) draws ≡ timed e draws
   unfolding allReported
   reports-timed [] e = refl
   reports-timed (r ∷ l) e = reports-timed l (reported tm r e) ∙ ap (λ (x : End). timed x draws) (report-steps tm r e)
-
-pub reports-host : (tm : Timing) (l : List Report) (e : End) → allReported tm l e .host ≡ e .host
-unfolding allReported
-reports-host tm [] e = refl
-reports-host tm (r ∷ l) e = reports-host tm l (reported tm r e) ∙ ap (λ (x : End). x .host) (report-steps tm r e)
 
 -- and so they leave the ranges of every wait
 pub reports-ranges : (tm : Timing) (l : List Report) (e : End) → Ready e → (h : Host) → h .0 < 8

@@ -18,7 +18,7 @@ use Rattle.message.specs.declared.Message.{Message}
 use Rattle.message.specs.Section.{all}
 use Rattle.message.specs.Entry.{blankName, blankCue}
 use Rattle.message.specs.Message.{DATA, RQST, REPL, SESS, meaningOf}
-use Rattle.message.specs.Question.{countsAre, kindHasCounts, hostIn, numberIn, nameIn, inRange, sameHost}
+use Rattle.message.specs.Question.{countsAre, kindHasCounts, hostIn, numberIn, nameIn, inRange}
 use Rattle.message.proofs.QuestionLaws.{and-both, or-either}
 use Rattle.end.specs.declared.Slot.{Slot}
 use Rattle.end.specs.declared.Slot.the-variants.{Empty, Held, Waiting}

@@ -1,20 +1,19 @@
 -- The laws of a change: a step that leaves its source as it was leaves the end as it was, and a call by whether it takes its step.
 use mathlib.Core.Path.{_≡_, refl, sym, ap, _∙_}
 use Prim.Native.Nat.{ℕ, zero, suc}
-use mathlib.Core.Bool.{Bool, true, false, cond, not, _&&_, true≢false}
+use mathlib.Core.Bool.{Bool, true, false, not, _&&_, true≢false}
 use mathlib.Core.List.{List, [], _∷_}
 use lib.ListN.{getD, set}
 use lib.Dec.{eqb}
 use Rattle.numbers.proofs.Cases.{by-flag}
 use Rattle.message.specs.declared.Host.{Host}
-use Rattle.end.specs.declared.Source.{Source}
 use Rattle.end.specs.declared.End.{End}
 use Rattle.end.specs.declared.Status.{Status}
 use Rattle.end.specs.declared.Status.the-variants.{Idle, Joining, Member, Leaving, Crashed}
 use Rattle.end.specs.declared.Stepped.{Stepped}
 use Rattle.end.specs.State.{noSource, isMember, isCrashed, sourceAt, withClock, withSource}
-use Rattle.end.specs.Arrival.{Ignored, Step, give}
-use Rattle.end.specs.Event.{Refused, Did, Result, done, ifMember}
+use Rattle.end.specs.Arrival.{Ignored, Step}
+use Rattle.end.specs.Event.{done}
 use Rattle.end.specs.Answer.{answerOf, calledOf, bufferOf}
 use Rattle.parts.specs.Change.{called, clockedFor, untakenFor}
 

@@ -3,26 +3,22 @@ use mathlib.Core.Path.{_≡_, refl, sym, ap, subst, _∙_}
 use Prim.Native.Nat.{_-_, _≤_, _<_}
 use native.Mathlib.Omega.{arith}
 use mathlib.Core.Bool.{true, false, not, _&&_, true≢false}
-use lib.ListN.{length, take, getD}
+use lib.ListN.{length, take}
 use lib.Dec.{eqb}
 use denote.Ref.{now}
 use borrow.Author.Tests.{eqb-true, eq-eqb}
-use Rattle.message.specs.declared.Host.{Host}
-use Rattle.message.specs.declared.Report.{Report}
 use Rattle.message.specs.Entry.{blankReport}
 use Rattle.message.specs.Message.{meaningOf}
 use Rattle.message.specs.Question.{reportIn, sameHost}
 use Rattle.message.proofs.QuestionLaws.{and-both, counts-small}
 use Rattle.end.specs.declared.End.{End}
-use Rattle.end.specs.Round.{Timing}
-use Rattle.end.specs.State.{isMember, withClock, withSource}
+use Rattle.end.specs.State.{isMember, withClock}
 use Rattle.end.specs.Event.{Did}
 use Rattle.end.specs.Answer.{steppedOf, bufferOf}
 use Rattle.end.specs.Arrival.{allReported, reported, messageStep}
 use Rattle.parts.specs.Timed.{timed}
 use Rattle.parts.proofs.ChangeLaws.{Takes, takes, taken-clocked}
-use Rattle.session.specs.Reported.{reportedSource}
-use Rattle.session.proofs.SessionLaws.{used-at, in-range, report-in, report-steps, reports-turn}
+use Rattle.session.proofs.SessionLaws.{used-at, in-range, report-in}
 use Rattle.incoming.specs.Hearing.{Hearing, entryOf}
 use Rattle.incoming.proofs.IncomingLaws.{one-name, EntryIn, entry-in}
 use Rattle.incoming.proofs.ArrivingLaws.{clocked-host, not-heard, reports-ranges, turn-steps, session-gives, name-gives}

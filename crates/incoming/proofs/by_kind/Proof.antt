@@ -1,6 +1,5 @@
 -- `incoming::by_kind` meets its contract: the kind says which case of `messageStep` holds, and its counts that there is a name.
 use mathlib.Core.Path.{_≡_, sym, _∙_}
-use Prim.Native.Nat.{_<_}
 use lib.ListN.{length}
 use Rattle.message.specs.Message.{REPL, meaningOf}
 use Rattle.parts.specs.Timed.{Names, timed}

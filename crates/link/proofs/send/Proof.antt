@@ -1,9 +1,6 @@
 -- `link::send` meets its contract: the questions decide, and the step is taken by their first no.
-use mathlib.Core.Path.{_≡_, refl, sym, ap, _∙_}
-use Prim.Native.Nat.{ℕ}
-use mathlib.Core.Bool.{cond}
+use mathlib.Core.Path.{_≡_, refl, sym, _∙_}
 use lib.ListN.{length}
-use lib.Dec.{eqb}
 use denote.Ref.{now}
 use Rattle.end.specs.State.{withClock}
 use Rattle.end.specs.Event.{Send, sendOf, actOf}

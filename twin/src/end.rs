@@ -767,6 +767,8 @@ impl End {
             return;
         };
         for number in last + 1..=to {
+            // Nothing was kept of it: its record starts blank, free cue bytes too.
+            *self.record_mut(source, number) = Record::EMPTY;
             self.set_round(source, number, 1, draws);
         }
         self.source_mut(source).last = Some(to);

@@ -1,9 +1,10 @@
 -- The line that is printed for a played line of a script. Document 01, "Cases": "prints, without header, end, clock, answer; after
 -- out the message number, after got source, cue number and focus, after "refused" the number". Characters are ASCII codes: 32 is
 -- the space, 10 the line feed.
+use mathlib.Core.Path.{_≡_}
 use mathlib.Core.Bool.{cond}
 use mathlib.Core.List.{List, [], _∷_, _++_}
-use Prim.Native.Nat.{ℕ}
+use Prim.Native.Nat.{ℕ, _≤_}
 use lib.Dec.{leb}
 use lib.ListN.{length}
 use Rattle.numbers.specs.Splice.{splice}
@@ -53,3 +54,9 @@ withLine line buffer = cond (leb 64 (length buffer)) (splice 0 line buffer) buff
 
 abbrev pub lineLength : List ℕ → List ℕ → ℕ
 lineLength line buffer = cond (leb 64 (length buffer)) (length line) 0
+
+-- what a function promises that writes a line at the start of a buffer and answers its length
+pub record Line (line before after : List ℕ) (r : ℕ) : Type 0 where
+  pub bytes : after ≡ withLine line before
+  pub size : r ≡ lineLength line before
+  pub within : r ≤ length before

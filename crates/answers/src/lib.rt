@@ -1,11 +1,10 @@
 // The line that is printed for a played line of a script, put into a buffer. The definition is specs/AnswerLine.antt.
-ghost use mathlib.Core.Path.{_≡_};
 ghost use mathlib.Core.List.{[], _∷_, _++_};
 ghost use Prim.Native.Nat.{_+_, _≤_};
 ghost use lib.ListN.{length};
 ghost use Rattle.decimal.specs.Decimal.{decimal as decimalOf, signedDecimal};
 ghost use Rattle.answers.specs.declared.Shown.the-variants.{Out, Got, Refused};
-ghost use Rattle.answers.specs.AnswerLine.{spaced as spacedOf, answerWords, answerLine, withLine, lineLength};
+ghost use Rattle.answers.specs.AnswerLine.{spaced as spacedOf, answerWords, answerLine, Line};
 ghost use Rattle.answers.specs.Put.{Put};
 
 // An answer as it is shown: a message number after out, the name and the focus after got, the question's number after refused.
@@ -128,8 +127,7 @@ fn put_ending(out: &mut [u8], at: usize, a: Shown) -> usize
 // Writes the line of an answer at the start of a buffer of 64 bytes or more, which is always enough, and answers its length; in a
 // smaller buffer nothing is written, and the answer is 0.
 pub fn put_line(out: &mut [u8], end: u8, clock: u64, a: Shown) -> usize
-    ensures written { λ r. ⌜ (now (out .exit) ≡ withLine (answerLine end clock a) (now (out .entry))) × (r ≡ lineLength (answerLine end clock a) (now (out .entry))) ⌝ }
-    ensures within { λ r. ⌜ r ≤ length (now (out .entry)) ⌝ }
+    ensures { λ r. ⌜ Line (answerLine end clock a) (now (out .entry)) (now (out .exit)) r ⌝ }
 {
     if out.len() < ROOM {
         return 0;

@@ -2,8 +2,38 @@
 use mathlib.Core.Path.{refl}
 use Rattle.cases.specs.Case.{Hold}
 use Rattle.cases.specs.Rows.{rows}
+use Rattle.cases.specs.Answers.{answerRows}
+use Rattle.cases.specs.Moves.{moveRows}
+use Rattle.cases.specs.Wire.{wireRows}
+use Rattle.cases.specs.Timed.{timedRows}
+use Rattle.cases.specs.Quiet.{quietRows}
+use Rattle.cases.specs.Stage.{stageRows}
 use Rattle.cases.proofs.Opened.{opened}
 
 pub cases-hold : Hold rows
 unfolding rows opened
 cases-hold = (refl, (refl, (refl, (refl, (refl, (refl, (refl, (refl, (refl, (refl, (refl, (refl, (refl, (refl, (refl, (refl, (refl, (refl, (refl, (refl, (refl, (refl, (refl, (refl, (refl, (refl, (refl, (refl, tt))))))))))))))))))))))))))))
+
+pub moves-hold : Hold moveRows
+unfolding moveRows opened
+moves-hold = (refl, (refl, (refl, (refl, (refl, tt)))))
+
+pub wire-holds : Hold wireRows
+unfolding wireRows opened
+wire-holds = (refl, (refl, (refl, (refl, (refl, (refl, (refl, (refl, tt))))))))
+
+pub timed-hold : Hold timedRows
+unfolding timedRows opened
+timed-hold = (refl, (refl, (refl, (refl, (refl, (refl, (refl, (refl, (refl, tt)))))))))
+
+pub quiet-holds : Hold quietRows
+unfolding quietRows opened
+quiet-holds = (refl, (refl, (refl, (refl, (refl, tt)))))
+
+pub stage-holds : Hold stageRows
+unfolding stageRows opened
+stage-holds = (refl, (refl, tt))
+
+pub answers-hold : Hold answerRows
+unfolding answerRows opened
+answers-hold = (refl, (refl, (refl, (refl, (refl, (refl, (refl, (refl, (refl, (refl, (refl, (refl, (refl, (refl, (refl, (refl, (refl, tt)))))))))))))))))

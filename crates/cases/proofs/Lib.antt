@@ -1,3 +1,6 @@
 pub mod Opened
 pub mod Cases
+pub mod Allowed
+pub mod Shown
 pub mod Service
+pub mod Limits

@@ -9,13 +9,18 @@ use Rattle.end.specs.Sound.{allBelow, soundOf}
 use Rattle.end.specs.Round.{factor, share}
 use Rattle.end.specs.Names.{requested, rise}
 use Rattle.end.specs.Messages.{reportsBelow, echoesBelow}
-use Rattle.end.specs.Arrival.{dataOf, heldRequest, backedOff, requestOf, repairOf, reported, allReported, measured, echoed, messageStep}
+use Rattle.end.specs.Records.{recordAt}
+use Rattle.end.specs.Decide.{decideData, reached, decideReply, decideRound, decideRequest, decideRepair, decideAs, apply, effectOf, stepAt}
+use Rattle.end.specs.Session.{allReported, measured, sessionOf}
+use Rattle.end.specs.Arrival.{messageStep, arrivalOf}
 use Rattle.end.specs.Fire.{foldUp, earliest, fireAt, fired}
-use Rattle.end.specs.Event.{movedEnd, moveOf, arrivalOf, actOf, stepOf, questionOf, eventOf}
+use Rattle.end.specs.Event.{movedEnd, moveOf, actOf, stepOf, questionOf, eventOf}
 use Rattle.end.specs.Opening.{openRefusal, openingOf}
 use Rattle.end.specs.Book.{put, readAs, among, firstOf, notBelow, isSome, limits, gets, dueMessage, due, clearedBy, movedBook, file, hand, afterMessage, after as afterCall, isGot, bookAfter}
 use Rattle.end.specs.Run.{resultOf, sentAfter, worldAfter, seen}
+use Rattle.end.specs.Answer.{answerOf, bufferOf}
+use Rattle.cases.specs.Shown.{returned, readOff, onlooked}
 
 unfoldable pub opened : ℕ
-unfolding valueAfter digits cueIn cueWith entries flat section sectionFrom after all rises bytesWith meaningWith inRange hostsFit readRefusal readOf writeRefusal outputOf allBelow soundOf factor share requested rise reportsBelow echoesBelow dataOf heldRequest backedOff requestOf repairOf reported allReported measured echoed messageStep foldUp earliest fireAt fired movedEnd moveOf arrivalOf actOf stepOf questionOf eventOf openRefusal openingOf put readAs among firstOf notBelow isSome limits gets dueMessage due clearedBy movedBook file hand afterMessage afterCall isGot bookAfter resultOf sentAfter worldAfter seen
+unfolding valueAfter digits cueIn cueWith entries flat section sectionFrom after all rises bytesWith meaningWith inRange hostsFit readRefusal readOf writeRefusal outputOf allBelow soundOf factor share requested rise reportsBelow echoesBelow recordAt decideData reached decideReply decideRound decideRequest decideRepair decideAs apply effectOf stepAt allReported measured sessionOf messageStep foldUp earliest fireAt fired movedEnd moveOf arrivalOf actOf stepOf questionOf eventOf openRefusal openingOf put readAs among firstOf notBelow isSome limits gets dueMessage due clearedBy movedBook file hand afterMessage afterCall isGot bookAfter resultOf sentAfter worldAfter seen answerOf bufferOf returned readOff onlooked
 opened = 0

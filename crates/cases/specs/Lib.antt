@@ -1,5 +1,14 @@
 pub mod Case
+pub mod Answers
 pub mod Listing
 pub mod Rejoin
-pub mod NotRuns
 pub mod Rows
+pub mod Moves
+pub mod Wire
+pub mod Timed
+pub mod Quiet
+pub mod Shown
+pub mod Stage
+pub mod NotRuns
+pub mod GotLimits
+pub mod CallLimits

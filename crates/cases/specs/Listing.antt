@@ -10,8 +10,10 @@ use Rattle.message.specs.Message.{DATA, RQST, REPL, bytesOf}
 use Rattle.message.specs.declared.Name.{Name}
 use Rattle.end.specs.declared.Status.the-variants.{Idle}
 use Rattle.end.specs.State.{freshEnd}
-use Rattle.end.specs.Arrival.{Out, Got, Done, Nothing}
-use Rattle.end.specs.Event.{Event, Move, Send, Arrival, Else, Join, Joined, Fire, Outcome, Did}
+use Rattle.end.specs.Answer.{Out, Got, Done, Nothing}
+use Rattle.end.specs.Event.{Action, Moves, Send, Arrival, Else, Fire}
+use Rattle.end.specs.declared.Move.the-variants.{Join, Joined}
+use Rattle.end.specs.Answer.{Outcome, Did}
 use Rattle.end.specs.Opening.{houseParams}
 use Rattle.end.specs.Book.{Entry}
 use Rattle.end.specs.Run.{World, Call, seen}
@@ -20,27 +22,38 @@ use Rattle.end.specs.Run.{World, Call, seen}
 abbrev pub house : World
 house = record { ends = λ h. freshEnd (asHost h) houseParams Idle; sent = [] }
 
-abbrev pub call : ℕ → ℕ → Event → Call
-call h clock ev = record { host = h; event = ev; clock = clock; output = replicate 128 0; draws = replicate 64 0 }
+abbrev pub call : ℕ → ℕ → Action → Call
+call h clock ev = record { host = h; action = ev; clock = clock; output = replicate 128 0; draws = replicate 64 0 }
 
 -- the cue with focus −2
 abbrev pub minusTwo : List ℕ
 minusTwo = cueWith (record { focus = negsuc 1; zoom = pos 0; sideways = pos 0; upright = pos 0; lamp = 0 })
 
-abbrev pub nameOf : ℕ → Name
-nameOf n = record { source = asHost 0; number = asNumber n }
+abbrev pub nameAt : ℕ → ℕ → Name
+nameAt s n = record { source = asHost s; number = asNumber n }
 
--- a message about name 0,n with its sender, stamp, host and cues
-abbrev pub about : ℕ → ℕ → ℕ → ℕ → ℕ → List (List ℕ) → List ℕ
-about kind sender stamp n host cues = bytesOf (record {
+-- a message about a name with its sender, stamp, host and cues
+abbrev pub aboutName : Name → ℕ → ℕ → ℕ → ℕ → List (List ℕ) → List ℕ
+aboutName name kind sender stamp host cues = bytesOf (record {
   kind = kind;
   sender = asHost sender;
   stamp = stamp;
-  names = record { name = nameOf n; host = asHost host } ∷ [];
+  names = record { name = name; host = asHost host } ∷ [];
   cues = cues;
   reports = [];
   echoes = [];
 })
+
+-- name 0,n, and a message about it
+abbrev pub nameOf : ℕ → Name
+nameOf n = nameAt 0 n
+
+abbrev pub about : ℕ → ℕ → ℕ → ℕ → ℕ → List (List ℕ) → List ℕ
+about kind sender stamp n host cues = aboutName (nameOf n) kind sender stamp host cues
+
+-- handed out: name 0,n with that cue
+abbrev pub got : ℕ → Outcome
+got n = Did (Got (nameOf n) minusTwo)
 
 -- the five messages, numbered as put out
 abbrev pub message0 : List ℕ
@@ -61,10 +74,10 @@ message4 = about REPL 0 560 1 1 (minusTwo ∷ [])
 -- "house" reads this
 abbrev pub script : List Call
 script =
-    call 0 0 (Move Join)
-    ∷ call 0 0 (Move Joined)
-    ∷ call 1 0 (Move Join)
-    ∷ call 1 0 (Move Joined)
+    call 0 0 (Moves Join)
+    ∷ call 0 0 (Moves Joined)
+    ∷ call 1 0 (Moves Join)
+    ∷ call 1 0 (Moves Joined)
     ∷ call 0 10 (Send minusTwo)
     ∷ call 1 12 (Arrival message0)
     ∷ call 0 20 (Send minusTwo)
@@ -85,15 +98,15 @@ printed =
     ∷ Did Done
     ∷ Did Done
     ∷ Did (Out message0)
-    ∷ Did (Got (nameOf 0) minusTwo)
+    ∷ got 0
     ∷ Did (Out message1)
     ∷ Did (Out message2)
-    ∷ Did (Got (nameOf 2) minusTwo)
+    ∷ got 2
     ∷ Did Nothing
     ∷ Did (Out message3)
     ∷ Did Done
     ∷ Did (Out message4)
-    ∷ Did (Got (nameOf 1) minusTwo)
+    ∷ got 1
     ∷ []
 
 abbrev pub outcomes : List Entry → List Outcome

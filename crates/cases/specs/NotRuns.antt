@@ -1,52 +1,57 @@
--- Lists of entries that are no runs of the service, beside one that is: the book turns something down. Each starts with two hosts
--- that join, and host 0's cues 0 and 1, or says what else.
+-- What a list of entries that is no run of the service looks like here: it goes by the book but for its last entry, which the book turns
+-- down for one reason. Document 01, "The service's book": "A list is a run of the service if after every call the end's status and the
+-- answers just named, with their names and cues, are the book's."
 use Prim.Native.Nat.{ℕ}
-use mathlib.Core.List.{List, [], _∷_}
+use mathlib.Core.List.{List, [], _∷_, _++_}
+use Rattle.message.specs.Message.{DATA, REPL}
 use Rattle.end.specs.declared.Status.{Status}
-use Rattle.end.specs.declared.Status.the-variants.{Idle, Joining, Member}
-use Rattle.end.specs.Arrival.{Out, Got, Done, Ignored}
-use Rattle.end.specs.Event.{Event, Move, Send, Arrival, Join, Joined, Outcome, Did}
-use Rattle.end.specs.Book.{Entry}
-use Rattle.cases.specs.Listing.{minusTwo, nameOf, message0, message1}
+use Rattle.end.specs.declared.Status.the-variants.{Idle, Joining, Member, Leaving}
+use Rattle.end.specs.Answer.{Out, Done}
+use Rattle.end.specs.Event.{Action, Moves, Send, Arrival}
+use Rattle.end.specs.declared.Move.the-variants.{Join, Joined, Leave, Left}
+use Rattle.end.specs.Answer.{Outcome, Did}
+use Rattle.end.specs.Book.{Entry, RunFrom, emptyBook}
+use Rattle.cases.specs.Listing.{minusTwo, about, message0, message1}
 
-abbrev pub entry : ℕ → Event → Outcome → Status → Entry
-entry h ev o st = record { host = h; event = ev; outcome = o; status = st }
+abbrev pub entry : ℕ → Action → Outcome → Status → Entry
+entry h ev o status = record { host = h; action = ev; outcome = o; status = status }
 
--- what was sent: host 0's cues 0 and 1
-abbrev pub started : List Entry → List Entry
-started rest =
-    entry 0 (Move Join) (Did Done) Joining
-    ∷ entry 0 (Move Joined) (Did Done) Member
-    ∷ entry 1 (Move Join) (Did Done) Joining
-    ∷ entry 1 (Move Joined) (Did Done) Member
-    ∷ entry 0 (Send minusTwo) (Did (Out message0)) Member
-    ∷ entry 0 (Send minusTwo) (Did (Out message1)) Member
-    ∷ rest
+-- a host joins; it leaves
+abbrev pub joins : ℕ → List Entry
+joins h = entry h (Moves Join) (Did Done) Joining ∷ entry h (Moves Joined) (Did Done) Member ∷ []
 
--- host 1 answers the arrival of a message
-abbrev pub hears : List ℕ → Outcome → Entry
-hears bytes o = entry 1 (Arrival bytes) o Member
+abbrev pub leaves : ℕ → List Entry
+leaves h = entry h (Moves Leave) (Did Done) Leaving ∷ entry h (Moves Left) (Did Done) Idle ∷ []
 
--- both cues handed out, in either order of arrival that keeps to the limits: a run
-abbrev pub inOrder : List Entry
-inOrder = started (hears message0 (Did (Got (nameOf 0) minusTwo)) ∷ hears message1 (Did (Got (nameOf 1) minusTwo)) ∷ [])
+-- host 0 sends a cue, as a member, and answers with these bytes
+abbrev pub sends : List ℕ → List ℕ → Entry
+sends cue bytes = entry 0 (Send cue) (Did (Out bytes)) Member
 
--- a cue handed out twice
-abbrev pub twice : List Entry
-twice = started (hears message0 (Did (Got (nameOf 0) minusTwo)) ∷ hears message0 (Did (Got (nameOf 0) minusTwo)) ∷ [])
+-- a host, a member, answers the arrival of a message
+abbrev pub hears : ℕ → List ℕ → Outcome → Entry
+hears h bytes o = entry h (Arrival bytes) o Member
 
--- a due Got withheld
-abbrev pub withheld : List Entry
-withheld = started (hears message0 (Did Ignored) ∷ [])
+-- host 0's third cue, and the DATA of it; the repair of name 0,1 from one host for another
+abbrev pub third : List ℕ → List ℕ
+third cue = about DATA 0 30 2 0 (cue ∷ [])
 
--- a cue below the first handed out
-abbrev pub belowTheFirst : List Entry
-belowTheFirst = started (hears message1 (Did (Got (nameOf 1) minusTwo)) ∷ hears message0 (Did (Got (nameOf 0) minusTwo)) ∷ [])
+abbrev pub repair : ℕ → ℕ → List ℕ
+repair sender requester = about REPL sender 560 1 requester (minusTwo ∷ [])
 
--- other bytes handed out
-abbrev pub otherBytes : List Entry
-otherBytes = started (hears message0 (Did (Got (nameOf 0) [])) ∷ [])
+-- how every list starts: hosts 0 and 1 join, and host 0 sends its cues 0 and 1
+abbrev pub started : List Entry
+started = joins 0 ++ (joins 1 ++ (sends minusTwo message0 ∷ sends minusTwo message1 ∷ []))
 
--- an end that ignores a Join
-abbrev pub ignoresJoin : List Entry
-ignoresJoin = entry 0 (Move Join) (Did Ignored) Idle ∷ []
+-- A limit of the book: after the start and these entries the wrong one is turned down, and the right one in its place is by the book; where
+-- the reason falls away the wrong one's answer is by the book too.
+pub record Limit : Type 0 where
+  pub before : List Entry
+  pub wrong : Entry
+  pub right : Entry
+  pub instead : List Entry
+
+abbrev pub TurnsDown : Limit → Type 0
+TurnsDown l =
+    (RunFrom emptyBook (started ++ (l .before ++ (l .wrong ∷ []))) → ⊥)
+    × RunFrom emptyBook (started ++ (l .before ++ (l .right ∷ [])))
+    × RunFrom emptyBook (started ++ l .instead)

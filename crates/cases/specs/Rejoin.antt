@@ -2,8 +2,10 @@
 -- original it is handed out if it is not below the first. (What the customer could not test.)
 use mathlib.Core.List.{List, [], _∷_, _++_}
 use lib.ListN.{take}
-use Rattle.end.specs.Arrival.{Got, Done, Ignored}
-use Rattle.end.specs.Event.{Move, Arrival, Join, Joined, Leave, Left, Outcome, Did}
+use Rattle.end.specs.Answer.{Got, Done, Ignored}
+use Rattle.end.specs.Event.{Moves, Arrival}
+use Rattle.end.specs.declared.Move.the-variants.{Join, Joined, Leave, Left}
+use Rattle.end.specs.Answer.{Outcome, Did}
 use Rattle.end.specs.Run.{Call}
 use Rattle.cases.specs.Listing.{call, minusTwo, nameOf, message0, message2, message4, script, printed}
 
@@ -11,7 +13,7 @@ use Rattle.cases.specs.Listing.{call, minusTwo, nameOf, message0, messag
 abbrev pub rejoining : List Call
 rejoining =
     take 13 script
-    ++ (call 1 570 (Move Leave) ∷ call 1 571 (Move Left) ∷ call 1 572 (Move Join) ∷ call 1 573 (Move Joined) ∷ call 1 574 (Arrival message4) ∷ [])
+    ++ (call 1 570 (Moves Leave) ∷ call 1 571 (Moves Left) ∷ call 1 572 (Moves Join) ∷ call 1 573 (Moves Joined) ∷ call 1 574 (Arrival message4) ∷ [])
 
 abbrev pub rejoiningGives : List Outcome
 rejoiningGives = take 13 printed ++ (Did Done ∷ Did Done ∷ Did Done ∷ Did Done ∷ Did Ignored ∷ [])

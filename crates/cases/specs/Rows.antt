@@ -14,8 +14,10 @@ use Rattle.end.specs.declared.Params.{Params}
 use Rattle.end.specs.declared.Status.the-variants.{Idle, Member}
 use Rattle.end.specs.declared.End.{End}
 use Rattle.end.specs.State.{freshEnd, withNext}
-use Rattle.end.specs.Arrival.{Out, measured}
-use Rattle.end.specs.Event.{Event, Send, Else, Report, Refused, Did, Result, eventOf}
+use Rattle.end.specs.Answer.{Out}
+use Rattle.end.specs.Session.{measured}
+use Rattle.end.specs.Event.{Action, Send, Else, Report, eventOf}
+use Rattle.end.specs.Answer.{Refused, Did, Result}
 use Rattle.end.specs.Opening.{houseParams, openRefusal, openingOf}
 use Rattle.cases.specs.Listing.{message3, script, printed, played}
 use Rattle.message.specs.Question.{readRefusal, readOf, writeRefusal, outputOf}
@@ -69,7 +71,7 @@ abbrev pub memberAt : ℕ → End
 memberAt next = withNext (freshEnd (asHost 0) houseParams Member) next
 
 -- an event at clock 0, with the output above and draws 0
-abbrev pub at0 : End → Event → Result
+abbrev pub at0 : End → Action → Result
 at0 e ev = eventOf e ev 0 128 (replicate 64 0)
 
 -- an echo of oneself, host 0, by which e ticks have passed

@@ -193,14 +193,14 @@ fn round(x: &mut u64) -> u8 {
     }
 }
 
-fn slot(x: &mut u64, field: u64, clock: u64) -> Slot {
+fn slot(x: &mut u64, field: u64, clock: u64, was: Slot) -> Slot {
     let t = capped(clock);
     match field {
         8 => {
             let k = dice::below(x, 3);
             match k {
                 0 => Slot::Empty,
-                1 => Slot::Held,
+                1 => Slot::Held(state::reply_in(was)),
                 _ => waiting(1, t, 0),
             }
         }
@@ -231,40 +231,36 @@ fn quiet(x: &mut u64) -> u64 {
 
 // A record with one field changed.
 fn record(x: &mut u64, field: u64, clock: u64, r: Record) -> Record {
-    let was_slot = r.slot;
-    let was_reply = r.reply;
+    let was = r.slot;
     let mut cue = r.cue;
     if field < 12 {
         return Record {
-            slot: slot(x, field, clock),
+            slot: slot(x, field, clock, was),
             cue,
-            reply: was_reply,
-            quiet: r.quiet,
+            hush: r.hush,
         };
     }
     if field < 14 {
+        let new = reply(x, field, clock);
         return Record {
-            slot: was_slot,
+            slot: state::with_reply(new, was),
             cue,
-            reply: reply(x, field, clock),
-            quiet: r.quiet,
+            hush: r.hush,
         };
     }
     if field == 14 {
         return Record {
-            slot: was_slot,
+            slot: was,
             cue,
-            reply: was_reply,
-            quiet: quiet(x),
+            hush: quiet(x),
         };
     }
     let at = dice::below(x, 10) as usize;
     cue[at] = dice::byte(x);
     Record {
-        slot: was_slot,
+        slot: was,
         cue,
-        reply: was_reply,
-        quiet: r.quiet,
+        hush: r.hush,
     }
 }
 
@@ -345,15 +341,13 @@ fn soon(x: &mut u64, clock: u64) -> u64 {
     capped(clock) + dice::below(x, 3)
 }
 
-// A held cue's reply, to a requester who is neither oneself nor the source; otherwise what was there.
-fn reply_soon(x: &mut u64, due: u64, me: Host, source: u8, r: Record) -> Reply {
+// The slot of a held cue with a reply, to a requester who is neither oneself nor the source; otherwise what was there.
+fn reply_soon(x: &mut u64, due: u64, me: Host, source: u8, slot: Slot) -> Slot {
     let requester = dice::small(x, 8);
-    let slot = r.slot;
-    let was = r.reply;
-    if parts::is_held(slot) & (requester != me.0) & (requester != source) {
-        Reply::Due(due, Host(requester))
+    if (requester != me.0) & (requester != source) {
+        state::with_reply(Reply::Due(due, Host(requester)), slot)
     } else {
-        was
+        slot
     }
 }
 
@@ -362,30 +356,22 @@ fn record_soon(x: &mut u64, clock: u64, me: Host, source: u8, r: Record) -> Reco
     let kind = dice::below(x, 3);
     let t = soon(x, clock);
     let slot = r.slot;
-    let reply = r.reply;
     let cue = r.cue;
     if kind == 0 {
         return Record {
-            slot,
+            slot: reply_soon(x, t, me, source, slot),
             cue,
-            reply: reply_soon(x, t, me, source, r),
-            quiet: r.quiet,
+            hush: r.hush,
         };
     }
     if (kind == 1) & (source != me.0) {
         return Record {
             slot: waiting(1 + dice::small(x, 16), t, soon(x, clock)),
             cue,
-            reply: Reply::No,
-            quiet: r.quiet,
+            hush: r.hush,
         };
     }
-    Record {
-        slot,
-        cue,
-        reply,
-        quiet: t,
-    }
+    Record { slot, cue, hush: t }
 }
 
 // The end with one record changed so, of a source that is open.

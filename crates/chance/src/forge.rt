@@ -195,6 +195,9 @@ fn message(x: &mut u64, name: u64, clock: u64) -> Message {
     let number = number(x, name);
     let host = dice::small(x, 8);
     let name = entry(kind, sender, source, number, host);
+    let zeros = message::blank();
+    let mut names = zeros.names;
+    names[0] = name;
     let cue = inputs::cue(x);
     let said = drawn_reports(x);
     let heard = drawn_echoes(x, clock, sender);
@@ -206,7 +209,7 @@ fn message(x: &mut u64, name: u64, clock: u64) -> Message {
         sender: Host(sender),
         stamp: at,
         counts,
-        names: [name; 1],
+        names,
         cue,
         reports: report_places,
         echoes: echo_places,

@@ -10,7 +10,9 @@ use player::Printed;
 use script::Call;
 use script::Line;
 ghost use mathlib.Core.Path.{_≡_};
+ghost use mathlib.Core.Bool.{cond};
 ghost use Prim.Native.Nat.{_≤_};
+ghost use lib.Dec.{eqb};
 ghost use lib.ListN.{length};
 ghost use Rattle.message.specs.Entry.{asHost};
 ghost use Rattle.end.specs.Opening.{houseParams, openingOf};
@@ -50,6 +52,20 @@ pub struct Turned {
     pub end: End,
     pub count: usize,
     pub used: usize,
+}
+
+// The two ends of a house, hosts 0 and 1, how many messages they have put out, and how much of the output's buffer is used.
+pub struct House {
+    pub zero: End,
+    pub one: End,
+    pub count: usize,
+    pub used: usize,
+}
+
+// The house after a line, and whether it stops there.
+pub struct Went {
+    pub house: House,
+    pub stops: bool,
 }
 
 // How many bytes a printed line needs at most.
@@ -178,7 +194,21 @@ pub fn fresh(host: u8) -> End
     opened.end
 }
 
-// Plays a line on the end that it names, and prints what it gives.
+// A house at the start of a script.
+pub fn opened() -> House
+    ensures { λ r. ⌜ (r .zero ≡ openingOf (asHost 0) houseParams .end) × (r .one ≡ openingOf (asHost 1) houseParams .end) ⌝ }
+{
+    let zero = fresh(0);
+    let one = fresh(1);
+    House {
+        zero,
+        one,
+        count: 0,
+        used: 0,
+    }
+}
+
+// Plays a call on an end, and prints what it gives.
 pub fn turn(
     e: End,
     call: Call,
@@ -201,6 +231,79 @@ pub fn turn(
         end,
         count: played.count,
         used: printed_to,
+    }
+}
+
+// The end that a line names, and the house with it after the line.
+fn end_at(house: House, n: u8) -> End
+    ensures { λ r. ⌜ r ≡ cond (eqb n 0) (house .zero) (house .one) ⌝ }
+{
+    let zero = house.zero;
+    let one = house.one;
+    if n == 0 { zero } else { one }
+}
+
+fn with_turn(house: House, n: u8, t: Turned) -> House
+    ensures { λ r. ⌜ (r .zero ≡ cond (eqb n 0) (t .end) (house .zero)) × (r .one ≡ cond (eqb n 0) (house .one) (t .end)) ⌝ }
+{
+    let zero = house.zero;
+    let one = house.one;
+    let end = t.end;
+    if n == 0 {
+        House {
+            zero: end,
+            one,
+            count: t.count,
+            used: t.used,
+        }
+    } else {
+        House {
+            zero,
+            one: end,
+            count: t.count,
+            used: t.used,
+        }
+    }
+}
+
+fn play_call(
+    house: House,
+    call: Call,
+    places: &mut [u8; 8192],
+    lengths: &mut [u8; 64],
+    output: &mut [u8; 4096],
+) -> Went {
+    let e = end_at(house, call.end);
+    let t = turn(e, call, places, lengths, house.count, output, house.used);
+    let printed = t.printed;
+    let stops = is_bad(printed);
+    Went {
+        house: with_turn(house, call.end, t),
+        stops,
+    }
+}
+
+// Prints that a line is malformed: the house stops.
+fn play_malformed(house: House, output: &mut [u8; 4096]) -> Went {
+    let mut h = house;
+    h.used = print(output, h.used, 0, 0, Printed::Bad);
+    Went {
+        house: h,
+        stops: true,
+    }
+}
+
+// Plays a line in a house, and prints what it gives.
+pub fn play(
+    house: House,
+    line: Line,
+    places: &mut [u8; 8192],
+    lengths: &mut [u8; 64],
+    output: &mut [u8; 4096],
+) -> Went {
+    match line {
+        Line::Play(call) => play_call(house, call, places, lengths, output),
+        Line::Malformed => play_malformed(house, output),
     }
 }
 

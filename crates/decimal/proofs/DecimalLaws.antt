@@ -13,6 +13,7 @@ use lib.IntN.{ℤ, pos, negsuc}
 use borrow.Author.Tests.{lt-ltb, le-ltb, le-leb, leb-true}
 use mir.Syntax.{w16}
 use mir.Val.{SFits}
+use Rattle.numbers.specs.Signed.{signed}
 use Rattle.numbers.proofs.Cases.{by-order}
 use Rattle.decimal.specs.Decimal.{figures, decimal, signedDecimal, isDigit, allDigits, valueAfter}
 
@@ -38,16 +39,6 @@ unfolding valueAfter
 after-grows h [] = omega arith
 after-grows h (b ∷ s) = omega (arith, after-grows (h * 10 + (b - 48)) s)
 
--- the first digits of a word stand for no more than all of them
-pub after-part : (i : ℕ) (s : List ℕ) → valueAfter 0 (take i s) ≤ valueAfter 0 s
-after-part i s =
-    let e : valueAfter 0 s ≡ valueAfter (valueAfter 0 (take i s)) (drop i s) = ap (valueAfter 0) (sym (take-append-drop i s)) ∙ after-append 0 (take i s) (drop i s) in
-    omega (arith, after-grows (valueAfter 0 (take i s)) (drop i s))
-
--- one byte more is read
-pub after-step : (s : List ℕ) (i : ℕ) → i < length s → valueAfter 0 (take (i + 1) s) ≡ valueAfter 0 (take i s) * 10 + (getD s i 0 - 48)
-after-step s i h = ap (valueAfter 0) (rw (add-one, take-suc s i 0)) ∙ after-more 0 (take i s) (getD s i 0)
-
 -- ---- digits
 
 pub all-append : (a b : List ℕ) → allDigits (a ++ b) ≡ (allDigits a && allDigits b)
@@ -59,16 +50,6 @@ all-append (x ∷ a) b = ap (λ (t : Bool). isDigit x && t) (all-append a b) ∙
 pub all-more : (a : List ℕ) (x : ℕ) → allDigits a ≡ true → isDigit x ≡ true → allDigits (a ++ (x ∷ [])) ≡ true
 unfolding allDigits
 all-more a x h d = all-append a (x ∷ []) ∙ rw (h, d)
-
-pub all-step : (s : List ℕ) (i : ℕ) → i < length s → allDigits (take i s) ≡ true → isDigit (getD s i 0) ≡ true → allDigits (take (i + 1) s) ≡ true
-all-step s i h a d = ap allDigits (rw (add-one, take-suc s i 0)) ∙ all-more (take i s) (getD s i 0) a d
-
--- a byte that is no digit
-pub not-all : (s : List ℕ) (i : ℕ) → i < length s → isDigit (getD s i 0) ≡ false → allDigits s ≡ false
-unfolding allDigits
-not-all [] i h e = absurd (omega arith)
-not-all (b ∷ s) zero h e = rw e
-not-all (b ∷ s) (suc i) h e = rw (not-all s i (omega arith) e) (and-false (isDigit b))
 
 pub digit-range : (b : ℕ) → isDigit b ≡ true → (48 ≤ b) × (b ≤ 57)
 digit-range b h =
@@ -147,3 +128,16 @@ digits-step s (suc j) n g p h =
     let k : j < length s = omega arith in
     let k′ : j < length (set s j (48 + n % 10)) = simp length-set (omega arith) in
     rw (sub-one, decimal-more n g, append-assoc, drop-cons (set s j (48 + n % 10)) j 0 k′, getD-set-same s j (48 + n % 10) 0 k, drop-set-lt (suc j) s j (48 + n % 10) (omega arith))
+
+-- ---- 16 bits
+
+-- bits below 32768, and from there on
+pub low-bits : (v : ℕ) → v < 32768 → decimal v ≡ signedDecimal (signed v)
+unfolding signedDecimal
+low-bits v l = rw (lt-ltb v 32768 l)
+
+pub high-bits : (v : ℕ) → 32768 ≤ v → v < 65536 → 45 ∷ decimal (65536 - v) ≡ signedDecimal (signed v)
+unfolding signedDecimal
+high-bits v g l =
+    let e : 65536 - v ≡ suc (65535 - v) = omega arith in
+    rw (le-ltb v 32768 g) (ap (λ (n : ℕ). 45 ∷ decimal n) e)

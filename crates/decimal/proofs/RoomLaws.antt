@@ -1,15 +1,15 @@
 -- The laws of `specs/Room.antt`: a part of a line, and bytes put where there is room.
-use mathlib.Core.Path.{_≡_, sym, ap, _∙_}
+use mathlib.Core.Path.{_≡_, sym, ap, _∙_, subst}
 use mathlib.Core.List.{List, [], _∷_}
-use Prim.Native.Nat.{ℕ, suc, _+_, _-_, _≤_, _<_, min}
-use native.Mathlib.Numerals.{add-one}
+use Prim.Native.Nat.{ℕ, _+_, _-_, _≤_, _<_, min}
 use native.Mathlib.Omega.{arith}
-use lib.ListN.{length, drop, getD, length-drop, drop-of-length-le}
-use lib.Seq.{take-all, drop-cons, take-nil}
+use lib.ListN.{length, drop, set, length-drop}
+use lib.Seq.{take-all}
 use borrow.Author.Tests.{le-leb, lt-leb}
 use Rattle.numbers.specs.Splice.{splice}
+use Rattle.numbers.proofs.SpliceLaws.{splice-one, put-next}
 use Rattle.numbers.proofs.Cases.{by-order}
-use Rattle.decimal.specs.Room.{part, putAt, endAt}
+use Rattle.decimal.specs.Room.{part, putAt, endAt, Put}
 
 -- ---- parts
 
@@ -17,9 +17,6 @@ pub part-none : (from to : ℕ) (s : List ℕ) → to ≤ from → part from to 
 part-none from to s h =
     let e : to - from ≡ 0 = omega arith in
     rw e
-
-pub part-past : (from to : ℕ) (s : List ℕ) → length s ≤ from → part from to s ≡ []
-part-past from to s h = rw (drop-of-length-le s {i = from} h) (take-nil (to - from))
 
 -- to the line's end
 pub part-rest : (from to : ℕ) (s : List ℕ) → length s ≤ to → part from to s ≡ drop from s
@@ -32,18 +29,13 @@ part-clamped from to s =
     (λ l. ap (λ (e : ℕ). part from e s) (omega arith))
     (λ g. part-rest from to s g ∙ sym (part-rest from (min to (length s)) s (omega arith)))
 
--- the first byte, and then the rest
-pub part-cons : (from to : ℕ) (s : List ℕ) → from < to → from < length s → part from to s ≡ getD s from 0 ∷ part (from + 1) to s
-part-cons from to s h l =
-    let e : to - from ≡ suc (to - suc from) = omega arith in
-    rw (add-one, e, drop-cons s from 0 l)
-
--- a part that starts with something
-pub part-starts : (from to : ℕ) (s : List ℕ) → 0 < getD (part from to s) 0 0 → (from < to) × (from < length s)
-part-starts from to s h =
-    by-order from to
-    (λ l. by-order from (length s) (λ m. (l, m)) (λ g. absurd (omega (arith, ap (λ (w : List ℕ). getD w 0 0) (part-past from to s g)))))
-    (λ g. absurd (omega (arith, ap (λ (w : List ℕ). getD w 0 0) (part-none from to s g))))
+-- a start and an end within the line
+pub part-within : (from to : ℕ) {start end : ℕ} (s : List ℕ) → end ≡ min to (length s) → start ≡ min from end → part start end s ≡ part from to s
+part-within from to {start} {end} s e b =
+    let k : part from end s ≡ part from to s = ap (λ (n : ℕ). part from n s) e ∙ sym (part-clamped from to s) in
+    by-order from end
+    (λ l. ap (λ (n : ℕ). part n end s) (omega arith) ∙ k)
+    (λ g. part-none start end s (omega arith) ∙ sym (part-none from end s g) ∙ k)
 
 -- ---- room
 
@@ -51,14 +43,26 @@ pub put-room : (at : ℕ) (b out : List ℕ) → at + length b ≤ length out �
 unfolding putAt
 put-room at b out h = rw (le-leb (at + length b) (length out) h)
 
-pub put-none : (at : ℕ) (b out : List ℕ) → length out < at + length b → putAt at b out ≡ out
-unfolding putAt
-put-none at b out h = rw (lt-leb (at + length b) (length out) h)
-
 pub end-room : (at : ℕ) (b out : List ℕ) → at + length b ≤ length out → endAt at b out ≡ at + length b
 unfolding endAt
 end-room at b out h = rw (le-leb (at + length b) (length out) h)
 
-pub end-none : (at : ℕ) (b out : List ℕ) → length out < at + length b → endAt at b out ≡ at
-unfolding endAt
-end-none at b out h = rw (lt-leb (at + length b) (length out) h)
+-- what a write promises, where there is room and where there is none
+pub written : {at w : ℕ} {b out after : List ℕ} → w ≡ length b → at + w ≤ length out → after ≡ splice at b out → Put at b out after (at + w)
+written {at} {w} {b} {out} e h p =
+    let k : at + length b ≤ length out = omega arith in
+    record { bytes = p ∙ sym (put-room at b out k); ends = omega (arith, end-room at b out k) }
+
+pub signed-written : {at w : ℕ} {b out after : List ℕ} → w ≡ length b + 1 → at + w ≤ length out → after ≡ splice (at + 1) b (set out at 45)
+    → Put at (45 ∷ b) out after (at + w)
+signed-written {at} {w} {b} {out} e h p =
+    written (omega arith) h (put-next out at (at + 1) (45 ∷ []) b (omega arith) (omega arith) (splice-one at 45 out (omega arith)) p)
+
+pub not-written : {at : ℕ} {b out : List ℕ} → length out < at + length b → Put at b out out at
+unfolding putAt endAt
+not-written {at} {b} {out} h =
+    let e = lt-leb (at + length b) (length out) h in
+    record { bytes = rw e; ends = rw e }
+
+pub put-same : {at end : ℕ} {a b out after : List ℕ} → Put at a out after end → a ≡ b → Put at b out after end
+put-same {at} {end} {a} {b} {out} {after} p e = subst (λ (w : List ℕ). Put at w out after end) e p

@@ -2,12 +2,13 @@
 // printed as, what a word means) and Room.antt (a part of a line, bytes put where there is room).
 ghost use mathlib.Core.Path.{_≡_};
 ghost use mathlib.Core.List.{_∷_};
-ghost use Prim.Native.Nat.{_+_, _≤_, min};
-ghost use lib.Dec.{leb};
-ghost use lib.ListN.{length, getD};
+ghost use Prim.Native.Nat.{_-_, min};
 ghost use Rattle.numbers.specs.Splice.{splice};
+ghost use Rattle.numbers.specs.Signed.{signed};
+ghost use Rattle.decimal.specs.declared.Unsigned.the-variants.{Number};
 ghost use Rattle.decimal.specs.Decimal.{decimal, signedDecimal, unsignedWord, asPositive, asNegative, signedWord};
-ghost use Rattle.decimal.specs.Room.{part, putAt, endAt};
+ghost use Rattle.decimal.specs.Room.{part, Put};
+ghost use Rattle.decimal.specs.Steps.{withDigit, digitsAfter, First, Width, Fits};
 
 // What a word means as an unsigned number.
 pub enum Unsigned {
@@ -24,33 +25,63 @@ pub enum Signed {
 // The largest number below 2^64.
 const LARGEST: u64 = 18446744073709551615;
 
-// The number that a whole slice means.
-fn number_in(s: &[u8]) -> Unsigned
-    ensures { λ r. ⌜ r ≡ unsignedWord (now (s .entry)) ⌝ }
+// A number with one digit more after it, where the byte is a digit and the result is below 2^64.
+fn with_digit(v: u64, b: u8) -> Unsigned
+    ensures { λ r. ⌜ r ≡ withDigit (Number v) b ⌝ }
 {
-    let n = s.len();
-    if n == 0 {
+    if !((b'0' <= b) & (b <= b'9')) {
         return Unsigned::NoNumber;
     }
-    if (s[0] == b'0') & (1 < n) {
+    let d = (b - b'0') as u64;
+    // ten times v and d more would be above the largest
+    if (LARGEST - d) / 10 < v {
         return Unsigned::NoNumber;
     }
-    let mut v: u64 = 0;
+    Unsigned::Number(v * 10 + d)
+}
+
+// The same after what was read so far, which may be no number already.
+fn more(u: Unsigned, b: u8) -> Unsigned
+    ensures { λ r. ⌜ r ≡ withDigit u b ⌝ }
+{
+    match u {
+        Unsigned::Number(v) => with_digit(v, b),
+        Unsigned::NoNumber => Unsigned::NoNumber,
+    }
+}
+
+// The number that digits stand for; zeros before them count for nothing.
+fn digits_in(s: &[u8]) -> Unsigned
+    ensures { λ r. ⌜ r ≡ digitsAfter (Number 0) (now (s .entry)) ⌝ }
+{
+    let mut u = Unsigned::Number(0);
     let mut i: usize = 0;
-    while i < n {
-        let b = s[i];
-        if !((b'0' <= b) & (b <= b'9')) {
-            return Unsigned::NoNumber;
-        }
-        let d = (b - b'0') as u64;
-        // ten times v and d more would be above the largest
-        if (LARGEST - d) / 10 < v {
-            return Unsigned::NoNumber;
-        }
-        v = v * 10 + d;
+    while i < s.len() {
+        u = more(u, s[i]);
         i += 1;
     }
-    Unsigned::Number(v)
+    u
+}
+
+// The first byte of a word, 0 where it has none.
+fn first(s: &[u8]) -> u8
+    ensures { λ r. ⌜ First (now (s .entry)) r ⌝ }
+{
+    if s.len() == 0 {
+        return 0;
+    }
+    s[0]
+}
+
+// The unsigned number that a whole slice means.
+pub fn number_in(s: &[u8]) -> Unsigned
+    ensures { λ r. ⌜ r ≡ unsignedWord (now (s .entry)) ⌝ }
+{
+    let b = first(s);
+    if (b == 0) | ((b == b'0') & (1 < s.len())) {
+        return Unsigned::NoNumber;
+    }
+    digits_in(s)
 }
 
 fn least(a: usize, b: usize) -> usize
@@ -64,23 +95,8 @@ pub fn read_u64(line: &[u8], from: usize, to: usize) -> Unsigned
     ensures { λ r. ⌜ r ≡ unsignedWord (part from to (now (line .entry))) ⌝ }
 {
     let end = least(to, line.len());
-    if end <= from {
-        return Unsigned::NoNumber;
-    }
-    number_in(&line[from..end])
-}
-
-// The first byte of a word, 0 where it has none.
-fn first(line: &[u8], from: usize, to: usize) -> u8
-    ensures { λ r. ⌜ r ≡ getD (part from to (now (line .entry))) 0 0 ⌝ }
-{
-    if to <= from {
-        return 0;
-    }
-    if line.len() <= from {
-        return 0;
-    }
-    line[from]
+    let start = least(from, end);
+    number_in(&line[start..end])
 }
 
 // An unsigned number as a signed one.
@@ -115,20 +131,29 @@ fn negative(u: Unsigned) -> Signed
     }
 }
 
+// The signed 16-bit number that a whole slice means.
+pub fn signed_in(s: &[u8]) -> Signed
+    ensures { λ r. ⌜ r ≡ signedWord (now (s .entry)) ⌝ }
+{
+    if first(s) == b'-' {
+        negative(number_in(&s[1..]))
+    } else {
+        positive(number_in(s))
+    }
+}
+
 // The signed 16-bit number that the bytes from `from` on and before `to` mean.
 pub fn read_i16(line: &[u8], from: usize, to: usize) -> Signed
     ensures { λ r. ⌜ r ≡ signedWord (part from to (now (line .entry))) ⌝ }
 {
-    if first(line, from, to) == b'-' {
-        negative(read_u64(line, from + 1, to))
-    } else {
-        positive(read_u64(line, from, to))
-    }
+    let end = least(to, line.len());
+    let start = least(from, end);
+    signed_in(&line[start..end])
 }
 
 // How many digits a number has.
 fn width(n: u64) -> usize
-    ensures { λ r. ⌜ r ≡ length (decimal n) ⌝ }
+    ensures { λ r. ⌜ Width n r ⌝ }
 {
     let mut left = n;
     let mut w: usize = 1;
@@ -139,19 +164,16 @@ fn width(n: u64) -> usize
     w
 }
 
-// Whether w bytes from `at` on fit a buffer.
-fn fits(len: usize, at: usize, w: usize) -> bool
-    ensures { λ r. ⌜ r ≡ leb (at + w) len ⌝ }
+// How many bytes there are from `at` on.
+fn room_from(at: usize, len: usize) -> usize
+    ensures { λ r. ⌜ r ≡ len - at ⌝ }
 {
-    if len < at {
-        return false;
-    }
-    w <= len - at
+    if at < len { len - at } else { 0 }
 }
 
 // Writes the digits of n, which end before `end`, the last one first.
 fn put_digits(out: &mut [u8], at: usize, end: usize, n: u64)
-    requires { ⌜ (end ≡ at + length (decimal n)) × (end ≤ length (now out)) ⌝ }
+    requires { ⌜ Fits at (decimal n) (now out) end ⌝ }
     ensures { λ _. ⌜ now (out .exit) ≡ splice at (decimal n) (now (out .entry)) ⌝ }
 {
     let mut left = n;
@@ -166,10 +188,10 @@ fn put_digits(out: &mut [u8], at: usize, end: usize, n: u64)
 
 // Writes n from `at` on and answers where it ends; where it does not fit, nothing is written and the answer is `at`.
 pub fn put_u64(out: &mut [u8], at: usize, n: u64) -> usize
-    ensures { λ r. ⌜ (now (out .exit) ≡ putAt at (decimal n) (now (out .entry))) × (r ≡ endAt at (decimal n) (now (out .entry))) ⌝ }
+    ensures { λ r. ⌜ Put at (decimal n) (now (out .entry)) (now (out .exit)) r ⌝ }
 {
     let w = width(n);
-    if fits(out.len(), at, w) {
+    if w <= room_from(at, out.len()) {
         put_digits(out, at, at + w, n);
         at + w
     } else {
@@ -179,10 +201,10 @@ pub fn put_u64(out: &mut [u8], at: usize, n: u64) -> usize
 
 // Writes a minus sign and n.
 fn put_negative(out: &mut [u8], at: usize, n: u64) -> usize
-    ensures { λ r. ⌜ (now (out .exit) ≡ putAt at (45 ∷ decimal n) (now (out .entry))) × (r ≡ endAt at (45 ∷ decimal n) (now (out .entry))) ⌝ }
+    ensures { λ r. ⌜ Put at (45 ∷ decimal n) (now (out .entry)) (now (out .exit)) r ⌝ }
 {
     let w = width(n) + 1;
-    if fits(out.len(), at, w) {
+    if w <= room_from(at, out.len()) {
         out[at] = b'-';
         put_digits(out, at + 1, at + w, n);
         at + w
@@ -191,15 +213,21 @@ fn put_negative(out: &mut [u8], at: usize, n: u64) -> usize
     }
 }
 
-// Writes a signed number from `at` on and answers where it ends, as put_u64 does. From 32768 on its 16 bits are those of a
-// negative number, whose size is 65536 less them.
-pub fn put_i16(out: &mut [u8], at: usize, z: i16) -> usize
-    ensures { λ r. ⌜ (now (out .exit) ≡ putAt at (signedDecimal z) (now (out .entry))) × (r ≡ endAt at (signedDecimal z) (now (out .entry))) ⌝ }
+// Writes a number that is given by its 16 bits. From 32768 on they are those of a negative number, whose size is 65536 less them.
+fn put_bits(out: &mut [u8], at: usize, bits: u16) -> usize
+    ensures { λ r. ⌜ Put at (signedDecimal (signed bits)) (now (out .entry)) (now (out .exit)) r ⌝ }
 {
-    let bits = numbers::of_i16(z) as u64;
-    if bits < 32768 {
-        put_u64(out, at, bits)
+    let n = bits as u64;
+    if n < 32768 {
+        put_u64(out, at, n)
     } else {
-        put_negative(out, at, 65536 - bits)
+        put_negative(out, at, 65536 - n)
     }
+}
+
+// Writes a signed number from `at` on and answers where it ends, as put_u64 does.
+pub fn put_i16(out: &mut [u8], at: usize, z: i16) -> usize
+    ensures { λ r. ⌜ Put at (signedDecimal z) (now (out .entry)) (now (out .exit)) r ⌝ }
+{
+    put_bits(out, at, numbers::of_i16(z))
 }

@@ -1,6 +1,12 @@
-pub mod SoundLaws
-pub mod Bounds
+pub mod Tools
+pub mod RecordLaws
 pub mod NameLaws
 pub mod FireLaws
+pub mod Bounds
+pub mod SoundLaws
 pub mod Ready
+pub mod Facts
+pub mod Readings
+pub mod Grounds
+pub mod Reasons
 pub mod Service

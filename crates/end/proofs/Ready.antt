@@ -1,6 +1,6 @@
 -- What the end's steps need of a state: its parameters, clock and distances are in range. Soundness and question 4 give it, and
 -- setting the clock keeps it.
-use mathlib.Core.Path.{_≡_, refl}
+use mathlib.Core.Path.{_≡_}
 use Prim.Native.Nat.{ℕ, _≤_, _<_}
 use native.Mathlib.Omega.{arith}
 use mathlib.Core.Bool.{Bool, true, false}
@@ -8,26 +8,14 @@ use lib.ListN.{getD}
 use lib.Dec.{leb}
 use borrow.Author.Tests.{eqb-true, leb-true}
 use Rattle.message.specs.declared.Host.{Host}
-use Rattle.message.specs.declared.CueNumber.{CueNumber}
 use Rattle.message.specs.Entry.{asHost}
 use Rattle.message.specs.Question.{sameHost}
 use Rattle.message.proofs.QuestionLaws.{and-both}
-use Rattle.end.specs.declared.Span.{Span}
-use Rattle.end.specs.declared.Span.the-variants.{Closed, Open}
-use Rattle.end.specs.declared.Source.{Source}
 use Rattle.end.specs.declared.End.{End}
-use Rattle.end.specs.Round.{Timing}
-use Rattle.end.specs.Names.{rise}
-use Rattle.end.specs.State.{noSource, isMember, distanceTo, withClock}
-use Rattle.end.specs.Sound.{allOf, distanceSound, paramsTests, sourceTests, soundTests, soundOf}
+use Rattle.end.specs.State.{noSource, isMember, distanceTo, withClock, momentOf}
+use Rattle.end.specs.Sound.{distanceSound, paramsTests, sourceTests, soundTests, soundOf}
+use Rattle.end.specs.Ready.{Ranges, Ready}
 use Rattle.end.proofs.SoundLaws.{nth, sound-end}
-use Rattle.end.proofs.Bounds.{Ranges}
-
--- parameters and clock in range
-pub record Ready (e : End) : Type 0 where
-  pub params : allOf (paramsTests (e .params)) ≡ true
-  pub clock : e .clock < 281474976710656
-  pub distances : (h : ℕ) → h < 8 → distanceTo e (asHost h) ≤ 1000
 
 distance-most : (own : Bool) (d : ℕ) → distanceSound own d ≡ true → d ≤ 1000
 distance-most true d h = omega (arith, eqb-true d 0 h)
@@ -45,7 +33,7 @@ ready e t h l = record {
 }
 
 -- so the ranges of every wait follow
-pub ranges : (e : End) → Ready e → (h : Host) → h .0 < 8 → Ranges (e .params) (e .clock) (distanceTo e h)
+pub ranges : (e : End) → Ready e → (h : Host) → h .0 < 8 → Ranges (momentOf e) (distanceTo e h)
 ranges e r h l =
     let p : (i : ℕ) → getD (paramsTests (e .params)) i true ≡ true = λ i. nth (paramsTests (e .params)) i (r .params) in
     record {
@@ -58,9 +46,3 @@ ranges e r h l =
       clock = r .clock;
       distance = r .distances (h .0) l;
     }
-
--- a rise keeps the distance
-pub rise-distance : (tm : Timing) (n : CueNumber) (s : Source) (x : Span) → rise tm n s x .distance ≡ s .distance
-unfolding rise
-rise-distance tm n s Closed = refl
-rise-distance tm n s (Open first last) = refl

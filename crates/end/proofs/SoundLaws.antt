@@ -20,8 +20,9 @@ use Rattle.end.specs.declared.Span.{Span}
 use Rattle.end.specs.declared.Span.the-variants.{Closed, Open}
 use Rattle.end.specs.declared.Source.{Source}
 use Rattle.end.specs.declared.End.{End}
-use Rattle.end.specs.State.{noRecord, noSource, isMember, isHeld}
-use Rattle.end.specs.Sound.{allFrom, allOf, allBelow, heldTests, insideSound, outsideSound, within, recordSound, nonMemberTests, isClosed, sourceTests, sourceSound, soundTests, soundOf}
+use Rattle.end.specs.State.{noSource, isMember}
+use Rattle.end.specs.Records.{isClosed, within, rawAt, isHeld}
+use Rattle.end.specs.Sound.{allFrom, allOf, allBelow, heldTests, insideSound, outsideSound, recordSound, nonMemberTests, sourceTests, sourceSound, soundTests, soundOf}
 
 -- ---- the tests
 
@@ -78,8 +79,8 @@ module _ (e : End) (h : Host) (s : Source) (sound : sourceSound (e .host) (e .ne
   pub names-length : length (s .names) ≡ 64
   names-length = eqb-true (length (s .names)) 64 (nth (sourceTests (e .host) (e .next) (e .clock) (isMember (e .status)) h s) 0 sound)
 
-  pub record-sound : (n : ℕ) → n < 64 → recordSound (e .host) h (s .span) n (getD (s .names) n noRecord) ≡ true
-  record-sound n l = all-at (λ n. recordSound (e .host) h (s .span) n (getD (s .names) n noRecord)) 64 n (nth (sourceTests (e .host) (e .next) (e .clock) (isMember (e .status)) h s) 5 sound) l
+  pub record-sound : (n : ℕ) → n < 64 → recordSound (e .host) h (s .span) n (rawAt (s .names) n) ≡ true
+  record-sound n l = all-at (λ n. recordSound (e .host) h (s .span) n (rawAt (s .names) n)) 64 n (nth (sourceTests (e .host) (e .next) (e .clock) (isMember (e .status)) h s) 5 sound) l
 
   closed-is : (x : Span) → isClosed x ≡ true → x ≡ Closed
   closed-is Closed p = refl
@@ -109,7 +110,7 @@ module _ (me source : Host) (span : Span) (n : ℕ) (r : Record) (sound : record
     where
       go : (x : Slot) → outsideSound r x ≡ true → isHeld x ≡ false
       go Empty p = refl
-      go Held p = absurd (true≢false (sym p))
+      go (Held reply) p = absurd (true≢false (sym p))
       go (Waiting q) p = refl
 
   -- inside, own names are held
@@ -118,16 +119,18 @@ module _ (me source : Host) (span : Span) (n : ℕ) (r : Record) (sound : record
     where
       go : (x : Slot) → insideSound me source r x ≡ true → isHeld x ≡ true
       go Empty p = p
-      go Held p = refl
+      go (Held reply) p = refl
       go (Waiting q) p = absurd (true≢false (sym (and-both (not (sameHost source me)) _ p .0) ∙ ap not same))
 
   -- a held cue is 24 bytes, with its fields in range
-  pub held-cue : r .slot ≡ Held → (length (r .cue) ≡ 24) × (cueIn (r .cue) ≡ true)
+  pub held-cue : isHeld (r .slot) ≡ true → (length (r .cue) ≡ 24) × (cueIn (r .cue) ≡ true)
   held-cue p = go (within span n) refl
     where
-      tests : insideSound me source r Held ≡ true → (length (r .cue) ≡ 24) × (cueIn (r .cue) ≡ true)
-      tests q = (eqb-true (length (r .cue)) 24 (nth (heldTests me source r) 0 q), nth (heldTests me source r) 1 q)
+      held : (x : Slot) → insideSound me source r x ≡ true → isHeld x ≡ true → (length (r .cue) ≡ 24) × (cueIn (r .cue) ≡ true)
+      held Empty q h = absurd (true≢false (sym q))
+      held (Held reply) q h = (eqb-true (length (r .cue)) 24 (nth (heldTests me source r reply) 0 q), nth (heldTests me source r reply) 1 q)
+      held (Waiting w) q h = absurd (true≢false (sym h))
 
       go : (t : Bool) → within span n ≡ t → (length (r .cue) ≡ 24) × (cueIn (r .cue) ≡ true)
-      go true w = tests (sym (ap (insideSound me source r) p) ∙ inside w)
-      go false w = absurd (true≢false (sym (outside w) ∙ ap (outsideSound r) p))
+      go true w = held (r .slot) (inside w) p
+      go false w = absurd (true≢false (sym p ∙ outside-not-held w))

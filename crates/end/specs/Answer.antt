@@ -1,15 +1,79 @@
--- The declared answer and the output of an outcome. Document 01, "Events": "Answers: Out (length, the message in the first output
--- bytes), Got (name, and its cue in the first 24), Done, Ignored, Nothing. Other output bytes are untouched."
+-- What a call answers, and what it leaves in the output. Document 01, "Events": "Answers: Out (length, the message in the first output
+-- bytes), Got (name, and its cue in the first 24), Done, Ignored, Nothing. Other output bytes are untouched." An answer that is added
+-- later is a case of `Effect` and of the declared `Answer`, and a line in each of `classOf`, `answerOf`, `answerNumber` and `answerValues`.
 use Prim.Native.Nat.{ℕ}
+use mathlib.Core.Bool.{Bool, true, false}
 use mathlib.Core.List.{List, [], _∷_, _++_}
 use lib.ListN.{length, drop}
+use Rattle.message.specs.declared.Name.{Name}
 use Rattle.end.specs.declared.Answer.{Answer}
 use Rattle.end.specs.declared.Answer.the-variants as answer
 use Rattle.end.specs.declared.Stepped.{Stepped}
-use Rattle.end.specs.Arrival.{Out, Got, Done, Ignored, Nothing, Step}
-use Rattle.end.specs.Event.{Outcome, Refused, Did, Result}
+use Rattle.end.specs.declared.End.{End}
 
--- the answer that a call returns
+-- what an event that is not refused answers
+pub data Effect : Type 0 where
+  Out : List ℕ → Effect
+  Got : Name → List ℕ → Effect
+  Done : Effect
+  Ignored : Effect
+  Nothing : Effect
+
+-- what an event does: its effect, and the state that it leaves
+pub record Step : Type 0 where
+  pub effect : Effect
+  pub left : End
+
+abbrev pub give : Effect → End → Step
+give effect e = record { effect = effect; left = e }
+
+-- "A refusal gives only its number; state, clock and buffers keep every byte."
+pub data Outcome : Type 0 where
+  Refused : ℕ → Outcome
+  Did : Effect → Outcome
+
+pub record Result : Type 0 where
+  pub outcome : Outcome
+  pub left : End
+
+abbrev pub done : Step → Result
+done step = record { outcome = Did (step .effect); left = step .left }
+
+-- ---- the answers classified, once: what one writes to the output
+pub data Class : Type 0 where
+  -- a message
+  PutsOut : List ℕ → Class
+  -- a cue, handed out under its name
+  HandsOut : Name → List ℕ → Class
+  -- nothing
+  Untouched : Class
+
+abbrev pub classOf : Effect → Class
+classOf (Out bytes) = PutsOut bytes
+classOf (Got name cue) = HandsOut name cue
+classOf Done = Untouched
+classOf Ignored = Untouched
+classOf Nothing = Untouched
+
+abbrev pub classIn : Outcome → Class
+classIn (Refused k) = Untouched
+classIn (Did a) = classOf a
+
+abbrev pub handsOut : Class → Bool
+handsOut (PutsOut bytes) = false
+handsOut (HandsOut name cue) = true
+handsOut Untouched = false
+
+abbrev pub writtenBy : Class → List ℕ
+writtenBy (PutsOut bytes) = bytes
+writtenBy (HandsOut name cue) = cue
+writtenBy Untouched = []
+
+-- the output that a call leaves: what it writes in the first bytes, every other byte as it was
+unfoldable pub bufferOf : Outcome → List ℕ → List ℕ
+bufferOf o out = writtenBy (classIn o) ++ drop (length (writtenBy (classIn o))) out
+
+-- ---- the declared answer
 unfoldable pub answerOf : Outcome → Answer
 answerOf (Refused k) = answer.Refused k
 answerOf (Did (Out bytes)) = answer.Out (length bytes)
@@ -18,22 +82,9 @@ answerOf (Did Done) = answer.Done
 answerOf (Did Ignored) = answer.Ignored
 answerOf (Did Nothing) = answer.Nothing
 
--- what an event that is not refused gives: its answer, and the end that it leaves
-abbrev pub steppedOf : Step → Stepped
-steppedOf step = record { answer = answerOf (Did (step .effect)); end = step .left }
-
 -- what a call gives, refused or not: its answer, and the end that it leaves
 abbrev pub calledOf : Result → Stepped
 calledOf r = record { answer = answerOf (r .outcome); end = r .left }
-
--- the output that a call leaves
-unfoldable pub bufferOf : Outcome → List ℕ → List ℕ
-bufferOf (Refused k) out = out
-bufferOf (Did (Out bytes)) out = bytes ++ drop (length bytes) out
-bufferOf (Did (Got name cue)) out = cue ++ drop (length cue) out
-bufferOf (Did Done) out = out
-bufferOf (Did Ignored) out = out
-bufferOf (Did Nothing) out = out
 
 -- document 01's number of an answer, 0 where the call was not refused, and its values: the length of Out, the name of Got
 abbrev pub answerNumber : Answer → ℕ

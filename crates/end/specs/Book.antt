@@ -1,5 +1,5 @@
--- The service's book. Document 01, "The service's book". It is fed what an onlooker sees of each call (host, event with its
--- arguments, outcome, the end's status after it) and never sees an end.
+-- The service's book. Document 01, "The service's book". It is fed each call's host, event and arguments, and whether it was refused;
+-- the answer and the end's status after the call are held against it. It never sees an end.
 use mathlib.Core.Path.{_≡_}
 use mathlib.Core.Bool.{Bool, true, false, not, cond, _&&_, _||_}
 use mathlib.Core.List.{List, [], _∷_, _++_}
@@ -13,8 +13,11 @@ use Rattle.message.specs.Question.{readRefusal}
 use Rattle.end.specs.declared.Status.{Status}
 use Rattle.end.specs.declared.Status.the-variants.{Idle}
 use Rattle.end.specs.State.{isMember}
-use Rattle.end.specs.Arrival.{Effect, Out, Got, Done, Ignored, Nothing, messageName, messageCue}
-use Rattle.end.specs.Event.{Moving, Join, Joined, Leave, Left, Crash, Event, Move, Send, Arrival, Else, Outcome, Refused, Did, moves, movesTo}
+use Rattle.end.specs.declared.Move.{Move}
+use Rattle.end.specs.declared.Move.the-variants.{Join, Joined, Leave, Left, Crash}
+use Rattle.end.specs.Answer.{Effect, Out, Got, Done, Ignored, Outcome, Refused, Did, classOf, handsOut}
+use Rattle.end.specs.Arrival.{messageName, messageCue}
+use Rattle.end.specs.Event.{Action, Moves, Send, Arrival, Else, moves, movesTo}
 
 -- a function with one value changed
 unfoldable pub put : {A : Type 0} → (ℕ → A) → ℕ → A → ℕ → A
@@ -95,8 +98,8 @@ dueMessage b h (some m) = cond (gets b h m) (Exactly (Got (messageName m) (getD 
 
 -- "Join, Joined, Leave, Left, Crash: the status moves as under Events, with Done; where it doesn't move, Ignored." "Send: for a
 -- member .. Out, a DATA with that name and cue. Otherwise Ignored." "Other Arrivals, Fire, Report, events added later: .. never Got."
-unfoldable pub due : Book → ℕ → Event → Due
-due b h (Move m) = cond (moves m (b .status h)) (Exactly Done) (Exactly Ignored)
+unfoldable pub due : Book → ℕ → Action → Due
+due b h (Moves m) = cond (moves m (b .status h)) (Exactly Done) (Exactly Ignored)
 due b h (Send cue) = cond (isMember (b .status h)) (Original h (length (b .filed h)) cue) (Exactly Ignored)
 due b h (Arrival bytes) = dueMessage b h (readAs bytes)
 due b h (Else o) = NeverGot
@@ -104,14 +107,14 @@ due b h (Else o) = NeverGot
 -- ---- the book after a call that was not refused
 
 -- "the last move to member, which clears the host's handed-out numbers"
-unfoldable pub clearedBy : Moving → (ℕ → List ℕ) → ℕ → List ℕ
+unfoldable pub clearedBy : Move → (ℕ → List ℕ) → ℕ → List ℕ
 clearedBy Join f s = f s
 clearedBy Joined f s = []
 clearedBy Leave f s = f s
 clearedBy Left f s = f s
 clearedBy Crash f s = f s
 
-unfoldable pub movedBook : Book → ℕ → Moving → Book
+unfoldable pub movedBook : Book → ℕ → Move → Book
 movedBook b h m = record { status = put (b .status) h (movesTo m); filed = b .filed; handed = put (b .handed) h (clearedBy m (b .handed h)) }
 
 -- "the cue is filed for good under the host's next number, from 0"
@@ -126,8 +129,8 @@ unfoldable pub afterMessage : Book → ℕ → Option Meaning → Book
 afterMessage b h none = b
 afterMessage b h (some m) = cond (gets b h m) (hand b h (source m) (number m)) b
 
-unfoldable pub after : Book → ℕ → Event → Book
-after b h (Move m) = cond (moves m (b .status h)) (movedBook b h m) b
+unfoldable pub after : Book → ℕ → Action → Book
+after b h (Moves m) = cond (moves m (b .status h)) (movedBook b h m) b
 after b h (Send cue) = cond (isMember (b .status h)) (file b h cue) b
 after b h (Arrival bytes) = afterMessage b h (readAs bytes)
 after b h (Else o) = b
@@ -135,11 +138,7 @@ after b h (Else o) = b
 -- ---- an answer that is the book's
 
 unfoldable pub isGot : Effect → Bool
-isGot (Out bytes) = false
-isGot (Got name cue) = true
-isGot Done = false
-isGot Ignored = false
-isGot Nothing = false
+isGot a = handsOut (classOf a)
 
 -- the message of a DATA that is put out
 pub record IsOriginal (bytes : List ℕ) (s n : ℕ) (cue : List ℕ) : Type 0 where
@@ -157,16 +156,16 @@ Meets NeverGot x = isGot x ≡ false
 -- one call as an onlooker sees it
 pub record Entry : Type 0 where
   pub host : ℕ
-  pub event : Event
+  pub action : Action
   pub outcome : Outcome
   pub status : Status
 
 -- "Refused: nothing changes."
-unfoldable pub bookAfter : Book → ℕ → Event → Outcome → Book
+unfoldable pub bookAfter : Book → ℕ → Action → Outcome → Book
 bookAfter b h ev (Refused k) = b
 bookAfter b h ev (Did a) = after b h ev
 
-abbrev pub Answered : Book → ℕ → Event → Outcome → Type 0
+abbrev pub Answered : Book → ℕ → Action → Outcome → Type 0
 Answered b h ev (Refused k) = Unit {0}
 Answered b h ev (Did a) = Meets (due b h ev) a
 
@@ -175,5 +174,5 @@ Answered b h ev (Did a) = Meets (due b h ev) a
 abbrev pub RunFrom : Book → List Entry → Type 0
 RunFrom b [] = Unit {0}
 RunFrom b (x ∷ xs) =
-    let b′ = bookAfter b (x .host) (x .event) (x .outcome) in
-    Answered b (x .host) (x .event) (x .outcome) × (x .status ≡ b′ .status (x .host)) × RunFrom b′ xs
+    let b′ = bookAfter b (x .host) (x .action) (x .outcome) in
+    Answered b (x .host) (x .action) (x .outcome) × (x .status ≡ b′ .status (x .host)) × RunFrom b′ xs

@@ -14,28 +14,29 @@ use Rattle.end.specs.declared.Span.the-variants.{Closed, Open}
 use Rattle.end.specs.declared.Heard.{Heard}
 use Rattle.end.specs.declared.Heard.the-variants.{Never, At}
 use Rattle.end.specs.declared.End.{End}
+use Rattle.end.specs.declared.Moment.{Moment}
 use Rattle.end.specs.State.{noSource}
 
--- a message about one name: its host, and its cue if it carries one; sender and stamp are the end's host and clock
-abbrev pub aboutName : ℕ → End → Name → Host → List (List ℕ) → Meaning
-aboutName kind e name host cues = record {
+-- a message about one name: its host, and its cue if it carries one; sender and stamp are one's own host and the clock
+abbrev pub aboutName : ℕ → Moment → Name → Host → List (List ℕ) → Meaning
+aboutName kind t name host cues = record {
   kind = kind;
-  sender = e .host;
-  stamp = e .clock;
+  sender = t .me;
+  stamp = t .clock;
   names = record { name = name; host = host } ∷ [];
   cues = cues;
   reports = [];
   echoes = [];
 }
 
-abbrev pub dataMessage : End → Name → List ℕ → Meaning
-dataMessage e name cue = aboutName DATA e name (e .host) (cue ∷ [])
+abbrev pub dataMessage : Moment → Name → List ℕ → Meaning
+dataMessage t name cue = aboutName DATA t name (t .me) (cue ∷ [])
 
-abbrev pub requestMessage : End → Name → Meaning
-requestMessage e name = aboutName RQST e name (e .host) []
+abbrev pub requestMessage : Moment → Name → Meaning
+requestMessage t name = aboutName RQST t name (t .me) []
 
-abbrev pub repairMessage : End → Name → Host → List ℕ → Meaning
-repairMessage e name requester cue = aboutName REPL e name requester (cue ∷ [])
+abbrev pub repairMessage : Moment → Name → Host → List ℕ → Meaning
+repairMessage t name requester cue = aboutName REPL t name requester (cue ∷ [])
 
 -- the report of a source that has a first, and the echo of a host that was heard: its stamp, and the ticks since
 abbrev pub reportOn : Host → Span → List Report

@@ -1,21 +1,26 @@
--- When a request and a reply are due, and how far a host is. Document 01, "Events": "Setting round k at clock t", "RQST", "SESS".
-use Prim.Native.Nat.{ℕ, _+_, _-_, _*_, _/_, _^_, min, max}
+-- When a request and a reply are due, and how far a host is. Document 01, "Events": "Setting round k at clock t", "RQST", "SESS". The
+-- moment has the parameters and the clock; the draws stand beside it.
+use Prim.Native.Nat.{ℕ, _+_, _-_, _*_, _/_, _^_, _≤_, min, max}
 use mathlib.Core.List.{List}
 use lib.ListN.{getD}
-use Rattle.message.specs.declared.CueNumber.{CueNumber}
-use Rattle.end.specs.declared.Params.{Params}
 use Rattle.end.specs.declared.Request.{Request}
-use Rattle.end.specs.State.{place}
+use Rattle.end.specs.declared.Moment.{Moment}
+use Rattle.end.specs.Records.{place}
 
--- What times a wait: the end's parameters, the clock given with the call, which is the end's clock by then, and the call's draws.
-pub record Timing : Type 0 where
-  pub params : Params
-  pub clock : ℕ
-  pub draws : List ℕ
+-- "64 draws, one byte each": how many they are, and the greatest value of one
+abbrev pub drawCount : ℕ
+drawCount = 64
+
+abbrev pub mostDraw : ℕ
+mostDraw = 255
+
+-- draws of their declared type
+abbrev pub Drawn : List ℕ → Type 0
+Drawn us = (i : ℕ) → getD us i 0 ≤ mostDraw
 
 -- "u the draw at the cue number"
-abbrev pub drawAt : Timing → CueNumber → ℕ
-drawAt tm n = getD (tm .draws) (place (n .0)) 0
+abbrev pub drawAt : List ℕ → ℕ → ℕ
+drawAt us n = getD us (place n) 0
 
 -- "F = 2^(k−1)"
 unfoldable pub factor : ℕ → ℕ
@@ -23,36 +28,33 @@ factor k = 2 ^ (k - 1)
 
 -- the share of a wait that a draw takes: "floor(F×C2×d×u/255)"
 unfoldable pub share : ℕ → ℕ → ℕ
-share wait u = wait * u / 255
+share wait u = wait * u / mostDraw
 
 -- "due = t + F×C1×d + floor(F×C2×d×u/255); quiet-until = t + F×C3×d"
-abbrev pub requestWith : Params → ℕ → ℕ → ℕ → ℕ → Request
-requestWith p clock u d k = record {
+abbrev pub requestWith : Moment → ℕ → ℕ → ℕ → Request
+requestWith t u d k = record {
   round = k;
-  due = clock + factor k * p .c1 * d + share (factor k * p .c2 * d) u;
-  quiet = clock + factor k * p .c3 * d;
+  due = t .clock + factor k * t .params .c1 * d + share (factor k * t .params .c2 * d) u;
+  quiet = t .clock + factor k * t .params .c3 * d;
 }
 
-abbrev pub requestAt : Timing → ℕ → CueNumber → ℕ → Request
-requestAt tm d n k = requestWith (tm .params) (tm .clock) (drawAt tm n) d k
+abbrev pub requestAt : Moment → List ℕ → ℕ → ℕ → ℕ → Request
+requestAt t us d n k = requestWith t (drawAt us n) d k
 
 -- "After 16 comes 16."
 abbrev pub nextRound : ℕ → ℕ
 nextRound k = min (k + 1) 16
 
 -- "a reply due at t + D1×d + floor(D2×d×u/255), d to the requester"
-abbrev pub replyWith : Params → ℕ → ℕ → ℕ → ℕ
-replyWith p clock u d = clock + p .d1 * d + share (p .d2 * d) u
+abbrev pub replyWith : Moment → ℕ → ℕ → ℕ
+replyWith t u d = t .clock + t .params .d1 * d + share (t .params .d2 * d) u
 
-abbrev pub replyDue : Timing → ℕ → CueNumber → ℕ
-replyDue tm d n = replyWith (tm .params) (tm .clock) (drawAt tm n) d
+abbrev pub replyDue : Moment → List ℕ → ℕ → ℕ → ℕ
+replyDue t us d n = replyWith t (drawAt us n) d
 
 -- "reply-quiet = t + D3×d, d to the requester"
-abbrev pub quietWith : Params → ℕ → ℕ → ℕ
-quietWith p clock d = clock + p .d3 * d
-
-abbrev pub quietAfterReply : Timing → ℕ → ℕ
-quietAfterReply tm d = quietWith (tm .params) (tm .clock) d
+abbrev pub quietAfterReply : Moment → ℕ → ℕ
+quietAfterReply t d = t .clock + t .params .d3 * d
 
 -- "floor(e/8), brought into 1..1000"
 abbrev pub halfTrip : ℕ → ℕ

@@ -6,6 +6,7 @@ use mathlib.Core.List.{List, [], _∷_}
 use lib.ListN.{length, getD}
 use lib.Dec.{ltb, leb, eqb}
 use Rattle.message.specs.declared.Host.{Host}
+use Rattle.message.specs.Limit.{numberLimit}
 use Rattle.message.specs.Cue.{cueIn}
 use Rattle.message.specs.Entry.{asHost}
 use Rattle.message.specs.Question.{hostIn, ticksIn, sameHost}
@@ -22,7 +23,8 @@ use Rattle.end.specs.declared.Heard.{Heard}
 use Rattle.end.specs.declared.Heard.the-variants.{Never, At}
 use Rattle.end.specs.declared.Source.{Source}
 use Rattle.end.specs.declared.End.{End}
-use Rattle.end.specs.State.{noRecord, noSource, isMember, isNo, firstDistance}
+use Rattle.end.specs.State.{noSource, places, isMember, firstDistance}
+use Rattle.end.specs.Records.{isClosed, within, rawAt}
 
 -- ---- tests
 
@@ -43,8 +45,11 @@ allBelow f (suc n) = allBelow f n && f n
 -- ---- one name
 
 -- "due and quiet times are below 2^48+2^32"
+abbrev pub timeLimit : ℕ
+timeLimit = 281479271677952
+
 abbrev pub timeIn : ℕ → Bool
-timeIn t = ltb t 281479271677952
+timeIn t = ltb t timeLimit
 
 -- "one waiting request (round 1..16, due, quiet-until)"
 abbrev pub requestTests : Request → List Bool
@@ -56,29 +61,22 @@ replyTests me source No = []
 replyTests me source (Due due requester) = timeIn due ∷ hostIn requester ∷ not (sameHost requester me) ∷ not (sameHost requester source) ∷ []
 
 -- a held cue is 24 bytes with its fields in range; beside it there may be a reply
-abbrev pub heldTests : Host → Host → Record → List Bool
-heldTests me source r = eqb (length (r .cue)) 24 ∷ cueIn (r .cue) ∷ allOf (replyTests me source (r .reply)) ∷ timeIn (r .quiet) ∷ []
-
--- beside a request there is no reply
-abbrev pub waitingTests : Record → Request → List Bool
-waitingTests r q = allOf (requestTests q) ∷ isNo (r .reply) ∷ timeIn (r .quiet) ∷ []
+abbrev pub heldTests : Host → Host → Record → Reply → List Bool
+heldTests me source r reply = eqb (length (r .cue)) 24 ∷ cueIn (r .cue) ∷ allOf (replyTests me source reply) ∷ timeIn (r .hush) ∷ []
 
 -- "those inside have a cue or a request, own ones a cue"
 abbrev pub insideSound : Host → Host → Record → Slot → Bool
 insideSound me source r Empty = false
-insideSound me source r Held = allOf (heldTests me source r)
-insideSound me source r (Waiting q) = not (sameHost source me) && allOf (waitingTests r q)
+insideSound me source r (Held reply) = allOf (heldTests me source r reply)
+insideSound me source r (Waiting q) = not (sameHost source me) && (allOf (requestTests q) && timeIn (r .hush))
 
 -- "names outside first..last hold nothing and have reply-quiet 0"
 abbrev pub outsideSound : Record → Slot → Bool
-outsideSound r Empty = isNo (r .reply) && eqb (r .quiet) 0
-outsideSound r Held = false
+outsideSound r Empty = eqb (r .hush) 0
+outsideSound r (Held reply) = false
 outsideSound r (Waiting q) = false
 
-abbrev pub within : Span → ℕ → Bool
-within Closed n = false
-within (Open first last) n = leb (first .0) n && leb n (last .0)
-
+-- what stands in the place of a number, which is in first..last or not
 abbrev pub recordSound : Host → Host → Span → ℕ → Record → Bool
 recordSound me source span n r = cond (within span n) (insideSound me source r (r .slot)) (outsideSound r (r .slot))
 
@@ -87,7 +85,7 @@ recordSound me source span n r = cond (within span n) (insideSound me source r (
 -- "own last, if any, is next−1; first ≤ last"
 abbrev pub spanTests : Bool → ℕ → Span → List Bool
 spanTests own next Closed = []
-spanTests own next (Open first last) = leb (first .0) (last .0) ∷ ltb (last .0) 64 ∷ (not own || eqb (last .0 + 1) next) ∷ []
+spanTests own next (Open first last) = leb (first .0) (last .0) ∷ ltb (last .0) numberLimit ∷ (not own || eqb (last .0 + 1) next) ∷ []
 
 -- "A distance .. is 1..1000 whole milliseconds ..; to oneself it is 0."
 abbrev pub distanceSound : Bool → ℕ → Bool
@@ -98,10 +96,6 @@ abbrev pub heardTests : Bool → ℕ → Heard → List Bool
 heardTests own clock Never = []
 heardTests own clock (At stamp when) = not own ∷ ticksIn stamp ∷ leb when clock ∷ []
 
-abbrev pub isClosed : Span → Bool
-isClosed Closed = true
-isClosed (Open first last) = false
-
 abbrev pub isNever : Heard → Bool
 isNever Never = true
 isNever (At stamp when) = false
@@ -111,18 +105,19 @@ isNever (At stamp when) = false
 abbrev pub nonMemberTests : Bool → Source → List Bool
 nonMemberTests own s = isClosed (s .span) ∷ isNever (s .heard) ∷ (own || eqb (s .distance) firstDistance) ∷ []
 
+-- each place is that of one number below 64
 abbrev pub namesSound : Host → Host → Span → List Record → ℕ → Bool
-namesSound me source span names k = allBelow (λ n. recordSound me source span n (getD names n noRecord)) k
+namesSound me source span names k = allBelow (λ n. recordSound me source span n (rawAt names n)) k
 
 -- of the end it takes its host, its next number, its clock and whether it is a member
 abbrev pub sourceTests : Host → ℕ → ℕ → Bool → Host → Source → List Bool
 sourceTests me next clock member h s =
-    eqb (length (s .names)) 64
+    eqb (length (s .names)) places
     ∷ allOf (spanTests (sameHost h me) next (s .span))
     ∷ distanceSound (sameHost h me) (s .distance)
     ∷ allOf (heardTests (sameHost h me) clock (s .heard))
     ∷ (member || allOf (nonMemberTests (sameHost h me) s))
-    ∷ namesSound me h (s .span) (s .names) 64
+    ∷ namesSound me h (s .span) (s .names) places
     ∷ []
 
 abbrev pub sourceSound : Host → ℕ → ℕ → Bool → Host → Source → Bool
@@ -145,7 +140,7 @@ soundTests e =
     ∷ hostIn (e .host)
     ∷ allOf (paramsTests (e .params))
     ∷ ticksIn (e .clock)
-    ∷ leb (e .next) 64
+    ∷ leb (e .next) numberLimit
     ∷ sourcesSound e 8
     ∷ []
 

@@ -1,9 +1,22 @@
-// The types of one SRM end, in the forms that document 01 names. All rules of the end are definitions on these types, in
-// specs/: State, Sound, Round, Names, Messages, Arrival, Fire, Event, Answer, Opening, in this order; then the service: Book, Run.
+// The types of one SRM end, in the forms that document 01 names. All rules of the end are definitions on these types, in specs/: State,
+// Records, Round, Names, Answer, Messages, Sound, Ready, Decide, Reasons, Session, Arrival, Fire, Event, Opening, in this order; then the
+// service: Book, Run.
 use message::CueNumber;
 use message::Host;
 use message::Name;
 use message::Verdict;
+
+// A draw: which share of a wait is taken.
+pub type Draw = u8;
+
+// A call brings so many draws: one for each of the numbers that an end keeps of a source.
+pub const DRAWS: usize = 64;
+
+// A source has so many cue numbers; the next own number is at most this.
+pub const NUMBERS: u32 = 64;
+
+// "due and quiet times are below 2^48+2^32"
+pub const TIME_LIMIT: u64 = 281479271677952;
 
 // C1, C2, C3 time a request and its quiet time, D1, D2, D3 a reply and its quiet time; each in quarters, 0..32.
 pub struct Params {
@@ -23,32 +36,31 @@ pub enum Status {
     Crashed,
 }
 
-// A waiting request: its round 1..16, when it is due, and until when a heard request changes nothing.
+// A waiting request: its round 1..16, when it is due, and its quiet-until time, up to which a heard request changes nothing.
 pub struct Request {
     pub round: u8,
     pub due: u64,
     pub quiet: u64,
 }
 
-// What an end has of a name: nothing, its cue, or a request for it.
-pub enum Slot {
-    Empty,
-    Held,
-    Waiting(Request),
-}
-
-// A waiting reply: when it is due, and who asked.
+// Whether a reply waits: when it is due, and who asked.
 pub enum Reply {
     No,
     Due(u64, Host),
 }
 
-// A name's record. The cue bytes count where the slot is Held; `quiet` is the reply-quiet time.
+// What an end has of a name: nothing; its cue, and beside it perhaps a waiting reply; or a request for it.
+pub enum Slot {
+    Empty,
+    Held(Reply),
+    Waiting(Request),
+}
+
+// A name's record. The cue bytes count where the slot is Held; `hush` is the reply-quiet time, before which no reply is set.
 pub struct Record {
     pub slot: Slot,
     pub cue: [u8; 24],
-    pub reply: Reply,
-    pub quiet: u64,
+    pub hush: u64,
 }
 
 // First and last cue number of a source: both or neither.
@@ -79,6 +91,71 @@ pub struct End {
     pub status: Status,
     pub next: u32,
     pub sources: [Source; 8],
+}
+
+// The moves of an end's membership.
+pub enum Move {
+    Join,
+    Joined,
+    Leave,
+    Left,
+    Crash,
+}
+
+// The events. Send's cue and Arrival's bytes stand beside, since an enum holds no array.
+pub enum Event {
+    Moves(Move),
+    Send,
+    Arrival,
+    Fire,
+    Report,
+}
+
+// What a step on one source takes of the end: one's own host, the parameters, and the clock, which is the call's by then.
+pub struct Moment {
+    pub me: Host,
+    pub params: Params,
+    pub clock: u64,
+}
+
+// The kinds of a message about a name.
+pub enum Says {
+    Data,
+    Rqst,
+    Repl,
+}
+
+// What a message about a name says to its reader. The requester is the sender of a RQST and the host in the name of a REPL (a DATA has
+// none, and its sender stands there unread); the distance is the reader's to the requester.
+pub struct Word {
+    pub says: Says,
+    pub name: Name,
+    pub requester: Host,
+    pub distance: u64,
+    pub cue: [u8; 24],
+}
+
+// Why a message about a name is ignored: document 02, P3, the reasons that lie in the name's source.
+pub enum Reason {
+    NotOpen,
+    BelowFirst,
+    OwnAboveLast,
+    AlreadyHeld,
+    ReplyWaiting,
+    ReplyQuiet,
+    RequestQuiet,
+}
+
+// What is decided on a message about a name: one for each thing that a DATA, RQST or REPL may do. BacksOff has the round that waits.
+pub enum Decision {
+    Ignores(Reason),
+    Opens,
+    Takes,
+    Repairs,
+    Hushes,
+    Replies,
+    Learns,
+    BacksOff(u8),
 }
 
 // What a call answers. A refusal gives only its number; Out gives the length of the message in the first output bytes; Got

@@ -1,61 +1,103 @@
--- The laws behind the layout's loops: one that writes the entries of an array, and a section after its count. `splice` and its laws
--- are of the crate numbers.
+-- The laws of `Puts`: parts written one after the other, and a loop that writes the entries of a section.
 use mathlib.Core.Path.{_≡_, refl, sym, ap, _∙_}
 use Prim.Native.Nat.{ℕ, _+_, _*_, _≤_, _<_}
-use native.Mathlib.Nat.{zero-mul}
+use native.Mathlib.Nat.{mul-le-mul-right, zero-mul, suc-mul}
 use native.Mathlib.Numerals.{add-one}
 use native.Mathlib.Omega.{arith}
 use mathlib.Core.List.{List, [], _∷_, _++_, append-nil}
-use lib.ListN.{length, take, getD, set}
+use lib.ListN.{length, take, getD, length-append}
 use lib.Seq.{take-suc, length-take-le}
+use Rattle.numbers.specs.Number.{digits}
 use Rattle.numbers.specs.Splice.{splice}
-use Rattle.numbers.proofs.SpliceLaws.{put-next, splice-one}
+use Rattle.numbers.proofs.NumberLaws.{length-digits}
+use Rattle.numbers.proofs.SpliceLaws.{splice-nil, length-splice, put-next}
 use Rattle.message.specs.Section.{flat, section}
-use Rattle.message.proofs.SectionLaws.{Any, any, flat-append, flat-one, length-flat, length-section}
+use Rattle.message.proofs.SectionLaws.{flat-append, flat-one}
+use Rattle.layout.specs.Puts.{Puts}
 
--- ---- entries that are all of the width w
-module _ {A : Type 0} (g : A → List ℕ) (w : ℕ) (wide : (a : A) → length (g a) ≡ w) where
-  -- a turn of a loop that writes the entries of an array: one entry more
-  pub put-turn : (l : List A) (i at : ℕ) (d : A) (start out last : List ℕ) → i < length l → at + i * w ≤ length start
-      → out ≡ splice at (flat g (take i l)) start → last ≡ splice (at + i * w) (g (getD l i d)) out
-      → last ≡ splice at (flat g (take (i + 1) l)) start
-  put-turn l i at d start out last h k p q =
-      let e : flat g (take (i + 1) l) ≡ flat g (take i l) ++ g (getD l i d) =
-      rw (add-one, take-suc l i d, flat-append) (ap (λ (b : List ℕ). flat g (take i l) ++ b) (flat-one g (getD l i d))) in
-      let n : length (flat g (take i l)) ≡ i * w =
-      length-flat g w Any (λ a _. wide a) (take i l) (any (take i l)) ∙ ap (λ (m : ℕ). m * w) (length-take-le i l (omega arith)) in
-      rw e (put-next start at (at + i * w) (flat g (take i l)) (g (getD l i d)) (rw n) (rw n k) p q)
+-- a byte and a number, as the crate numbers writes them
+pub put-byte : {at x : ℕ} {start last : List ℕ} → at < length start → last ≡ splice at (x ∷ []) start → Puts at 1 (x ∷ []) start last
+put-byte h e = record { long = refl; room = omega arith; written = e }
 
-  -- how long the section of the first n of them is
-  pub section-long : (l : List A) (n : ℕ) → n ≤ length l → length (section g (take n l)) ≡ 1 + n * w
-  section-long l n h =
-      length-section g w Any (λ a _. wide a) (take n l) (any (take n l)) ∙ ap (λ (m : ℕ). 1 + m * w) (length-take-le n l h)
+pub put-number : {at w : ℕ} {start last : List ℕ} (v : ℕ) → at + w ≤ length start → last ≡ splice at (digits w v) start
+    → Puts at w (digits w v) start last
+put-number {w = w} v h e = record { long = length-digits w v; room = h; written = e }
 
--- ---- a section: the count, then the entries
-module _ {A : Type 0} (g : A → List ℕ) where
-  pub put-section : (l : List A) (n at : ℕ) (start last : List ℕ) → length l ≡ n → at < length start
-      → last ≡ splice (at + 1) (flat g l) (set start at n) → last ≡ splice at (section g l) start
+-- a part and the next one, at its end, are one part
+pub puts-next : {at k m n : ℕ} {a b start one two : List ℕ} → Puts at m a start one → Puts k n b one two → k ≡ at + m
+    → Puts at (m + n) (a ++ b) start two
+puts-next {at} {k} {m} {n} {a} {b} {start} {one} p q e =
+    let fits : at + length a ≤ length start = rw (p .long) (p .room) in
+    let same : length one ≡ length start = ap length (p .written) ∙ length-splice at a start fits in
+    record {
+      long = length-append a b ∙ (λ i. p .long i + q .long i);
+      room = omega (arith, q .room);
+      written = put-next start at k a b (e ∙ ap (λ (x : ℕ). at + x) (sym (p .long))) fits (p .written) (q .written);
+    }
+
+-- the length said in another way
+pub puts-long : {at m n : ℕ} {b start last : List ℕ} → Puts at m b start last → m ≡ n → Puts at n b start last
+puts-long p e = record { long = p .long ∙ e; room = omega (arith, p .room); written = p .written }
+
+-- ---- a loop that writes the first n entries of an array, each of k bytes by g: i of them are there
+pub record PutSoFar {A : Type 0} (g : A → List ℕ) (k : ℕ) (l : List A) (n at : ℕ) (start out : List ℕ) (i : ℕ) : Type 0 where
+  pub places : n ≤ length l
+  pub room : at + n * k ≤ length start
+  pub within : i ≤ n
+  pub same : length out ≡ length start
+  pub so-far : Puts at (i * k) (flat g (take i l)) start out
+
+pub put-start : {A : Type 0} {g : A → List ℕ} {k : ℕ} {l : List A} {n at : ℕ} {start : List ℕ} (places : ℕ) → length l ≡ places → n ≤ places
+    → at + n * k ≤ length start → PutSoFar g k l n at start start 0
+unfolding flat
+put-start {k = k} {at = at} {start} places e p r = record {
+  places = omega arith;
+  room = r;
+  within = omega arith;
+  same = refl;
+  so-far = record { long = sym (zero-mul k); room = omega (arith, zero-mul k); written = sym (splice-nil at start) };
+}
+
+module _ {A : Type 0} {g : A → List ℕ} {k : ℕ} {l : List A} {n at : ℕ} {start out : List ℕ} {i : ℕ} (s : PutSoFar g k l n at start out i) where
+  -- there is room for one entry more
+  pub entry-room : i < n → at + i * k + k ≤ length out
+  entry-room h =
+      let m : (i + 1) * k ≤ n * k = mul-le-mul-right k (omega arith) in
+      let e : (i + 1) * k ≡ i * k + k = rw (add-one, suc-mul) in
+      omega (arith, s .room, s .same)
+
+  pub entry-put : {last : List ℕ} {next : ℕ} (d : A) → i < n → length last ≡ length out → next ≡ at + i * k → Puts next k (g (getD l i d)) out last
+      → PutSoFar g k l n at start last (i + 1)
+  entry-put d h e f p =
+      let more : flat g (take (i + 1) l) ≡ flat g (take i l) ++ g (getD l i d) =
+      rw (add-one, take-suc l i d (omega (arith, s .places)), flat-append) (ap (λ (b : List ℕ). flat g (take i l) ++ b) (flat-one g (getD l i d))) in
+      let size : i * k + k ≡ (i + 1) * k = rw (add-one, suc-mul) in
+      record {
+        places = s .places;
+        room = s .room;
+        within = omega arith;
+        same = e ∙ s .same;
+        so-far = rw more (puts-long (puts-next (s .so-far) p f) size);
+      }
+
+  -- after the count they are a section
+  pub section-put : {place : ℕ} {first : List ℕ} → n ≤ i → place < length first → at ≡ place + 1 → start ≡ splice place (n ∷ []) first
+      → Puts place (1 + n * k) (section g (take n l)) first out
   unfolding section
-  put-section l n at start last e h q =
-      rw e (put-next start at (at + 1) (n ∷ []) (flat g l) refl (omega arith) (splice-one at n start h) q)
+  section-put h r f q =
+      let e : i ≡ n = omega (arith, s .within) in
+      let count : length (take n l) ≡ n = length-take-le n l (s .places) in
+      rw count (puts-next (put-byte r q) (rw e at (s .so-far)) f)
 
-  -- a section of one entry, and of none, where there is one place
-  pub put-one : (x : A) (n at : ℕ) (start last : List ℕ) → n ≡ 1 → at < length start
-      → last ≡ splice (at + 1) (g x) (set start at n) → last ≡ splice at (section g (take n (x ∷ []))) start
-  put-one x n at start last e h q =
-      let t : take n (x ∷ []) ≡ x ∷ [] = rw e in
-      rw t (put-section (x ∷ []) n at start last (sym e) h (q ∙ ap (λ (b : List ℕ). splice (at + 1) b (set start at n)) (sym (flat-one g x))))
-
-  pub put-none : (x : A) (n at : ℕ) (start : List ℕ) → n ≡ 0 → at < length start → set start at n ≡ splice at (section g (take n (x ∷ []))) start
+-- ---- a section where there is one place: one entry, or none
+module _ {A : Type 0} (g : A → List ℕ) (w : ℕ) (x : A) where
+  pub put-one : {n at : ℕ} {start one last : List ℕ} → at < length start → at + 1 + w ≤ length one → n ≡ 1 → length (g x) ≡ w → one ≡ splice at (n ∷ []) start → last ≡ splice (at + 1) (g x) one
+      → Puts at (1 + n * w) (section g (take n (x ∷ []))) start last
   unfolding section flat
-  put-none x n at start e h =
-      let t : take n (x ∷ []) ≡ [] = rw e in
-      rw (t, e) (splice-one at 0 start h)
+  put-one {at = at} {one = one} {last} room more e h p q =
+      let b : Puts (at + 1) w (g x) one last = record { long = h; room = more; written = q } in
+      rw (e, append-nil (g x)) (puts-long (puts-next (put-byte room (rw e at p)) b refl) (omega arith))
 
-  pub one-long : (w : ℕ) (x : A) (n : ℕ) → n ≡ 1 → length (g x) ≡ w → length (section g (take n (x ∷ []))) ≡ 1 + n * w
+  pub put-none : {n at : ℕ} {start one : List ℕ} → at < length start → n ≡ 0 → one ≡ splice at (n ∷ []) start → Puts at (1 + n * w) (section g (take n (x ∷ []))) start one
   unfolding section flat
-  one-long w x n e h = rw (e, append-nil (g x)) (omega arith)
-
-  pub none-long : (w : ℕ) (x : A) (n : ℕ) → n ≡ 0 → length (section g (take n (x ∷ []))) ≡ 1 + n * w
-  unfolding section flat
-  none-long w x n e = rw e (omega (arith, zero-mul w))
+  put-none room e p = rw e (puts-long (put-byte room (rw e at p)) (omega arith))

@@ -1,16 +1,16 @@
 // The layout of a message, written: its bytes, `bytesOf` of the crate message, specs/Message.antt, into a buffer. No question is asked
 // here: the writer asks them, and an end's own messages have their counts by the way they are made. So these are helpers of the crates
 // above, whose `requires` ask for room and for counts that fit the places.
+// The width w of a cue number goes by the message's kind (`message::number_width`).
 use message::CUE_WIDTH;
 use message::CueNumber;
 use message::ECHO_WIDTH;
 use message::Echo;
 use message::Host;
 use message::Message;
-use message::NAME_WIDTH;
-use message::NUMBER_WIDTH;
+use message::NAME_HOSTS;
 use message::NameEntry;
-use message::REPORT_WIDTH;
+use message::REPORT_HOSTS;
 use message::Report;
 ghost use mathlib.Core.Path.{_≡_};
 ghost use mathlib.Core.List.{[], _∷_};
@@ -18,175 +18,163 @@ ghost use Prim.Native.Nat.{_+_, _*_, _≤_};
 ghost use lib.ListN.{length, take};
 ghost use Rattle.numbers.specs.Number.{digits};
 ghost use Rattle.numbers.specs.Splice.{splice};
-ghost use Rattle.message.specs.Section.{flat, section};
-ghost use Rattle.message.specs.Entry.{nameBytes, cueBytes, reportBytes, echoBytes};
-ghost use Rattle.message.specs.Message.{headBytes, frontBytes, backBytes, bytesOf, meaningOf};
-ghost use Rattle.message.proofs.QuestionLaws.{Small};
+ghost use Rattle.message.specs.Limit.{roomNeeded};
+ghost use Rattle.message.specs.Kind.{numberWidth, widestNumber};
+ghost use Rattle.message.specs.Section.{section};
+ghost use Rattle.message.specs.Entry.{nameWidth, nameBytes, cueWidth, cueBytes, reportWidth, reportBytes, echoWidth, echoBytes};
+ghost use Rattle.message.specs.Message.{namePlaces, reportPlaces, echoPlaces, Small, headBytes, frontBytes, backBytes, bytesWith, bytesOf, meaningOf};
+ghost use Rattle.layout.specs.Puts.{Puts};
 
-fn put_number(out: &mut [u8], at: usize, n: CueNumber)
-    requires { ⌜ at + 1 ≤ length (now out) ⌝ }
-    ensures { λ _. ⌜ now (out .exit) ≡ splice at (digits 1 (n .0)) (now (out .entry)) ⌝ }
+fn put_number(out: &mut [u8], at: usize, w: usize, n: CueNumber)
+    requires { ⌜ at + w ≤ length (now out) ⌝ }
+    ensures { λ _. ⌜ now (out .exit) ≡ splice at (digits w (n .0)) (now (out .entry)) ⌝ }
 {
-    numbers::put_be(out, at, NUMBER_WIDTH, n.0 as u64)
+    numbers::put_be(out, at, w, n.0 as u64)
 }
 
-fn put_name(out: &mut [u8], at: usize, n: NameEntry)
-    requires { ⌜ at + 3 ≤ length (now out) ⌝ }
-    ensures { λ _. ⌜ now (out .exit) ≡ splice at (nameBytes 1 n) (now (out .entry)) ⌝ }
+fn put_name(out: &mut [u8], at: usize, w: usize, n: NameEntry)
+    requires { ⌜ at + nameWidth w ≤ length (now out) ⌝ }
+    ensures { λ _. ⌜ Puts at (nameWidth w) (nameBytes w n) (now (out .entry)) (now (out .exit)) ⌝ }
 {
-    out[at] = n.name.source.0;
-    put_number(out, at + 1, n.name.number);
-    out[at + 2] = n.host.0;
+    numbers::put_byte(out, at, n.name.source.0);
+    put_number(out, at + 1, w, n.name.number);
+    numbers::put_byte(out, at + 1 + w, n.host.0);
 }
 
-fn put_report(out: &mut [u8], at: usize, r: Report)
-    requires { ⌜ at + 2 ≤ length (now out) ⌝ }
-    ensures { λ _. ⌜ now (out .exit) ≡ splice at (reportBytes 1 r) (now (out .entry)) ⌝ }
+fn put_report(out: &mut [u8], at: usize, w: usize, r: Report)
+    requires { ⌜ at + reportWidth w ≤ length (now out) ⌝ }
+    ensures { λ _. ⌜ Puts at (reportWidth w) (reportBytes w r) (now (out .entry)) (now (out .exit)) ⌝ }
 {
-    out[at] = r.source.0;
-    put_number(out, at + 1, r.last);
+    numbers::put_byte(out, at, r.source.0);
+    put_number(out, at + 1, w, r.last);
 }
 
 fn put_echo(out: &mut [u8], at: usize, e: Echo)
-    requires { ⌜ at + 13 ≤ length (now out) ⌝ }
-    ensures { λ _. ⌜ now (out .exit) ≡ splice at (echoBytes e) (now (out .entry)) ⌝ }
+    requires { ⌜ at + echoWidth ≤ length (now out) ⌝ }
+    ensures { λ _. ⌜ Puts at echoWidth (echoBytes e) (now (out .entry)) (now (out .exit)) ⌝ }
 {
-    out[at] = e.host.0;
+    numbers::put_byte(out, at, e.host.0);
     numbers::put_be(out, at + 1, 6, e.stamp);
     numbers::put_be(out, at + 7, 6, e.held);
 }
 
-fn put_names(out: &mut [u8], at: usize, n: usize, names: [NameEntry; 1])
-    requires { ⌜ (n ≤ 1) × (at + n * 3 ≤ length (now out)) ⌝ }
-    ensures { λ _. ⌜ now (out .exit) ≡ splice at (flat (nameBytes 1) (take n names)) (now (out .entry)) ⌝ }
+// The sections, each after its count.
+fn put_names(out: &mut [u8], at: usize, w: usize, n: usize, names: [NameEntry; 2])
+    requires { ⌜ n ≤ namePlaces ⌝ }
+    requires { ⌜ at + (1 + n * nameWidth w) ≤ length (now out) ⌝ }
+    ensures { λ _. ⌜ Puts at (1 + n * nameWidth w) (section (nameBytes w) (take n names)) (now (out .entry)) (now (out .exit)) ⌝ }
 {
+    numbers::put_byte(out, at, n as u8);
     let mut i: usize = 0;
     while i < n {
+        let here = at + 1 + i * (NAME_HOSTS + w);
         let name = names[i];
-        put_name(out, at + i * NAME_WIDTH, name);
+        put_name(out, here, w, name);
         i += 1;
     }
 }
 
-fn put_reports(out: &mut [u8], at: usize, n: usize, reports: [Report; 8])
-    requires { ⌜ (n ≤ 8) × (at + n * 2 ≤ length (now out)) ⌝ }
-    ensures { λ _. ⌜ now (out .exit) ≡ splice at (flat (reportBytes 1) (take n reports)) (now (out .entry)) ⌝ }
+fn put_cues(out: &mut [u8], at: usize, n: usize, cue: &[u8; 24])
+    requires { ⌜ n ≤ 1 ⌝ }
+    requires { ⌜ at + (1 + n * cueWidth) ≤ length (now out) ⌝ }
+    ensures { λ _. ⌜ Puts at (1 + n * cueWidth) (section cueBytes (take n (now (cue .entry) ∷ []))) (now (out .entry)) (now (out .exit)) ⌝ }
 {
-    let mut i: usize = 0;
-    while i < n {
-        let report = reports[i];
-        put_report(out, at + i * REPORT_WIDTH, report);
-        i += 1;
-    }
-}
-
-fn put_echoes(out: &mut [u8], at: usize, n: usize, echoes: [Echo; 7])
-    requires { ⌜ (n ≤ 7) × (at + n * 13 ≤ length (now out)) ⌝ }
-    ensures { λ _. ⌜ now (out .exit) ≡ splice at (flat echoBytes (take n echoes)) (now (out .entry)) ⌝ }
-{
-    let mut i: usize = 0;
-    while i < n {
-        let echo = echoes[i];
-        put_echo(out, at + i * ECHO_WIDTH, echo);
-        i += 1;
-    }
-}
-
-// The sections, each after its count. Each also promises its length, from which the next one's place follows.
-fn put_name_section(out: &mut [u8], at: usize, n: usize, names: [NameEntry; 1])
-    requires { ⌜ (n ≤ 1) × (at + 1 + n * 3 ≤ length (now out)) ⌝ }
-    ensures { λ _. ⌜ now (out .exit) ≡ splice at (section (nameBytes 1) (take n names)) (now (out .entry)) ⌝ }
-    ensures { λ _. ⌜ length (section (nameBytes 1) (take n names)) ≡ 1 + n * 3 ⌝ }
-{
-    out[at] = n as u8;
-    put_names(out, at + 1, n, names);
-}
-
-fn put_cue_section(out: &mut [u8], at: usize, n: usize, cue: &[u8; 24])
-    requires { ⌜ (n ≤ 1) × (at + 1 + n * 24 ≤ length (now out)) ⌝ }
-    ensures { λ _. ⌜ now (out .exit) ≡ splice at (section cueBytes (take n (now (cue .entry) ∷ []))) (now (out .entry)) ⌝ }
-    ensures { λ _. ⌜ length (section cueBytes (take n (now (cue .entry) ∷ []))) ≡ 1 + n * 24 ⌝ }
-{
-    out[at] = n as u8;
+    numbers::put_byte(out, at, n as u8);
     if n == 1 {
         numbers::put_bytes(out, at + 1, cue);
     }
 }
 
-fn put_report_section(out: &mut [u8], at: usize, n: usize, reports: [Report; 8])
-    requires { ⌜ (n ≤ 8) × (at + 1 + n * 2 ≤ length (now out)) ⌝ }
-    ensures { λ _. ⌜ now (out .exit) ≡ splice at (section (reportBytes 1) (take n reports)) (now (out .entry)) ⌝ }
-    ensures { λ _. ⌜ length (section (reportBytes 1) (take n reports)) ≡ 1 + n * 2 ⌝ }
+fn put_reports(out: &mut [u8], at: usize, w: usize, n: usize, reports: [Report; 8])
+    requires { ⌜ n ≤ reportPlaces ⌝ }
+    requires { ⌜ at + (1 + n * reportWidth w) ≤ length (now out) ⌝ }
+    ensures { λ _. ⌜ Puts at (1 + n * reportWidth w) (section (reportBytes w) (take n reports)) (now (out .entry)) (now (out .exit)) ⌝ }
 {
-    out[at] = n as u8;
-    put_reports(out, at + 1, n, reports);
+    numbers::put_byte(out, at, n as u8);
+    let mut i: usize = 0;
+    while i < n {
+        let here = at + 1 + i * (REPORT_HOSTS + w);
+        let report = reports[i];
+        put_report(out, here, w, report);
+        i += 1;
+    }
 }
 
-fn put_echo_section(out: &mut [u8], at: usize, n: usize, echoes: [Echo; 7])
-    requires { ⌜ (n ≤ 7) × (at + 1 + n * 13 ≤ length (now out)) ⌝ }
-    ensures { λ _. ⌜ now (out .exit) ≡ splice at (section echoBytes (take n echoes)) (now (out .entry)) ⌝ }
-    ensures { λ _. ⌜ length (section echoBytes (take n echoes)) ≡ 1 + n * 13 ⌝ }
+fn put_echoes(out: &mut [u8], at: usize, n: usize, echoes: [Echo; 7])
+    requires { ⌜ n ≤ echoPlaces ⌝ }
+    requires { ⌜ at + (1 + n * echoWidth) ≤ length (now out) ⌝ }
+    ensures { λ _. ⌜ Puts at (1 + n * echoWidth) (section echoBytes (take n echoes)) (now (out .entry)) (now (out .exit)) ⌝ }
 {
-    out[at] = n as u8;
-    put_echoes(out, at + 1, n, echoes);
+    numbers::put_byte(out, at, n as u8);
+    let mut i: usize = 0;
+    while i < n {
+        let here = at + 1 + i * ECHO_WIDTH;
+        let echo = echoes[i];
+        put_echo(out, here, echo);
+        i += 1;
+    }
 }
 
 fn put_head(out: &mut [u8], kind: u8, sender: Host, stamp: u64)
     requires { ⌜ 8 ≤ length (now out) ⌝ }
-    ensures { λ _. ⌜ now (out .exit) ≡ splice 0 (headBytes kind sender stamp) (now (out .entry)) ⌝ }
+    ensures { λ _. ⌜ Puts 0 8 (headBytes kind sender stamp) (now (out .entry)) (now (out .exit)) ⌝ }
 {
-    out[0] = kind;
-    out[1] = sender.0;
+    numbers::put_byte(out, 0, kind);
+    numbers::put_byte(out, 1, sender.0);
     numbers::put_be(out, 2, 6, stamp);
 }
 
-// Everything before the reports.
-fn put_front(
-    out: &mut [u8],
-    kind: u8,
-    sender: Host,
-    stamp: u64,
-    n: usize,
-    names: [NameEntry; 1],
-    k: usize,
-    cue: &[u8; 24],
-)
-    requires { ⌜ (n ≤ 1) × (k ≤ 1) × (128 ≤ length (now out)) ⌝ }
-    ensures { λ _. ⌜ now (out .exit) ≡ splice 0 (frontBytes 1 kind sender stamp (take n names) (take k (now (cue .entry) ∷ []))) (now (out .entry)) ⌝ }
-    ensures { λ _. ⌜ length (frontBytes 1 kind sender stamp (take n names) (take k (now (cue .entry) ∷ []))) ≡ 10 + n * 3 + k * 24 ⌝ }
+// The names and the cues, after the head.
+fn put_front(out: &mut [u8], w: usize, m: Message)
+    requires { ⌜ w ≤ widestNumber ⌝ }
+    requires { ⌜ Small w (m .counts) ⌝ }
+    requires { ⌜ roomNeeded ≤ length (now out) ⌝ }
+    ensures { λ _. ⌜ Puts 0 (10 + m .counts .names * nameWidth w + m .counts .cues * cueWidth) (frontBytes w (m .kind) (m .sender) (m .stamp) (meaningOf m .names) (meaningOf m .cues)) (now (out .entry)) (now (out .exit)) ⌝ }
 {
-    put_head(out, kind, sender, stamp);
-    put_name_section(out, 8, n, names);
-    put_cue_section(out, 9 + n * NAME_WIDTH, k, cue);
+    let c = m.counts;
+    let at = 9 + c.names * (NAME_HOSTS + w);
+    let names = m.names;
+    let cue = m.cue;
+    put_head(out, m.kind, m.sender, m.stamp);
+    put_names(out, 8, w, c.names, names);
+    put_cues(out, at, c.cues, &cue);
 }
 
 // The reports and the echoes.
-fn put_back(out: &mut [u8], at: usize, r: usize, reports: [Report; 8], e: usize, echoes: [Echo; 7])
-    requires { ⌜ (r ≤ 8) × (e ≤ 7) × (at + 2 + r * 2 + e * 13 ≤ length (now out)) ⌝ }
-    ensures { λ _. ⌜ now (out .exit) ≡ splice at (backBytes 1 (take r reports) (take e echoes)) (now (out .entry)) ⌝ }
-    ensures { λ _. ⌜ length (backBytes 1 (take r reports) (take e echoes)) ≡ 2 + r * 2 + e * 13 ⌝ }
+fn put_back(out: &mut [u8], at: usize, w: usize, m: Message)
+    requires { ⌜ w ≤ widestNumber ⌝ }
+    requires { ⌜ Small w (m .counts) ⌝ }
+    requires { ⌜ at + (2 + m .counts .reports * reportWidth w + m .counts .echoes * echoWidth) ≤ length (now out) ⌝ }
+    ensures { λ _. ⌜ Puts at (2 + m .counts .reports * reportWidth w + m .counts .echoes * echoWidth) (backBytes w (meaningOf m .reports) (meaningOf m .echoes)) (now (out .entry)) (now (out .exit)) ⌝ }
 {
-    put_report_section(out, at, r, reports);
-    put_echo_section(out, at + 1 + r * REPORT_WIDTH, e, echoes);
+    let c = m.counts;
+    let next = at + 1 + c.reports * (REPORT_HOSTS + w);
+    let reports = m.reports;
+    let echoes = m.echoes;
+    put_reports(out, at, w, c.reports, reports);
+    put_echoes(out, next, c.echoes, echoes);
+}
+
+fn put_with(out: &mut [u8], w: usize, m: Message) -> usize
+    requires { ⌜ w ≤ widestNumber ⌝ }
+    requires { ⌜ Small w (m .counts) ⌝ }
+    requires { ⌜ roomNeeded ≤ length (now out) ⌝ }
+    ensures { λ r. ⌜ Puts 0 r (bytesWith w (meaningOf m)) (now (out .entry)) (now (out .exit)) ⌝ }
+{
+    let c = m.counts;
+    let at = 10 + c.names * (NAME_HOSTS + w) + c.cues * CUE_WIDTH;
+    let rest = 2 + c.reports * (REPORT_HOSTS + w) + c.echoes * ECHO_WIDTH;
+    put_front(out, w, m);
+    put_back(out, at, w, m);
+    at + rest
 }
 
 // Writes a message whose counts fit its places, and returns its length.
 pub fn put_message(out: &mut [u8], m: Message) -> usize
-    requires { ⌜ Small (m .counts) × (128 ≤ length (now out)) ⌝ }
+    requires { ⌜ Small (numberWidth (m .kind)) (m .counts) × (roomNeeded ≤ length (now out)) ⌝ }
     ensures { λ r. ⌜ r ≡ length (bytesOf (meaningOf m)) ⌝ }
     ensures { λ r. ⌜ now (out .exit) ≡ splice 0 (bytesOf (meaningOf m)) (now (out .entry)) ⌝ }
 {
-    let c = m.counts;
-    let n = c.names;
-    let k = c.cues;
-    let r = c.reports;
-    let e = c.echoes;
-    let names = m.names;
-    let cue = m.cue;
-    let reports = m.reports;
-    let echoes = m.echoes;
-    let at = 10 + n * NAME_WIDTH + k * CUE_WIDTH;
-    put_front(out, m.kind, m.sender, m.stamp, n, names, k, &cue);
-    put_back(out, at, r, reports, e, echoes);
-    at + 2 + r * REPORT_WIDTH + e * ECHO_WIDTH
+    let w = message::number_width(m.kind);
+    put_with(out, w, m)
 }

@@ -1,160 +1,241 @@
 // The calls of the product: opening an end, and its nine events. No call asks anything of its caller: what is
-// bad is refused by its number, and a refusal changes no byte. Each contract gives the answer and the end by `calledOf` and the output
-// by `bufferOf` of what the rules give for the event: the crate end, specs/Event.antt and specs/Answer.antt. The last says document 01's
-// number of the answer, 0 where the call was not refused.
+// bad is refused by its number, and a refusal changes no byte. All events are one call, `event`, which has the frame that they share: the
+// questions, the crashed end, the clock, membership. Each contract gives the answer and the end by `gives` and the output by `leaves`:
+// the crate end, specs/Event.antt. The last says document 01's number of the answer, 0 where the call was not refused, and its values:
+// specs/Answered.antt.
+use end::Answer;
+use end::Draw;
 use end::End;
+use end::Event;
+use end::Move;
 use end::Opened;
 use end::Params;
+use end::Status;
 use end::Stepped;
 use message::Host;
+use message::Message;
+use message::Reading;
+use message::Verdict;
 ghost use mathlib.Core.Path.{_≡_};
+ghost use mathlib.Core.Bool.{cond};
+ghost use mathlib.Core.List.{[]};
 ghost use lib.ListN.{length};
+ghost use Rattle.message.specs.Entry.{blankCue};
+ghost use Rattle.message.specs.Message.{meaningOf};
 ghost use Rattle.message.specs.Question.{refusalOf};
+ghost use Rattle.end.specs.declared.Move.the-variants.{Join, Joined, Leave, Left, Crash};
+ghost use Rattle.end.specs.Answer.{Did, done, answerOf, calledOf, bufferOf};
 ghost use Rattle.end.specs.Opening.{openRefusal, openingOf};
-ghost use Rattle.end.specs.Event.{Move, Join, Joined, Leave, Left, Crash, Send, Arrival, Else, Fire, Report, questionOf, eventOf};
-ghost use Rattle.end.specs.Answer.{calledOf, bufferOf, answerNumber};
+ghost use Rattle.end.specs.Event.{Moves, Send, Arrival, Else, Fire, Report, actionOf, gives, leaves};
+ghost use Rattle.link.specs.Answered.{Answered};
+ghost use Rattle.link.specs.Frame.{readingFor, takes, acted, untakenFor, Acting};
 
 // Opens an end: questions 12 and 13. Refused, it gives host 0's crashed end beside the number.
 pub fn open(me: Host, params: Params) -> Opened
     ensures { λ r. ⌜ r ≡ openingOf me params ⌝ }
     ensures { λ r. ⌜ refusalOf (r .verdict) ≡ openRefusal me params ⌝ }
 {
-    moves::opening(me, params)
+    membership::opening(me, params)
 }
 
-// Join: idle to joining.
-pub fn join(e: End, clock: u64, draws: &[u8], out: &mut [u8]) -> Stepped
-    ensures { λ r. ⌜ r ≡ calledOf (eventOf e (Move Join) clock (length (now (out .entry))) (now (draws .entry))) ⌝ }
-    ensures { λ _. ⌜ now (out .exit) ≡ bufferOf (eventOf e (Move Join) clock (length (now (out .entry))) (now (draws .entry)) .outcome) (now (out .entry)) ⌝ }
-    ensures { λ r. ⌜ answerNumber (r .answer) ≡ questionOf e (Move Join) clock (length (now (out .entry))) (length (now (draws .entry))) ⌝ }
+// ---- the frame
+
+fn unread() -> Reading
+    ensures { λ r. ⌜ r ≡ readingFor Event.Fire [] ⌝ }
 {
-    let q = questions::any_refusal(e, clock, out.len(), draws.len());
-    if q != 0 { // Join is refused by questions 1 to 5
-        return parts::refused(e, q);
+    Reading {
+        verdict: Verdict::Accepted,
+        message: message::blank(),
     }
+}
+
+// Only an arrival brings bytes.
+fn reading_for(what: Event, bytes: &[u8]) -> Reading
+    ensures { λ r. ⌜ r ≡ readingFor what (now (bytes .entry)) ⌝ }
+{
+    match what {
+        Event::Moves(_) => unread(),
+        Event::Send => unread(),
+        Event::Arrival => reader::read(bytes),
+        Event::Fire => unread(),
+        Event::Report => unread(),
+    }
+}
+
+// Whether an end that is not crashed takes the event.
+fn takes(what: Event, status: Status) -> bool
+    ensures { λ r. ⌜ r ≡ takes what status ⌝ }
+{
+    let member = state::is_member(status);
+    match what {
+        Event::Moves(_) => true,
+        Event::Send => member,
+        Event::Arrival => member,
+        Event::Fire => member,
+        Event::Report => member,
+    }
+}
+
+// The clock after a call: an unrefused event sets it, but on a crashed end.
+fn clock_after(sets: bool, clock: u64, was: u64) -> u64
+    ensures { λ r. ⌜ r ≡ cond sets clock was ⌝ }
+{
+    if sets { clock } else { was }
+}
+
+// The answer of a call with the first no q that is not taken.
+fn untaken(q: u8) -> Answer
+    ensures { λ r. ⌜ r ≡ answerOf (untakenFor q) ⌝ }
+{
+    if q == 0 {
+        Answer::Ignored
+    } else {
+        Answer::Refused(q)
+    }
+}
+
+// What an event does on an end that takes it: its clock is set, and every question was answered yes.
+fn act(
+    end: End,
+    draws: &[Draw],
+    what: Event,
+    cue: [u8; 24],
+    message: Message,
+    out: &mut [u8],
+) -> Stepped
+    requires { ⌜ Acting what end message (length (now draws)) (length (now out)) ⌝ }
+    ensures { λ r. ⌜ r ≡ calledOf (done (acted (now (draws .entry)) what cue (meaningOf message) end)) ⌝ }
+    ensures { λ _. ⌜ now (out .exit) ≡ bufferOf (Did (acted (now (draws .entry)) what cue (meaningOf message) end .effect)) (now (out .entry)) ⌝ }
+{
+    match what {
+        Event::Moves(m) => membership::moved(end, m),
+        Event::Send => transmit::send(end, cue, out),
+        Event::Arrival => receive::arrival(end, draws, message, out),
+        Event::Fire => transmit::fire(end, draws, out),
+        Event::Report => transmit::report(end, out),
+    }
+}
+
+// An event of an end: the one call of which the others are cases. `cue` counts where the event is Send, `bytes` where it is Arrival.
+pub fn event(
+    e: End,
+    clock: u64,
+    draws: &[Draw],
+    what: Event,
+    cue: [u8; 24],
+    bytes: &[u8],
+    out: &mut [u8],
+) -> Stepped
+    ensures { λ r. ⌜ r ≡ gives e (actionOf what cue (now (bytes .entry))) clock (now (draws .entry)) (now (out .entry)) ⌝ }
+    ensures { λ _. ⌜ now (out .exit) ≡ leaves e (actionOf what cue (now (bytes .entry))) clock (now (draws .entry)) (now (out .entry)) ⌝ }
+    ensures { λ r. ⌜ Answered e (actionOf what cue (now (bytes .entry))) clock (now (draws .entry)) (now (out .entry)) (r .answer) ⌝ }
+{
+    let reading = reading_for(what, bytes);
+    let verdict = reading.verdict;
+    let message = reading.message;
+    let q = questions::refusal(e, clock, out.len(), draws.len(), what, cue, verdict);
     let status = e.status;
-    if parts::is_crashed(status) {
-        return parts::ignored(e);
+    let sets = (q == 0) & !state::is_crashed(status);
+    let mut end = state::with_clock(e, clock_after(sets, clock, e.clock));
+    let mut answer = untaken(q);
+    if sets & takes(what, status) {
+        let s = act(end, draws, what, cue, message, out);
+        answer = s.answer;
+        end = s.end;
     }
-    let end = parts::at_clock(e, clock);
-    moves::join(end)
+    Stepped { answer, end }
+}
+
+// An event that brings neither cue nor bytes.
+fn plain(e: End, clock: u64, draws: &[Draw], what: Event, out: &mut [u8]) -> Stepped
+    ensures { λ r. ⌜ r ≡ gives e (actionOf what blankCue []) clock (now (draws .entry)) (now (out .entry)) ⌝ }
+    ensures { λ _. ⌜ now (out .exit) ≡ leaves e (actionOf what blankCue []) clock (now (draws .entry)) (now (out .entry)) ⌝ }
+    ensures { λ r. ⌜ Answered e (actionOf what blankCue []) clock (now (draws .entry)) (now (out .entry)) (r .answer) ⌝ }
+{
+    let none = [0; 1];
+    event(e, clock, draws, what, [0; 24], &none[0..0], out)
+}
+
+// ---- the calls
+
+// Join: idle to joining.
+pub fn join(e: End, clock: u64, draws: &[Draw], out: &mut [u8]) -> Stepped
+    ensures { λ r. ⌜ r ≡ gives e (Moves Join) clock (now (draws .entry)) (now (out .entry)) ⌝ }
+    ensures { λ _. ⌜ now (out .exit) ≡ leaves e (Moves Join) clock (now (draws .entry)) (now (out .entry)) ⌝ }
+    ensures { λ r. ⌜ Answered e (Moves Join) clock (now (draws .entry)) (now (out .entry)) (r .answer) ⌝ }
+{
+    plain(e, clock, draws, Event::Moves(Move::Join), out)
 }
 
 // Joined: joining to member.
-pub fn joined(e: End, clock: u64, draws: &[u8], out: &mut [u8]) -> Stepped
-    ensures { λ r. ⌜ r ≡ calledOf (eventOf e (Move Joined) clock (length (now (out .entry))) (now (draws .entry))) ⌝ }
-    ensures { λ _. ⌜ now (out .exit) ≡ bufferOf (eventOf e (Move Joined) clock (length (now (out .entry))) (now (draws .entry)) .outcome) (now (out .entry)) ⌝ }
-    ensures { λ r. ⌜ answerNumber (r .answer) ≡ questionOf e (Move Joined) clock (length (now (out .entry))) (length (now (draws .entry))) ⌝ }
+pub fn joined(e: End, clock: u64, draws: &[Draw], out: &mut [u8]) -> Stepped
+    ensures { λ r. ⌜ r ≡ gives e (Moves Joined) clock (now (draws .entry)) (now (out .entry)) ⌝ }
+    ensures { λ _. ⌜ now (out .exit) ≡ leaves e (Moves Joined) clock (now (draws .entry)) (now (out .entry)) ⌝ }
+    ensures { λ r. ⌜ Answered e (Moves Joined) clock (now (draws .entry)) (now (out .entry)) (r .answer) ⌝ }
 {
-    let q = questions::any_refusal(e, clock, out.len(), draws.len());
-    if q != 0 { // Joined is refused by questions 1 to 5
-        return parts::refused(e, q);
-    }
-    let status = e.status;
-    if parts::is_crashed(status) {
-        return parts::ignored(e);
-    }
-    let end = parts::at_clock(e, clock);
-    moves::joined(end)
+    plain(e, clock, draws, Event::Moves(Move::Joined), out)
 }
 
 // Leave: joining or member to leaving.
-pub fn leave(e: End, clock: u64, draws: &[u8], out: &mut [u8]) -> Stepped
-    ensures { λ r. ⌜ r ≡ calledOf (eventOf e (Move Leave) clock (length (now (out .entry))) (now (draws .entry))) ⌝ }
-    ensures { λ _. ⌜ now (out .exit) ≡ bufferOf (eventOf e (Move Leave) clock (length (now (out .entry))) (now (draws .entry)) .outcome) (now (out .entry)) ⌝ }
-    ensures { λ r. ⌜ answerNumber (r .answer) ≡ questionOf e (Move Leave) clock (length (now (out .entry))) (length (now (draws .entry))) ⌝ }
+pub fn leave(e: End, clock: u64, draws: &[Draw], out: &mut [u8]) -> Stepped
+    ensures { λ r. ⌜ r ≡ gives e (Moves Leave) clock (now (draws .entry)) (now (out .entry)) ⌝ }
+    ensures { λ _. ⌜ now (out .exit) ≡ leaves e (Moves Leave) clock (now (draws .entry)) (now (out .entry)) ⌝ }
+    ensures { λ r. ⌜ Answered e (Moves Leave) clock (now (draws .entry)) (now (out .entry)) (r .answer) ⌝ }
 {
-    let q = questions::any_refusal(e, clock, out.len(), draws.len());
-    if q != 0 { // Leave is refused by questions 1 to 5
-        return parts::refused(e, q);
-    }
-    let status = e.status;
-    if parts::is_crashed(status) {
-        return parts::ignored(e);
-    }
-    let end = parts::at_clock(e, clock);
-    moves::leave(end)
+    plain(e, clock, draws, Event::Moves(Move::Leave), out)
 }
 
 // Left: leaving to idle.
-pub fn left(e: End, clock: u64, draws: &[u8], out: &mut [u8]) -> Stepped
-    ensures { λ r. ⌜ r ≡ calledOf (eventOf e (Move Left) clock (length (now (out .entry))) (now (draws .entry))) ⌝ }
-    ensures { λ _. ⌜ now (out .exit) ≡ bufferOf (eventOf e (Move Left) clock (length (now (out .entry))) (now (draws .entry)) .outcome) (now (out .entry)) ⌝ }
-    ensures { λ r. ⌜ answerNumber (r .answer) ≡ questionOf e (Move Left) clock (length (now (out .entry))) (length (now (draws .entry))) ⌝ }
+pub fn left(e: End, clock: u64, draws: &[Draw], out: &mut [u8]) -> Stepped
+    ensures { λ r. ⌜ r ≡ gives e (Moves Left) clock (now (draws .entry)) (now (out .entry)) ⌝ }
+    ensures { λ _. ⌜ now (out .exit) ≡ leaves e (Moves Left) clock (now (draws .entry)) (now (out .entry)) ⌝ }
+    ensures { λ r. ⌜ Answered e (Moves Left) clock (now (draws .entry)) (now (out .entry)) (r .answer) ⌝ }
 {
-    let q = questions::any_refusal(e, clock, out.len(), draws.len());
-    if q != 0 { // Left is refused by questions 1 to 5
-        return parts::refused(e, q);
-    }
-    let status = e.status;
-    if parts::is_crashed(status) {
-        return parts::ignored(e);
-    }
-    let end = parts::at_clock(e, clock);
-    moves::left(end)
+    plain(e, clock, draws, Event::Moves(Move::Left), out)
 }
 
 // Crash: to crashed, for good.
-pub fn crash(e: End, clock: u64, draws: &[u8], out: &mut [u8]) -> Stepped
-    ensures { λ r. ⌜ r ≡ calledOf (eventOf e (Move Crash) clock (length (now (out .entry))) (now (draws .entry))) ⌝ }
-    ensures { λ _. ⌜ now (out .exit) ≡ bufferOf (eventOf e (Move Crash) clock (length (now (out .entry))) (now (draws .entry)) .outcome) (now (out .entry)) ⌝ }
-    ensures { λ r. ⌜ answerNumber (r .answer) ≡ questionOf e (Move Crash) clock (length (now (out .entry))) (length (now (draws .entry))) ⌝ }
+pub fn crash(e: End, clock: u64, draws: &[Draw], out: &mut [u8]) -> Stepped
+    ensures { λ r. ⌜ r ≡ gives e (Moves Crash) clock (now (draws .entry)) (now (out .entry)) ⌝ }
+    ensures { λ _. ⌜ now (out .exit) ≡ leaves e (Moves Crash) clock (now (draws .entry)) (now (out .entry)) ⌝ }
+    ensures { λ r. ⌜ Answered e (Moves Crash) clock (now (draws .entry)) (now (out .entry)) (r .answer) ⌝ }
 {
-    let q = questions::any_refusal(e, clock, out.len(), draws.len());
-    if q != 0 { // Crash is refused by questions 1 to 5
-        return parts::refused(e, q);
-    }
-    let status = e.status;
-    if parts::is_crashed(status) {
-        return parts::ignored(e);
-    }
-    let end = parts::at_clock(e, clock);
-    moves::crash(end)
+    plain(e, clock, draws, Event::Moves(Move::Crash), out)
 }
 
 // Send: a member's cue goes out under its next number.
-pub fn send(e: End, clock: u64, draws: &[u8], cue: [u8; 24], out: &mut [u8]) -> Stepped
-    ensures { λ r. ⌜ r ≡ calledOf (eventOf e (Send cue) clock (length (now (out .entry))) (now (draws .entry))) ⌝ }
-    ensures { λ _. ⌜ now (out .exit) ≡ bufferOf (eventOf e (Send cue) clock (length (now (out .entry))) (now (draws .entry)) .outcome) (now (out .entry)) ⌝ }
-    ensures { λ r. ⌜ answerNumber (r .answer) ≡ questionOf e (Send cue) clock (length (now (out .entry))) (length (now (draws .entry))) ⌝ }
+pub fn send(e: End, clock: u64, draws: &[Draw], cue: [u8; 24], out: &mut [u8]) -> Stepped
+    ensures { λ r. ⌜ r ≡ gives e (Send cue) clock (now (draws .entry)) (now (out .entry)) ⌝ }
+    ensures { λ _. ⌜ now (out .exit) ≡ leaves e (Send cue) clock (now (draws .entry)) (now (out .entry)) ⌝ }
+    ensures { λ r. ⌜ Answered e (Send cue) clock (now (draws .entry)) (now (out .entry)) (r .answer) ⌝ }
 {
-    let any = questions::any_refusal(e, clock, out.len(), draws.len());
-    let own = questions::send_refusal(e, cue);
-    let q = questions::first_of(any, own);
-    steps::send(e, q, clock, cue, out)
+    let none = [0; 1];
+    event(e, clock, draws, Event::Send, cue, &none[0..0], out)
 }
 
 // Arrival: a member takes a message. After questions 1 to 5 it asks the reader's, 8 to 11.
-pub fn arrival(e: End, clock: u64, draws: &[u8], bytes: &[u8], out: &mut [u8]) -> Stepped
-    ensures { λ r. ⌜ r ≡ calledOf (eventOf e (Arrival (now (bytes .entry))) clock (length (now (out .entry))) (now (draws .entry))) ⌝ }
-    ensures { λ _. ⌜ now (out .exit) ≡ bufferOf (eventOf e (Arrival (now (bytes .entry))) clock (length (now (out .entry))) (now (draws .entry)) .outcome) (now (out .entry)) ⌝ }
-    ensures { λ r. ⌜ answerNumber (r .answer) ≡ questionOf e (Arrival (now (bytes .entry))) clock (length (now (out .entry))) (length (now (draws .entry))) ⌝ }
+pub fn arrival(e: End, clock: u64, draws: &[Draw], bytes: &[u8], out: &mut [u8]) -> Stepped
+    ensures { λ r. ⌜ r ≡ gives e (Arrival (now (bytes .entry))) clock (now (draws .entry)) (now (out .entry)) ⌝ }
+    ensures { λ _. ⌜ now (out .exit) ≡ leaves e (Arrival (now (bytes .entry))) clock (now (draws .entry)) (now (out .entry)) ⌝ }
+    ensures { λ r. ⌜ Answered e (Arrival (now (bytes .entry))) clock (now (draws .entry)) (now (out .entry)) (r .answer) ⌝ }
 {
-    let any = questions::any_refusal(e, clock, out.len(), draws.len());
-    let reading = reader::read(bytes);
-    let verdict = reading.verdict;
-    let own = questions::number_of(verdict);
-    let q = questions::first_of(any, own);
-    let message = reading.message;
-    incoming::arrival(e, q, clock, draws, message, out)
+    event(e, clock, draws, Event::Arrival, [0; 24], bytes, out)
 }
 
 // Fire: the earliest wait that is due goes out.
-pub fn fire(e: End, clock: u64, draws: &[u8], out: &mut [u8]) -> Stepped
-    ensures { λ r. ⌜ r ≡ calledOf (eventOf e (Else Fire) clock (length (now (out .entry))) (now (draws .entry))) ⌝ }
-    ensures { λ _. ⌜ now (out .exit) ≡ bufferOf (eventOf e (Else Fire) clock (length (now (out .entry))) (now (draws .entry)) .outcome) (now (out .entry)) ⌝ }
-    ensures { λ r. ⌜ answerNumber (r .answer) ≡ questionOf e (Else Fire) clock (length (now (out .entry))) (length (now (draws .entry))) ⌝ }
+pub fn fire(e: End, clock: u64, draws: &[Draw], out: &mut [u8]) -> Stepped
+    ensures { λ r. ⌜ r ≡ gives e (Else Fire) clock (now (draws .entry)) (now (out .entry)) ⌝ }
+    ensures { λ _. ⌜ now (out .exit) ≡ leaves e (Else Fire) clock (now (draws .entry)) (now (out .entry)) ⌝ }
+    ensures { λ r. ⌜ Answered e (Else Fire) clock (now (draws .entry)) (now (out .entry)) (r .answer) ⌝ }
 {
-    let q = questions::any_refusal(e, clock, out.len(), draws.len());
-    steps::fire(e, q, clock, draws, out)
+    plain(e, clock, draws, Event::Fire, out)
 }
 
 // Report: a session message goes out.
-pub fn report(e: End, clock: u64, draws: &[u8], out: &mut [u8]) -> Stepped
-    ensures { λ r. ⌜ r ≡ calledOf (eventOf e (Else Report) clock (length (now (out .entry))) (now (draws .entry))) ⌝ }
-    ensures { λ _. ⌜ now (out .exit) ≡ bufferOf (eventOf e (Else Report) clock (length (now (out .entry))) (now (draws .entry)) .outcome) (now (out .entry)) ⌝ }
-    ensures { λ r. ⌜ answerNumber (r .answer) ≡ questionOf e (Else Report) clock (length (now (out .entry))) (length (now (draws .entry))) ⌝ }
+pub fn report(e: End, clock: u64, draws: &[Draw], out: &mut [u8]) -> Stepped
+    ensures { λ r. ⌜ r ≡ gives e (Else Report) clock (now (draws .entry)) (now (out .entry)) ⌝ }
+    ensures { λ _. ⌜ now (out .exit) ≡ leaves e (Else Report) clock (now (draws .entry)) (now (out .entry)) ⌝ }
+    ensures { λ r. ⌜ Answered e (Else Report) clock (now (draws .entry)) (now (out .entry)) (r .answer) ⌝ }
 {
-    let q = questions::any_refusal(e, clock, out.len(), draws.len());
-    steps::report(e, q, clock, out)
+    plain(e, clock, draws, Event::Report, out)
 }

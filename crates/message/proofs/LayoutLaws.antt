@@ -8,7 +8,7 @@ use lib.ListN.{length, drop, getD, replicate}
 use lib.Seq.{drop-drop, take-append-seam}
 use Rattle.message.specs.Section.{sectionFrom, after}
 use Rattle.message.specs.Entry.{nameWidth, nameOf, cueWidth, cueOf, reportWidth, reportOf, echoWidth, echoOf, blankName, blankCue, blankReport, blankEcho}
-use Rattle.message.specs.Message.{Meaning, meaningWith, countsOf, meaningOf, heldAs, fromNames, fromCues, fromReports, fromEchoes}
+use Rattle.message.specs.Message.{Meaning, meaningWith, countsOf, meaningOf, heldAs, namePlaces, reportPlaces, echoPlaces, fromNames, fromCues, fromReports, fromEchoes}
 use Rattle.message.specs.declared.Counts.{Counts}
 use Rattle.message.proofs.SectionLaws.{length-entries, one-back}
 use Rattle.message.proofs.EntryLaws.{head-at}
@@ -86,8 +86,8 @@ held-back M c = λ i. record {
   kind = M .kind;
   sender = M .sender;
   stamp = M .stamp;
-  names = take-append-seam (M .names) (replicate (1 - length (M .names)) blankName) i;
+  names = take-append-seam (M .names) (replicate (namePlaces - length (M .names)) blankName) i;
   cues = one-back (M .cues) blankCue c i;
-  reports = take-append-seam (M .reports) (replicate (8 - length (M .reports)) blankReport) i;
-  echoes = take-append-seam (M .echoes) (replicate (7 - length (M .echoes)) blankEcho) i;
+  reports = take-append-seam (M .reports) (replicate (reportPlaces - length (M .reports)) blankReport) i;
+  echoes = take-append-seam (M .echoes) (replicate (echoPlaces - length (M .echoes)) blankEcho) i;
 }

@@ -1,6 +1,7 @@
--- The laws of the questions: what it means that the first no is 0, and what the kind's counts allow.
-use mathlib.Core.Path.{_≡_, refl}
-use Prim.Native.Nat.{ℕ, zero, suc, _≤_, _<_}
+-- The laws of the questions: what it means that the first no is 0, and what the table of kinds allows.
+use mathlib.Core.Path.{_≡_, refl, ap}
+use Prim.Native.Nat.{ℕ, zero, suc, _+_, _*_, _^_, _≤_, _<_}
+use native.Mathlib.Nat.{mul-le-mul-right}
 use native.Mathlib.Omega.{arith}
 use mathlib.Core.Bool.{Bool, true, false, _&&_, _||_}
 use mathlib.Core.Logic.{_⊎_, inl, inr, ⊎-elim}
@@ -8,9 +9,14 @@ use mathlib.Core.List.{List, [], _∷_}
 use lib.Dec.{eqb, leb}
 use borrow.Author.Tests.{eqb-true, leb-true}
 use Rattle.message.specs.Section.{all}
-use Rattle.message.specs.Message.{DATA, RQST, REPL, SESS, sizeWith}
-use Rattle.message.specs.Question.{Question, ask, firstNo, verdictFor, refusalOf, countsAre, sessionCounts, kindHasCounts}
+use Rattle.message.specs.Limit.{numberLimit}
+use Rattle.message.specs.Kind.{table, noKind, rowIn, rowOf, numberWidth, widestNumber}
+use Rattle.message.specs.Entry.{nameWidth, cueWidth, reportWidth, echoWidth}
+use Rattle.message.specs.Message.{Small, namePlaces, reportPlaces, echoPlaces}
+use Rattle.message.specs.Question.{Question, ask, firstNo, verdictFor, refusalOf, kindHasCounts}
 use Rattle.message.specs.declared.Counts.{Counts}
+use Rattle.message.specs.declared.Row.{Row}
+use Rattle.numbers.proofs.Cases.{by-flag}
 use Rattle.message.proofs.SectionLaws.{All, none, some}
 
 -- a test of two parts, and of one of two
@@ -40,42 +46,90 @@ pub number-of-verdict : (k : ℕ) → refusalOf (verdictFor k) ≡ k
 number-of-verdict zero = refl
 number-of-verdict (suc k) = refl
 
--- what a kind's counts allow: they fit the places of a message struct, and the message has at most 119 bytes
-pub record Small (c : Counts) : Type 0 where
-  pub names : c .names ≤ 1
-  pub cues : c .cues ≤ 1
-  pub reports : c .reports ≤ 8
-  pub echoes : c .echoes ≤ 7
-  pub size : sizeWith 1 c ≤ 119
+-- ---- the table of kinds
 
-are-small : (c : Counts) (n k : ℕ) → n ≤ 1 → k ≤ 1 → countsAre c n k ≡ true → Small c
-are-small c n k p q h =
-    let a = and-both (eqb (c .names) n) _ h in
-    let b = and-both (eqb (c .cues) k) _ (a .1) in
-    let d = and-both (eqb (c .reports) 0) _ (b .1) in
-    let names : c .names ≡ n = eqb-true (c .names) n (a .0) in
-    let cues : c .cues ≡ k = eqb-true (c .cues) k (b .0) in
-    let reports : c .reports ≡ 0 = eqb-true (c .reports) 0 (d .0) in
-    let echoes : c .echoes ≡ 0 = eqb-true (c .echoes) 0 (d .1) in
+-- what holds of every row of a table, and of a byte that is no kind, holds of any byte's row
+row-in : (P : Row → Type 0) → P noKind → (t : List (ℕ × Row)) → All (λ (line : ℕ × Row). P (line .1)) t → (kind : ℕ) → P (rowIn t kind)
+row-in P z [] none kind = z
+row-in P z (line ∷ t) (some p q) kind = by-flag (eqb kind (line .0)) (λ e. rw e p) (λ e. rw e (row-in P z t q kind))
+
+-- what every row has: its counts fit the places of a message struct, its messages have at most 119 bytes, and a cue number fits its bytes
+abbrev rowSize : Row → ℕ
+rowSize r = 12 + r .names * nameWidth (r .width) + r .cues * cueWidth + r .reports * reportWidth (r .width) + r .echoes * echoWidth
+
+record RowFits (r : Row) : Type 0 where
+  pub names : r .names ≤ namePlaces
+  pub cues : r .cues ≤ 1
+  pub reports : r .reports ≤ reportPlaces
+  pub echoes : r .echoes ≤ echoPlaces
+  pub size : rowSize r ≤ 119
+  pub width : r .width ≤ widestNumber
+  pub number : numberLimit ≤ 256 ^ r .width
+
+abbrev fitsOf : Row → Bool
+fitsOf r =
+    leb (r .names) namePlaces
+    && (leb (r .cues) 1
+    && (leb (r .reports) reportPlaces
+    && (leb (r .echoes) echoPlaces && (leb (rowSize r) 119 && (leb (r .width) widestNumber && leb numberLimit (256 ^ r .width))))))
+
+fits : (r : Row) → fitsOf r ≡ true → RowFits r
+fits r h =
+    let n = and-both (leb (r .names) namePlaces) _ h in
+    let q = and-both (leb (r .cues) 1) _ (n .1) in
+    let b = and-both (leb (r .reports) reportPlaces) _ (q .1) in
+    let e = and-both (leb (r .echoes) echoPlaces) _ (b .1) in
+    let z = and-both (leb (rowSize r) 119) _ (e .1) in
+    let w = and-both (leb (r .width) widestNumber) _ (z .1) in
+    record {
+      names = leb-true (r .names) namePlaces (n .0);
+      cues = leb-true (r .cues) 1 (q .0);
+      reports = leb-true (r .reports) reportPlaces (b .0);
+      echoes = leb-true (r .echoes) echoPlaces (e .0);
+      size = leb-true (rowSize r) 119 (z .0);
+      width = leb-true (r .width) widestNumber (w .0);
+      number = leb-true numberLimit (256 ^ r .width) (w .1);
+    }
+
+row-fits : (kind : ℕ) → RowFits (rowOf kind)
+unfolding all
+row-fits = row-in RowFits (fits noKind refl) table (all-true (λ (line : ℕ × Row). fitsOf (line .1)) (λ line. fits (line .1)) table refl)
+
+-- "no row asks for more", and a cue number in range fits
+pub width-fits : (kind : ℕ) → numberWidth kind ≤ widestNumber
+width-fits kind = row-fits kind .width
+
+pub number-fits : (kind : ℕ) → numberLimit ≤ 256 ^ numberWidth kind
+number-fits kind = row-fits kind .number
+
+-- the counts are those of the row
+pub record Counted (r : Row) (c : Counts) : Type 0 where
+  pub known : r .known ≡ true
+  pub names : c .names ≡ r .names
+  pub cues : c .cues ≡ r .cues
+  pub reports : c .reports ≤ r .reports
+  pub echoes : c .echoes ≤ r .echoes
+
+pub counted : (kind : ℕ) (c : Counts) → kindHasCounts kind c ≡ true → Counted (rowOf kind) c
+counted kind c h =
+    let r : Row = rowOf kind in
+    let k = and-both (r .known) _ h in
+    let n = and-both (eqb (c .names) (r .names)) _ (k .1) in
+    let q = and-both (eqb (c .cues) (r .cues)) _ (n .1) in
+    let b = and-both (leb (c .reports) (r .reports)) _ (q .1) in
+    record {
+      known = k .0;
+      names = eqb-true (c .names) (r .names) (n .0);
+      cues = eqb-true (c .cues) (r .cues) (q .0);
+      reports = leb-true (c .reports) (r .reports) (b .0);
+      echoes = leb-true (c .echoes) (r .echoes) (b .1);
+    }
+
+small : (r : Row) (c : Counts) → RowFits r → Counted r c → Small (r .width) c
+small r c f h =
+    let n : c .names * nameWidth (r .width) ≡ r .names * nameWidth (r .width) = ap (λ (k : ℕ). k * nameWidth (r .width)) (h .names) in
+    let b : c .reports * reportWidth (r .width) ≤ r .reports * reportWidth (r .width) = mul-le-mul-right (reportWidth (r .width)) (h .reports) in
     record { names = omega arith; cues = omega arith; reports = omega arith; echoes = omega arith; size = omega arith }
 
-session-small : (c : Counts) → sessionCounts c ≡ true → Small c
-session-small c h =
-    let a = and-both (eqb (c .names) 0) _ h in
-    let b = and-both (eqb (c .cues) 0) _ (a .1) in
-    let d = and-both (leb (c .reports) 8) _ (b .1) in
-    let names : c .names ≡ 0 = eqb-true (c .names) 0 (a .0) in
-    let cues : c .cues ≡ 0 = eqb-true (c .cues) 0 (b .0) in
-    let reports : c .reports ≤ 8 = leb-true (c .reports) 8 (d .0) in
-    let echoes : c .echoes ≤ 7 = leb-true (c .echoes) 7 (d .1) in
-    record { names = omega arith; cues = omega arith; reports = reports; echoes = echoes; size = omega arith }
-
-pub counts-small : (kind : ℕ) (c : Counts) → kindHasCounts kind c ≡ true → Small c
-counts-small kind c h =
-    ⊎-elim (λ p. are-small c 1 1 (omega arith) (omega arith) (and-both (eqb kind DATA) _ p .1))
-    (λ q. ⊎-elim (λ p. are-small c 1 0 (omega arith) (omega arith) (and-both (eqb kind RQST) _ p .1))
-    (λ r. ⊎-elim (λ p. are-small c 1 1 (omega arith) (omega arith) (and-both (eqb kind REPL) _ p .1))
-    (λ p. session-small c (and-both (eqb kind SESS) _ p .1))
-    (or-either (eqb kind REPL && countsAre c 1 1) _ r))
-    (or-either (eqb kind RQST && countsAre c 1 0) _ q))
-    (or-either (eqb kind DATA && countsAre c 1 1) _ h)
+pub counts-small : (kind : ℕ) (c : Counts) → kindHasCounts kind c ≡ true → Small (numberWidth kind) c
+counts-small kind c h = small (rowOf kind) c (row-fits kind) (counted kind c h)

@@ -1,3 +1,5 @@
+pub mod Limit
+pub mod Kind
 pub mod Cue
 pub mod Section
 pub mod Entry

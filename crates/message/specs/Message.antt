@@ -1,6 +1,7 @@
 -- What a message means, and its layout in bytes. Document 01, "Messages": "Kind (1 byte), sender (1), stamp (6, the sender's
 -- clock), then four sections, each after its one-byte count: names .., cues .., reports .., echoes ..".
-use Prim.Native.Nat.{ℕ, _+_, _*_}
+use mathlib.Core.Path.{_≡_}
+use Prim.Native.Nat.{ℕ, _+_, _*_, _≤_}
 use mathlib.Core.List.{List, [], _∷_, _++_}
 use lib.ListN.{length, getD, take, drop}
 use Rattle.numbers.specs.Number.{value, digits}
@@ -12,23 +13,7 @@ use Rattle.message.specs.declared.Report.{Report}
 use Rattle.message.specs.declared.Echo.{Echo}
 use Rattle.message.specs.declared.Counts.{Counts}
 use Rattle.message.specs.declared.Message.{Message}
-
--- The table's first column.
-abbrev pub DATA : ℕ
-DATA = 1
-
-abbrev pub RQST : ℕ
-RQST = 2
-
-abbrev pub REPL : ℕ
-REPL = 3
-
-abbrev pub SESS : ℕ
-SESS = 4
-
--- how many bytes a cue number has in a message of this kind: one, whatever the kind byte
-abbrev pub numberWidth : ℕ → ℕ
-numberWidth kind = 1
+pub use Rattle.message.specs.Kind.{DATA, RQST, REPL, SESS, numberWidth}
 
 -- What a message says.
 pub record Meaning : Type 0 where
@@ -61,7 +46,7 @@ meaningOf m = record {
 
 -- how many places a message struct has for names, reports and echoes
 abbrev pub namePlaces : ℕ
-namePlaces = 1
+namePlaces = 2
 
 abbrev pub reportPlaces : ℕ
 reportPlaces = 8
@@ -127,6 +112,14 @@ meaningWith w s = record {
 -- how long a message with these counts is: the head, four count bytes and the entries
 abbrev pub sizeWith : ℕ → Counts → ℕ
 sizeWith w c = 12 + c .names * nameWidth w + c .cues * cueWidth + c .reports * reportWidth w + c .echoes * echoWidth
+
+-- what the kinds' counts allow: they fit the places of a message struct, and the message has at most 119 bytes
+pub record Small (w : ℕ) (c : Counts) : Type 0 where
+  pub names : c .names ≤ namePlaces
+  pub cues : c .cues ≤ 1
+  pub reports : c .reports ≤ reportPlaces
+  pub echoes : c .echoes ≤ echoPlaces
+  pub size : sizeWith w c ≤ 119
 
 -- ---- The layout of a message, with the width that its first byte, the kind, asks for.
 

@@ -1,18 +1,23 @@
 -- The questions that the reader and the writer ask, and their answers. Document 01, "The questions, in this order".
 use Prim.Native.Nat.{ℕ, zero, suc}
-use mathlib.Core.Bool.{Bool, cond, not, _&&_, _||_}
+use mathlib.Core.Bool.{Bool, false, cond, not, _&&_}
 use mathlib.Core.List.{List, [], _∷_, _++_}
 use lib.ListN.{length, getD, drop}
 use lib.Dec.{ltb, leb, eqb}
 use Rattle.message.specs.Cue.{cueIn}
 use Rattle.message.specs.Section.{all, rises}
 use Rattle.message.specs.Entry.{asHost}
-use Rattle.message.specs.Message.{DATA, RQST, REPL, SESS, Meaning, meaningOf, heldAs, bytesOf, meaningFrom, countsOf, sizeFrom}
+use Rattle.message.specs.Limit.{hostLimit, numberLimit, ticksLimit, roomNeeded}
+use Rattle.message.specs.Kind.{rowOf}
+use Rattle.message.specs.Message.{Meaning, meaningOf, heldAs, bytesOf, meaningFrom, countsOf, sizeFrom}
 use Rattle.message.specs.declared.Host.{Host}
 use Rattle.message.specs.declared.CueNumber.{CueNumber}
 use Rattle.message.specs.declared.NameEntry.{NameEntry}
 use Rattle.message.specs.declared.Report.{Report}
 use Rattle.message.specs.declared.Echo.{Echo}
+use Rattle.message.specs.declared.HostRule.{HostRule}
+use Rattle.message.specs.declared.HostRule.the-variants.{SourceAndSender, SenderNotSource, NeitherSenderNorSource, NoHost}
+use Rattle.message.specs.declared.Row.{Row}
 use Rattle.message.specs.declared.Counts.{Counts}
 use Rattle.message.specs.declared.Message.{Message}
 use Rattle.message.specs.declared.Verdict.{Verdict}
@@ -46,31 +51,23 @@ refusalOf (Refused k) = k
 
 -- ---- 9: "Is the kind 1..4 with its counts?": the table's second column
 
--- so many names and cues, no reports and no echoes
-abbrev pub countsAre : Counts → ℕ → ℕ → Bool
-countsAre c names cues = eqb (c .names) names && (eqb (c .cues) cues && (eqb (c .reports) 0 && eqb (c .echoes) 0))
-
--- "0,0,0..8,0..7"
-abbrev pub sessionCounts : Counts → Bool
-sessionCounts c = eqb (c .names) 0 && (eqb (c .cues) 0 && (leb (c .reports) 8 && leb (c .echoes) 7))
+abbrev pub hasCounts : Row → Counts → Bool
+hasCounts r c =
+    r .known && (eqb (c .names) (r .names) && (eqb (c .cues) (r .cues) && (leb (c .reports) (r .reports) && leb (c .echoes) (r .echoes))))
 
 abbrev pub kindHasCounts : ℕ → Counts → Bool
-kindHasCounts kind c =
-    (eqb kind DATA && countsAre c 1 1)
-    || ((eqb kind RQST && countsAre c 1 0) || ((eqb kind REPL && countsAre c 1 1) || (eqb kind SESS && sessionCounts c)))
+kindHasCounts kind c = hasCounts (rowOf kind) c
 
 -- ---- 10: "Are hosts, cue numbers and cue fields in range, stamps and held ticks below 2^48?"
 
--- "Hosts are 0..7, cue numbers 0..63 per source."
 abbrev pub hostIn : Host → Bool
-hostIn h = ltb (h .0) 8
+hostIn h = ltb (h .0) hostLimit
 
 abbrev pub numberIn : CueNumber → Bool
-numberIn n = ltb (n .0) 64
+numberIn n = ltb (n .0) numberLimit
 
--- below 2^48
 abbrev pub ticksIn : ℕ → Bool
-ticksIn t = ltb t 281474976710656
+ticksIn t = ltb t ticksLimit
 
 abbrev pub nameIn : NameEntry → Bool
 nameIn n = hostIn (n .name .source) && (numberIn (n .name .number) && hostIn (n .host))
@@ -91,13 +88,16 @@ inRange M =
 abbrev pub sameHost : Host → Host → Bool
 sameHost a b = eqb (a .0) (b .0)
 
--- the host in the name. DATA: "the source, also the sender"; RQST: "the sender, not the source"; REPL: "the requester,
--- neither sender nor source"
+-- the host beside a name, by its rule, whether it is the source and whether it is the sender. DATA: "the source, also the sender"; RQST:
+-- "the sender, not the source"; REPL: "the requester, neither sender nor source"; a kind with the host "none" has no names
+abbrev pub ruleHolds : HostRule → Bool → Bool → Bool
+ruleHolds SourceAndSender source sender = source && sender
+ruleHolds SenderNotSource source sender = sender && not source
+ruleHolds NeitherSenderNorSource source sender = not sender && not source
+ruleHolds NoHost source sender = false
+
 abbrev pub hostFits : ℕ → Host → NameEntry → Bool
-hostFits kind sender n =
-    (eqb kind DATA && (sameHost (n .host) (n .name .source) && sameHost (n .host) sender))
-    || ((eqb kind RQST && (sameHost (n .host) sender && not (sameHost (n .host) (n .name .source))))
-    || (eqb kind REPL && (not (sameHost (n .host) sender) && not (sameHost (n .host) (n .name .source)))))
+hostFits kind sender n = ruleHolds (rowOf kind .host) (sameHost (n .host) (n .name .source)) (sameHost (n .host) sender)
 
 -- "Reports rise strictly by source, echoes by host; no echo names the sender."
 abbrev pub reportSource : Report → ℕ
@@ -145,9 +145,11 @@ readOf s = record { verdict = verdictFor (readRefusal s); message = messageFor (
 -- ---- The writer: "The writer has questions 1, 9, 10, 11."
 
 -- "Has the output at least 128 bytes? 1."
+abbrev pub roomQuestions : Message → ℕ → List Question
+roomQuestions m room = ask (leb roomNeeded room) 1 ∷ ask (kindHasCounts (m .kind) (m .counts)) 9 ∷ meaningQuestions (meaningOf m)
+
 abbrev pub writeQuestions : Message → List ℕ → List Question
-writeQuestions m out =
-    ask (leb 128 (length out)) 1 ∷ ask (kindHasCounts (m .kind) (m .counts)) 9 ∷ meaningQuestions (meaningOf m)
+writeQuestions m out = roomQuestions m (length out)
 
 unfoldable pub writeRefusal : Message → List ℕ → ℕ
 writeRefusal m out = firstNo (writeQuestions m out)

@@ -1,5 +1,6 @@
 // A message, its cue and the questions that the reader and the writer share. The definitions are in specs/: Cue.antt (a
-// cue's fields), Entry.antt and Message.antt (the layout), Question.antt (the questions).
+// cue's fields), Limit.antt and Kind.antt (the limits and the table of kinds), Entry.antt and Message.antt (the layout), Question.antt
+// (the questions).
 // A test joins its parts by `&` and `|`, in the order in which its definition does.
 ghost use mathlib.Core.Path.{_≡_};
 ghost use mathlib.Core.List.{_∷_, []};
@@ -8,7 +9,8 @@ ghost use lib.ListN.{length, take};
 ghost use Rattle.message.specs.Cue.{fieldsOf, stepsIn, stepsAt, cueIn, cueWith};
 ghost use Rattle.message.specs.Section.{all, rises};
 ghost use Rattle.message.specs.Message.{meaningOf};
-ghost use Rattle.message.specs.Question.{kindHasCounts, nameIn, reportIn, echoIn, inRange, hostFits, notFrom, reportSource, echoHost, hostsFit, meaningQuestions, firstNo, blankMessage};
+ghost use Rattle.message.specs.Kind.{rowOf, row, numberWidth, widestNumber};
+ghost use Rattle.message.specs.Question.{hasCounts, kindHasCounts, nameIn, reportIn, echoIn, inRange, ruleHolds, hostFits, notFrom, reportSource, echoHost, hostsFit, meaningQuestions, firstNo, blankMessage};
 
 // A controller on the network, 0..7.
 pub struct Host(pub u8);
@@ -56,7 +58,7 @@ pub struct Message {
     pub sender: Host,
     pub stamp: u64,
     pub counts: Counts,
-    pub names: [NameEntry; 1],
+    pub names: [NameEntry; 2],
     pub cue: [u8; 24],
     pub reports: [Report; 8],
     pub echoes: [Echo; 7],
@@ -89,6 +91,42 @@ pub struct CueFields {
     pub lamp: u16,
 }
 
+// Who the host beside a name is.
+pub enum HostRule {
+    SourceAndSender,
+    SenderNotSource,
+    NeitherSenderNorSource,
+    NoHost,
+}
+
+// A row of the table of kinds: whether it is a kind at all, how many names and cues its messages have, how many reports and echoes at
+// most, how many bytes a cue number has, and the rule of the host beside a name.
+pub struct Row {
+    pub known: bool,
+    pub names: usize,
+    pub cues: usize,
+    pub reports: usize,
+    pub echoes: usize,
+    pub width: usize,
+    pub host: HostRule,
+}
+
+// Hosts, cue numbers and ticks (clocks, stamps, held ticks) are below these; an output has at least so many bytes.
+pub const HOST_LIMIT: u8 = 8;
+
+pub const NUMBER_LIMIT: u8 = 64;
+
+pub const TICKS_LIMIT: u64 = 281474976710656;
+
+pub const ROOM_NEEDED: usize = 128;
+
+// How many places a message has for names, reports and echoes.
+pub const NAME_PLACES: usize = 2;
+
+pub const REPORT_PLACES: usize = 8;
+
+pub const ECHO_PLACES: usize = 7;
+
 // The kinds of messages.
 pub const DATA: u8 = 1;
 
@@ -98,16 +136,64 @@ pub const REPL: u8 = 3;
 
 pub const SESS: u8 = 4;
 
-// How many bytes a cue number has, and an entry of each section.
-pub const NUMBER_WIDTH: usize = 1;
+// How many bytes a name and a report have beside their cue number, and a cue and an echo in all.
+pub const NAME_HOSTS: usize = 2;
 
-pub const NAME_WIDTH: usize = 3;
+pub const REPORT_HOSTS: usize = 1;
 
 pub const CUE_WIDTH: usize = 24;
 
-pub const REPORT_WIDTH: usize = 2;
-
 pub const ECHO_WIDTH: usize = 13;
+
+fn known(
+    names: usize,
+    cues: usize,
+    reports: usize,
+    echoes: usize,
+    width: usize,
+    host: HostRule,
+) -> Row
+    ensures { λ r. ⌜ r ≡ row names cues reports echoes width host ⌝ }
+{
+    Row {
+        known: true,
+        names,
+        cues,
+        reports,
+        echoes,
+        width,
+        host,
+    }
+}
+
+// The table of kinds; a byte that is no kind has the last row.
+pub fn row_of(kind: u8) -> Row
+    ensures { λ r. ⌜ r ≡ rowOf kind ⌝ }
+{
+    match kind {
+        DATA => known(1, 1, 0, 0, 1, HostRule::SourceAndSender),
+        RQST => known(1, 0, 0, 0, 1, HostRule::SenderNotSource),
+        REPL => known(1, 1, 0, 0, 1, HostRule::NeitherSenderNorSource),
+        SESS => known(0, 0, 8, 7, 1, HostRule::NoHost),
+        _ => Row {
+            known: false,
+            names: 0,
+            cues: 0,
+            reports: 0,
+            echoes: 0,
+            width: 1,
+            host: HostRule::NoHost,
+        },
+    }
+}
+
+// How many bytes a cue number has in a message of this kind.
+pub fn number_width(kind: u8) -> usize
+    ensures { λ r. ⌜ r ≡ numberWidth kind ⌝ }
+    ensures { λ r. ⌜ r ≤ widestNumber ⌝ }
+{
+    row_of(kind).width
+}
 
 // The fields that a cue's bytes hold.
 pub fn fields(cue: &[u8; 24]) -> CueFields
@@ -157,44 +243,57 @@ pub fn cue_with(focus: i16, zoom: i16, sideways: i16, upright: i16, lamp: u16) -
     cue
 }
 
+fn has_counts(r: Row, c: Counts) -> bool
+    ensures { λ b. ⌜ b ≡ hasCounts r c ⌝ }
+{
+    r.known
+        & ((c.names == r.names)
+            & ((c.cues == r.cues) & ((c.reports <= r.reports) & (c.echoes <= r.echoes))))
+}
+
 // Question 9: whether a kind has these counts.
 pub fn kind_has_counts(kind: u8, c: Counts) -> bool
     ensures { λ r. ⌜ r ≡ kindHasCounts kind c ⌝ }
 {
-    ((kind == DATA) & ((c.names == 1) & ((c.cues == 1) & ((c.reports == 0) & (c.echoes == 0)))))
-        | (((kind == RQST)
-            & ((c.names == 1) & ((c.cues == 0) & ((c.reports == 0) & (c.echoes == 0)))))
-            | (((kind == REPL)
-                & ((c.names == 1) & ((c.cues == 1) & ((c.reports == 0) & (c.echoes == 0)))))
-                | ((kind == SESS)
-                    & ((c.names == 0) & ((c.cues == 0) & ((c.reports <= 8) & (c.echoes <= 7)))))))
+    has_counts(row_of(kind), c)
 }
 
 fn name_in(n: NameEntry) -> bool
     ensures { λ r. ⌜ r ≡ nameIn n ⌝ }
 {
-    (n.name.source.0 < 8) & ((n.name.number.0 < 64) & (n.host.0 < 8))
+    (n.name.source.0 < HOST_LIMIT) & ((n.name.number.0 < NUMBER_LIMIT) & (n.host.0 < HOST_LIMIT))
 }
 
 fn report_in(r: Report) -> bool
     ensures { λ b. ⌜ b ≡ reportIn r ⌝ }
 {
-    (r.source.0 < 8) & (r.last.0 < 64)
+    (r.source.0 < HOST_LIMIT) & (r.last.0 < NUMBER_LIMIT)
 }
 
 fn echo_in(e: Echo) -> bool
     ensures { λ r. ⌜ r ≡ echoIn e ⌝ }
 {
-    (e.host.0 < 8) & ((e.stamp < 281474976710656) & (e.held < 281474976710656))
+    (e.host.0 < HOST_LIMIT) & ((e.stamp < TICKS_LIMIT) & (e.held < TICKS_LIMIT))
 }
 
-// The host in a name, by the message's kind.
+// The rule of the host beside a name, by whether that host is the source and whether it is the sender.
+fn rule_holds(rule: HostRule, source: bool, sender: bool) -> bool
+    ensures { λ r. ⌜ r ≡ ruleHolds rule source sender ⌝ }
+{
+    match rule {
+        HostRule::SourceAndSender => source & sender,
+        HostRule::SenderNotSource => sender & !source,
+        HostRule::NeitherSenderNorSource => !sender & !source,
+        HostRule::NoHost => false,
+    }
+}
+
 fn host_fits(kind: u8, sender: Host, n: NameEntry) -> bool
     ensures { λ r. ⌜ r ≡ hostFits kind sender n ⌝ }
 {
-    ((kind == DATA) & ((n.host.0 == n.name.source.0) & (n.host.0 == sender.0)))
-        | (((kind == RQST) & ((n.host.0 == sender.0) & !(n.host.0 == n.name.source.0)))
-            | ((kind == REPL) & (!(n.host.0 == sender.0) & !(n.host.0 == n.name.source.0))))
+    let r = row_of(kind);
+    let rule = r.host;
+    rule_holds(rule, n.host.0 == n.name.source.0, n.host.0 == sender.0)
 }
 
 fn not_from(sender: Host, e: Echo) -> bool
@@ -210,10 +309,10 @@ fn used(count: usize, places: usize) -> usize
     if count < places { count } else { places }
 }
 
-fn names_in(names: [NameEntry; 1], count: usize) -> bool
+fn names_in(names: [NameEntry; 2], count: usize) -> bool
     ensures { λ r. ⌜ r ≡ all nameIn (take count names) ⌝ }
 {
-    let n = used(count, 1);
+    let n = used(count, NAME_PLACES);
     let mut ok = true;
     let mut i: usize = 0;
     while i < n {
@@ -224,10 +323,10 @@ fn names_in(names: [NameEntry; 1], count: usize) -> bool
     ok
 }
 
-fn names_fit(kind: u8, sender: Host, names: [NameEntry; 1], count: usize) -> bool
+fn names_fit(kind: u8, sender: Host, names: [NameEntry; 2], count: usize) -> bool
     ensures { λ r. ⌜ r ≡ all (hostFits kind sender) (take count names) ⌝ }
 {
-    let n = used(count, 1);
+    let n = used(count, NAME_PLACES);
     let mut ok = true;
     let mut i: usize = 0;
     while i < n {
@@ -241,7 +340,7 @@ fn names_fit(kind: u8, sender: Host, names: [NameEntry; 1], count: usize) -> boo
 fn reports_in(reports: [Report; 8], count: usize) -> bool
     ensures { λ r. ⌜ r ≡ all reportIn (take count reports) ⌝ }
 {
-    let n = used(count, 8);
+    let n = used(count, REPORT_PLACES);
     let mut ok = true;
     let mut i: usize = 0;
     while i < n {
@@ -256,7 +355,7 @@ fn reports_in(reports: [Report; 8], count: usize) -> bool
 fn reports_rise(reports: [Report; 8], count: usize) -> bool
     ensures { λ r. ⌜ r ≡ rises reportSource (take count reports) ⌝ }
 {
-    let n = used(count, 8);
+    let n = used(count, REPORT_PLACES);
     let mut ok = true;
     let mut low: usize = 0;
     let mut i: usize = 0;
@@ -273,7 +372,7 @@ fn reports_rise(reports: [Report; 8], count: usize) -> bool
 fn echoes_in(echoes: [Echo; 7], count: usize) -> bool
     ensures { λ r. ⌜ r ≡ all echoIn (take count echoes) ⌝ }
 {
-    let n = used(count, 7);
+    let n = used(count, ECHO_PLACES);
     let mut ok = true;
     let mut i: usize = 0;
     while i < n {
@@ -287,7 +386,7 @@ fn echoes_in(echoes: [Echo; 7], count: usize) -> bool
 fn echoes_rise(echoes: [Echo; 7], count: usize) -> bool
     ensures { λ r. ⌜ r ≡ rises echoHost (take count echoes) ⌝ }
 {
-    let n = used(count, 7);
+    let n = used(count, ECHO_PLACES);
     let mut ok = true;
     let mut low: usize = 0;
     let mut i: usize = 0;
@@ -304,7 +403,7 @@ fn echoes_rise(echoes: [Echo; 7], count: usize) -> bool
 fn echoes_not_from(sender: Host, echoes: [Echo; 7], count: usize) -> bool
     ensures { λ r. ⌜ r ≡ all (notFrom sender) (take count echoes) ⌝ }
 {
-    let n = used(count, 7);
+    let n = used(count, ECHO_PLACES);
     let mut ok = true;
     let mut i: usize = 0;
     while i < n {
@@ -324,8 +423,8 @@ fn in_range(m: Message) -> bool
     let cue = m.cue;
     let reports = m.reports;
     let echoes = m.echoes;
-    (m.sender.0 < 8)
-        & ((m.stamp < 281474976710656)
+    (m.sender.0 < HOST_LIMIT)
+        & ((m.stamp < TICKS_LIMIT)
             & (names_in(names, counts.names)
                 & (((counts.cues == 0) | cue_in(&cue))
                     & (reports_in(reports, counts.reports) & echoes_in(echoes, counts.echoes)))))
@@ -378,7 +477,7 @@ pub fn blank() -> Message
                 number: CueNumber(0),
             },
             host: Host(0),
-        }; 1],
+        }; 2],
         cue: [0u8; 24],
         reports: [Report {
             source: Host(0),

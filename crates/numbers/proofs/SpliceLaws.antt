@@ -1,12 +1,12 @@
 -- The laws of `splice`.
-use mathlib.Core.Path.{_≡_, sym, ap, _∙_}
+use mathlib.Core.Path.{_≡_, refl, sym, ap, _∙_}
 use Prim.Native.Nat.{ℕ, _+_, _≤_, _<_}
 use native.Mathlib.Nat.{add-zero, zero-add}
 use native.Mathlib.Numerals.{add-one}
 use native.Mathlib.Omega.{arith}
 use mathlib.Core.List.{List, [], _∷_, _++_, append-assoc}
-use lib.ListN.{length, take, drop, set, length-append, length-drop, take-append-drop}
-use lib.Seq.{length-take-le, set-split, take-at, drop-at, drop-drop}
+use lib.ListN.{length, take, drop, getD, set, length-set, length-append, length-drop, take-append-drop}
+use lib.Seq.{length-take-le, take-length, take-suc, set-split, take-at, drop-at, drop-drop}
 use Rattle.numbers.specs.Splice.{splice}
 
 pub splice-nil : (at : ℕ) (out : List ℕ) → splice at [] out ≡ out
@@ -54,3 +54,27 @@ pub put-store : {one : List ℕ} (out : List ℕ) (at n : ℕ) (a : List ℕ) (x
 put-store {one} out at n a x e h p =
     let l : length one ≡ length out = ap length p ∙ length-splice at a out (omega arith) in
     put-next out at n a (x ∷ []) e (omega arith) p (splice-one n x one (omega arith))
+
+-- ---- a loop that copies the bytes of b to `at` on: i of them are there
+pub record CopiedSoFar (at : ℕ) (b start out : List ℕ) (i : ℕ) : Type 0 where
+  pub within : i ≤ length b
+  pub same : length out ≡ length start
+  pub copied : out ≡ splice at (take i b) start
+
+pub copy-start : (at : ℕ) (b start : List ℕ) → CopiedSoFar at b start start 0
+copy-start at b start = record { within = omega arith; same = refl; copied = sym (splice-nil at start) }
+
+module _ {at : ℕ} {b start out : List ℕ} {i : ℕ} (l : CopiedSoFar at b start out i) where
+  pub copy-next : i < length b → at + length b ≤ length start → CopiedSoFar at b start (set out (at + i) (getD b i 0)) (i + 1)
+  copy-next h k =
+      let n : length (take i b) ≡ i = length-take-le i b (omega arith) in
+      record {
+        within = omega arith;
+        same = simp length-set (l .same);
+        copied = rw (add-one, take-suc b i 0 h) (put-store start at (at + i) (take i b) (getD b i 0) (rw n) (omega arith) (l .copied));
+      }
+
+  pub copy-all : length b ≤ i → out ≡ splice at b start
+  copy-all h =
+      let e : i ≡ length b = omega (arith, l .within) in
+      l .copied ∙ ap (λ (t : List ℕ). splice at t start) (ap (λ (k : ℕ). take k b) e ∙ take-length b)

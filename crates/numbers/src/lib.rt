@@ -2,23 +2,41 @@
 // of the product: each asks in its `requires` that the bytes are there, which its callers have counted already.
 ghost use mathlib.Core.Path.{_≡_};
 ghost use Prim.Native.Nat.{_+_, _^_, _≤_, _<_};
+ghost use mathlib.Core.List.{_∷_, []};
 ghost use lib.ListN.{length, take, drop};
 ghost use Rattle.numbers.specs.Number.{value, digits};
+ghost use Rattle.numbers.specs.Reads.{Reads};
 ghost use Rattle.numbers.specs.Signed.{signed, unsigned};
 ghost use Rattle.numbers.specs.Splice.{splice};
 
+// A byte as a number.
+fn wide(byte: u8) -> u64
+    ensures { λ r. ⌜ (r ≡ byte) × (r < 256) ⌝ }
+{
+    byte as u64
+}
+
 // The number that the w bytes from `at` stand for. Six bytes are the widest that a message has.
 pub fn read_be(s: &[u8], at: usize, w: usize) -> u64
-    requires { ⌜ (w ≤ 6) × (at + w ≤ length (now s)) ⌝ }
-    ensures { λ r. ⌜ (r ≡ value (take w (drop at (now (s .entry))))) × (r < 256 ^ w) ⌝ }
+    requires { ⌜ w ≤ 6 ⌝ }
+    requires { ⌜ at + w ≤ length (now s) ⌝ }
+    ensures { λ r. ⌜ Reads (now (s .entry)) at w r ⌝ }
 {
     let mut v: u64 = 0;
     let mut i: usize = 0;
     while i < w {
-        v = v * 256 + (s[at + i] as u64);
+        v = v * 256 + wide(s[at + i]);
         i += 1;
     }
     v
+}
+
+// Writes one byte at `at`.
+pub fn put_byte(out: &mut [u8], at: usize, byte: u8)
+    requires { ⌜ at < length (now out) ⌝ }
+    ensures { λ _. ⌜ now (out .exit) ≡ splice at (byte ∷ []) (now (out .entry)) ⌝ }
+{
+    out[at] = byte;
 }
 
 // Writes the last w bytes of v from `at` on.

@@ -1,9 +1,10 @@
 -- What a line gives, from what its call returned and what was made of that.
-use mathlib.Core.Path.{_≡_, refl, sym, ap, _∙_}
+use mathlib.Core.Path.{_≡_, refl, sym, ap, _∙_, subst}
 use mathlib.Core.Bool.{Bool, true, false, cond}
 use mathlib.Core.List.{List, [], _∷_, _++_}
-use Prim.Native.Nat.{ℕ, _+_, _≤_, _<_, min}
-use native.Mathlib.Nat.{min-eq-left, min-le-right}
+use Prim.Native.Nat.{ℕ, suc, _+_, _*_, _-_, _≤_, _<_, min}
+use native.Mathlib.Nat.{min-eq-left}
+use native.Mathlib.Numerals.{add-one}
 use native.Mathlib.Omega.{arith}
 use lib.ListN.{length, getD, take, drop, replicate, length-append}
 use lib.Seq.{take-at, take-append-le}
@@ -15,9 +16,10 @@ use Rattle.end.specs.declared.Answer.{Answer}
 use Rattle.end.specs.declared.Answer.the-variants as answer
 use Rattle.end.specs.declared.End.{End}
 use Rattle.end.specs.declared.Stepped.{Stepped}
-use Rattle.end.specs.Arrival.{Out, Got, Done, Ignored, Nothing}
-use Rattle.end.specs.Event.{Event, Arrival, Outcome, Refused, Did, Result, eventOf}
-use Rattle.end.specs.Answer.{answerOf, calledOf, bufferOf}
+use Rattle.end.specs.Answer.{Out, Got, Done, Ignored, Nothing}
+use Rattle.end.specs.Event.{Action, Arrival, eventOf}
+use Rattle.end.specs.Answer.{Outcome, Refused, Did, Result}
+use Rattle.end.specs.Answer.{classIn, answerOf, calledOf, bufferOf}
 use Rattle.script.specs.declared.Verb.{Verb}
 use Rattle.script.specs.declared.Verb.the-variants as verb
 use Rattle.answers.specs.declared.Shown.{Shown}
@@ -25,10 +27,11 @@ use Rattle.answers.specs.declared.Shown.the-variants as shown
 use Rattle.store.specs.Store.{most, room, messageIn, firstMessages, messagesIn}
 use Rattle.store.proofs.StoreLaws.{length-first, first-at}
 use Rattle.player.specs.declared.Printed.the-variants.{Bad, Shows}
+use Rattle.player.specs.declared.Played.{Played}
 use Rattle.player.specs.declared.Told.{Told}
 use Rattle.player.specs.Play.{draws, eventFor, heardNumber, isKnown, Turn, turnOf, resultOf, playedOf, shows, stops}
-use Rattle.player.specs.Promise.{Plays, printedFor, messagesFor, InOutput}
-use Rattle.player.proofs.CueLaws.{WideOutcome, wide}
+use Rattle.player.specs.Promise.{Plays, PlaysOn, Tells, printedFor, messagesFor, InOutput}
+use Rattle.player.proofs.CueLaws.{Wide, wide}
 
 -- ---- the message that is heard
 
@@ -57,6 +60,13 @@ event-known (verb.Hear n) places lengths k h = ap Arrival (sym (first-at places 
 event-known verb.Fire places lengths k h = refl
 event-known verb.Report places lengths k h = refl
 
+-- the part that is lent is the message in its place
+pub cut-message : (places lengths : List ℕ) {k n h : ℕ} → k ≡ h → n ≡ min (getD lengths k 0) room
+    → take (k * room + n - k * room) (drop (k * room) places) ≡ messageIn places lengths h
+cut-message places lengths {k} {n} e l =
+    let cut : k * room + n - k * room ≡ n = omega arith in
+    ap (λ (m : ℕ). take m (drop (k * room) places)) (cut ∙ l) ∙ ap (messageIn places lengths) e
+
 -- ---- what an answer tells
 
 in-buffer : (o : Outcome) (output : List ℕ) → InOutput (answerOf o) (bufferOf o output)
@@ -68,33 +78,47 @@ in-buffer (Did Done) output = tt
 in-buffer (Did Ignored) output = tt
 in-buffer (Did Nothing) output = tt
 
-pub in-output : (r : Result) (s : Stepped) (output after : List ℕ) → s ≡ calledOf r → after ≡ bufferOf (r .outcome) output → InOutput (s .answer) after
-in-output r s output after p q = rw (p, q) (in-buffer (r .outcome) output)
-
 -- an answer that puts nothing out
-pub tells : (places lengths output : List ℕ) (count : ℕ) (a : Answer) (s : Shown) (r : Told) → count ≤ most → r ≡ record { printed = Shows s; count = count }
-    → printedFor a output count ≡ Shows s → ((ms : List (List ℕ)) → messagesFor a output ms ≡ ms)
-    → (r .printed ≡ printedFor a output count) × ((r .count ≤ most) × (firstMessages places lengths (r .count) ≡ messagesFor a output (firstMessages places lengths count)))
-tells places lengths output count a s r small p q m =
+pub tells : {a b : Answer} {s : Shown} {r : Told} (places lengths : List ℕ) {output : List ℕ} {count : ℕ} → a ≡ b → count ≤ most
+    → r ≡ record { printed = Shows s; count = count } → printedFor b output count ≡ Shows s → ((ms : List (List ℕ)) → messagesFor b output ms ≡ ms)
+    → Tells a output (firstMessages places lengths count) count r (firstMessages places lengths (r .count))
+tells {a} {b} {s} {r} places lengths {output} {count} is small p q m =
     let n : r .count ≡ count = ap (λ (x : Told). x .count) p in
-    (ap (λ (x : Told). x .printed) p ∙ sym q, (omega arith, ap (firstMessages places lengths) n ∙ sym (m (firstMessages places lengths count))))
+    record {
+      printed = ap (λ (x : Told). x .printed) p ∙ sym q ∙ ap (λ (x : Answer). printedFor x output count) (sym is);
+      few = omega arith;
+      kept =
+          ap (firstMessages places lengths) n ∙ sym (m (firstMessages places lengths count))
+          ∙ ap (λ (x : Answer). messagesFor x output (firstMessages places lengths count)) (sym is);
+    }
+
+pub tells-as : {a b : Answer} {output : List ℕ} {ms after : List (List ℕ)} {count : ℕ} {r : Told} → a ≡ b → Tells b output ms count r after → Tells a output ms count r after
+tells-as {a} {b} {output} {ms} {after} {count} {r} e t = subst (λ (x : Answer). Tells x output ms count r after) (sym e) t
+
+pub out-there : {a : Answer} {n : ℕ} (output : List ℕ) → a ≡ answer.Out n → InOutput a output → n ≤ length output
+unfolding InOutput
+out-there {a} {n} output e h = subst (λ (x : Answer). InOutput x output) e h
 
 -- a message that is put out
-module _ (n : ℕ) (output : List ℕ) (ms : List (List ℕ)) (count : ℕ) (counted : length ms ≡ count) where
+module _ (n : ℕ) (output : List ℕ) (places lengths : List ℕ) (count : ℕ) where
   abbrev out : Answer
   out = answer.Out n
 
-  pub put-kept : count < most → (Shows (shown.Out count) ≡ printedFor out output count) × (ms ++ (take n output ∷ []) ≡ messagesFor out output ms)
-  unfolding printedFor messagesFor
-  put-kept h =
-      let t : ltb count most ≡ true = lt-ltb count most h in
-      (rw t, rw (counted, t))
+  abbrev before : List (List ℕ)
+  before = firstMessages places lengths count
 
-  pub put-beyond : most ≤ count → (Bad ≡ printedFor out output count) × (ms ≡ messagesFor out output ms)
+  pub put-kept : (after lengths′ : List ℕ) → count < most → firstMessages after lengths′ (suc count) ≡ before ++ (take n output ∷ [])
+      → Tells out output before count (record { printed = Shows (shown.Out count); count = count + 1 }) (firstMessages after lengths′ (count + 1))
   unfolding printedFor messagesFor
-  put-beyond h =
+  put-kept after lengths′ h e =
+      let t : ltb count most ≡ true = lt-ltb count most h in
+      record { printed = rw t; few = omega arith; kept = rw (length-first places lengths count, t, add-one) e }
+
+  pub put-beyond : count ≤ most → most ≤ count → Tells out output before count (record { printed = Bad; count = count }) before
+  unfolding printedFor messagesFor
+  put-beyond small h =
       let t : ltb count most ≡ false = le-ltb count most h in
-      (rw t, rw (counted, t))
+      record { printed = rw t; few = small; kept = rw (length-first places lengths count, t) }
 
 -- ---- the turn of an outcome, by the answer and the output
 
@@ -110,7 +134,7 @@ out-turn : (b : Bool) (e : End) (ms : List (List ℕ)) (bytes output : List ℕ)
 out-turn true e ms bytes output = (refl, (ap (λ (x : List ℕ). ms ++ (x ∷ [])) (take-at bytes output (length bytes) refl), refl))
 out-turn false e ms bytes output = (refl, (refl, refl))
 
-turn-for : (o : Outcome) (e : End) (output : List ℕ) (ms : List (List ℕ)) → WideOutcome o → TurnFor o e output ms
+turn-for : (o : Outcome) (e : End) (output : List ℕ) (ms : List (List ℕ)) → Wide (classIn o) → TurnFor o e output ms
 unfolding printedFor messagesFor answerOf bufferOf turnOf
 turn-for (Refused k) e output ms w = record { printed = refl; messages = refl; left = refl }
 turn-for (Did (Out bytes)) e output ms w =
@@ -125,49 +149,62 @@ turn-for (Did Nothing) e output ms w = record { printed = refl; messages = refl;
 
 -- ---- a played line
 
-module _ (e : End) (v : Verb) (clock count used : ℕ) (places lengths : List ℕ) (is-used : used ≡ min count most) where
+module _ (e : End) (v : Verb) (clock used : ℕ) (places lengths : List ℕ) where
   abbrev ms : List (List ℕ)
-  ms = messagesIn places lengths count
+  ms = firstMessages places lengths used
 
   counted : length ms ≡ used
-  counted = length-first places lengths (min count most) ∙ sym is-used
+  counted = length-first places lengths used
 
   -- an unknown message number
-  pub not-played : isKnown v used ≡ false → Plays e v clock ms (record { printed = Bad; end = e; count = used }) (messagesIn places lengths used)
+  not-played : isKnown v used ≡ false → Plays e v clock ms (record { printed = Bad; end = e; count = used }) ms
   unfolding playedOf
   not-played h =
       let known : isKnown v (length ms) ≡ false = ap (isKnown v) counted ∙ h in
       let turn : playedOf e v clock ms ≡ stops e ms = rw known in
-      let small : used ≤ most = rw is-used (min-le-right count most) in
       record {
         printed = sym (ap (λ (t : Turn). t .printed) turn);
         left = sym (ap (λ (t : Turn). t .left) turn);
-        kept = ap (firstMessages places lengths) (min-eq-left small ∙ is-used) ∙ sym (ap (λ (t : Turn). t .messages) turn);
+        kept = sym (ap (λ (t : Turn). t .messages) turn);
       }
 
   -- the call that the code makes
-  abbrev pub Made : Result
+  abbrev Made : Result
   Made = eventOf e (eventFor v (messageIn places lengths (heardNumber v))) clock room draws
 
   module _ (known : isKnown v used ≡ true) (s : Stepped) (output : List ℕ) (is-called : s ≡ calledOf Made) (is-left : output ≡ bufferOf (Made .outcome) (replicate 128 0)) where
-    made : Made ≡ resultOf e v clock ms
-    made = ap (λ (ev : Event). eventOf e ev clock room draws) (event-known v places lengths (min count most) (ap (isKnown v) (sym is-used) ∙ known))
-
     turned : playedOf e v clock ms ≡ turnOf (Made .outcome) (Made .left) ms
     unfolding playedOf
     turned =
         let k : isKnown v (length ms) ≡ true = ap (isKnown v) counted ∙ known in
+        let made : Made ≡ resultOf e v clock ms = ap (λ (ev : Action). eventOf e ev clock room draws) (event-known v places lengths used known) in
         rw k (ap (λ (r : Result). turnOf (r .outcome) (r .left) ms) (sym made))
 
-    pub played : (t : Told) (after lengths′ : List ℕ) → t .printed ≡ printedFor (s .answer) output used → t .count ≤ most
-        → firstMessages after lengths′ (t .count) ≡ messagesFor (s .answer) output (firstMessages places lengths used)
-        → Plays e v clock ms (record { printed = t .printed; end = s .end; count = t .count }) (messagesIn after lengths′ (t .count))
-    played t after lengths′ p small m =
+    pub in-output : InOutput (s .answer) output
+    in-output = rw (is-called, is-left) (in-buffer (Made .outcome) (replicate 128 0))
+
+    pub played : (t : Told) (after : List (List ℕ)) → Tells (s .answer) output ms used t after
+        → PlaysOn e v clock ms (record { printed = t .printed; end = s .end; count = t .count }) after
+    played t after told =
         let o = Made .outcome in
         let f = turn-for o (Made .left) (replicate 128 0) ms (wide e (eventFor v (messageIn places lengths (heardNumber v))) clock room draws) in
         let a : s .answer ≡ answerOf o = ap (λ (x : Stepped). x .answer) is-called in
         record {
-          printed = p ∙ (λ i. printedFor (a i) (is-left i) (sym counted i)) ∙ f .printed ∙ sym (ap (λ (t : Turn). t .printed) turned);
-          left = ap (λ (x : Stepped). x .end) is-called ∙ f .left ∙ sym (ap (λ (t : Turn). t .left) turned);
-          kept = ap (firstMessages after lengths′) (min-eq-left small) ∙ m ∙ (λ i. messagesFor (a i) (is-left i) (firstMessages places lengths (is-used i))) ∙ f .messages ∙ sym (ap (λ (t : Turn). t .messages) turned);
+          plays = record {
+            printed = told .printed ∙ (λ i. printedFor (a i) (is-left i) (sym counted i)) ∙ f .printed ∙ sym (ap (λ (t : Turn). t .printed) turned);
+            left = ap (λ (x : Stepped). x .end) is-called ∙ f .left ∙ sym (ap (λ (t : Turn). t .left) turned);
+            kept = told .kept ∙ (λ i. messagesFor (a i) (is-left i) ms) ∙ f .messages ∙ sym (ap (λ (t : Turn). t .messages) turned);
+          };
+          few = told .few;
         }
+
+-- the messages in the places that are used
+module _ (e : End) (v : Verb) (clock count used : ℕ) (places lengths : List ℕ) (is-used : used ≡ min count most) where
+  pub play-bad : isKnown v used ≡ false → Plays e v clock (messagesIn places lengths count) (record { printed = Bad; end = e; count = used }) (messagesIn places lengths used)
+  play-bad h =
+      let small : min used most ≡ used = omega arith in
+      rw (← is-used, small) (not-played e v clock used places lengths h)
+
+  pub play-on : (r : Played) (after lengths′ : List ℕ) → PlaysOn e v clock (firstMessages places lengths used) r (firstMessages after lengths′ (r .count))
+      → Plays e v clock (messagesIn places lengths count) r (messagesIn after lengths′ (r .count))
+  play-on r after lengths′ p = rw (← is-used, min-eq-left (p .few)) (p .plays)

@@ -7,8 +7,10 @@ use lib.IntN.{ℤ, pos}
 use lib.Dec.{ltb}
 use Rattle.message.specs.Cue.{cueWith, fieldsOf}
 use Rattle.end.specs.declared.End.{End}
-use Rattle.end.specs.Arrival.{Out, Got, Done, Ignored, Nothing}
-use Rattle.end.specs.Event.{Event, Move, Join, Joined, Leave, Left, Crash, Send, Arrival, Else, Fire, Report, Outcome, Refused, Did, Result, eventOf}
+use Rattle.end.specs.Answer.{Out, Got, Done, Ignored, Nothing}
+use Rattle.end.specs.Event.{Action, Moves, Send, Arrival, Else, Fire, Report, eventOf}
+use Rattle.end.specs.declared.Move.the-variants.{Join, Joined, Leave, Left, Crash}
+use Rattle.end.specs.Answer.{Outcome, Refused, Did, Result}
 use Rattle.script.specs.declared.Verb.{Verb}
 use Rattle.script.specs.declared.Verb.the-variants as verb
 use Rattle.answers.specs.declared.Shown.{Shown}
@@ -26,12 +28,12 @@ abbrev pub focused : ℤ → List ℕ
 focused focus = cueWith (record { focus = focus; zoom = pos 0; sideways = pos 0; upright = pos 0; lamp = 0 })
 
 -- the event of a verb; `bytes` are those of the message that is heard
-abbrev pub eventFor : Verb → List ℕ → Event
-eventFor verb.Join bytes = Move Join
-eventFor verb.Joined bytes = Move Joined
-eventFor verb.Leave bytes = Move Leave
-eventFor verb.Left bytes = Move Left
-eventFor verb.Crash bytes = Move Crash
+abbrev pub eventFor : Verb → List ℕ → Action
+eventFor verb.Join bytes = Moves Join
+eventFor verb.Joined bytes = Moves Joined
+eventFor verb.Leave bytes = Moves Leave
+eventFor verb.Left bytes = Moves Left
+eventFor verb.Crash bytes = Moves Crash
 eventFor (verb.Send focus) bytes = Send (focused focus)
 eventFor (verb.Hear number) bytes = Arrival bytes
 eventFor verb.Fire bytes = Else Fire

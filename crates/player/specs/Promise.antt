@@ -2,7 +2,7 @@
 use mathlib.Core.Path.{_≡_}
 use mathlib.Core.Bool.{cond}
 use mathlib.Core.List.{List, [], _∷_, _++_}
-use Prim.Native.Nat.{ℕ, _≤_}
+use Prim.Native.Nat.{ℕ, _*_, _≤_}
 use lib.ListN.{length, take}
 use lib.Dec.{ltb}
 use Rattle.message.specs.Cue.{stepsAt}
@@ -11,10 +11,11 @@ use Rattle.end.specs.declared.Answer.the-variants as answer
 use Rattle.end.specs.declared.End.{End}
 use Rattle.script.specs.declared.Verb.{Verb}
 use Rattle.answers.specs.declared.Shown.the-variants as shown
-use Rattle.store.specs.Store.{most}
+use Rattle.store.specs.Store.{most, room}
 use Rattle.player.specs.declared.Printed.{Printed}
 use Rattle.player.specs.declared.Printed.the-variants.{Bad, Shows}
 use Rattle.player.specs.declared.Played.{Played}
+use Rattle.player.specs.declared.Told.{Told}
 use Rattle.player.specs.Play.{playedOf}
 
 -- a line was played: `after` are the messages that are kept then
@@ -22,6 +23,11 @@ pub record Plays (e : End) (v : Verb) (clock : ℕ) (messages : List (List ℕ))
   pub printed : r .printed ≡ playedOf e v clock messages .printed
   pub left : r .end ≡ playedOf e v clock messages .left
   pub kept : after ≡ playedOf e v clock messages .messages
+
+-- the same with how many messages there are then, which all have a place
+pub record PlaysOn (e : End) (v : Verb) (clock : ℕ) (messages : List (List ℕ)) (r : Played) (after : List (List ℕ)) : Type 0 where
+  pub plays : Plays e v clock messages r after
+  pub few : r .count ≤ most
 
 -- ---- by the answer of a call and the output that it left
 
@@ -51,3 +57,16 @@ InOutput (answer.Got name) output = Unit {0}
 InOutput answer.Done output = Unit {0}
 InOutput answer.Ignored output = Unit {0}
 InOutput answer.Nothing output = Unit {0}
+
+-- what is told of an answer: what is printed for it, and the messages that are kept after it
+pub record Tells (a : Answer) (output : List ℕ) (messages : List (List ℕ)) (count : ℕ) (r : Told) (after : List (List ℕ)) : Type 0 where
+  pub printed : r .printed ≡ printedFor a output count
+  pub few : r .count ≤ most
+  pub kept : after ≡ messagesFor a output messages
+
+-- the sizes of an output, of the places for messages and of their lengths; the messages that are kept have a place each
+pub record Shelf (output places lengths : List ℕ) (count : ℕ) : Type 0 where
+  pub out-size : length output ≡ room
+  pub places-size : length places ≡ most * room
+  pub lengths-size : length lengths ≡ most
+  pub few : count ≤ most

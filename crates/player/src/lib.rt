@@ -8,15 +8,16 @@ use script::Verb;
 use store::MOST;
 use store::ROOM;
 ghost use mathlib.Core.Path.{_≡_};
+ghost use mathlib.Core.Bool.{true};
 ghost use Prim.Native.Nat.{_*_, _≤_, _<_};
 ghost use lib.ListN.{length};
 ghost use Rattle.store.specs.Store.{most, room, messageIn, firstMessages, messagesIn};
-ghost use Rattle.answers.specs.AnswerLine.{withLine, lineLength};
+ghost use Rattle.answers.specs.AnswerLine.{Line};
 ghost use Rattle.end.specs.Event.{eventOf};
 ghost use Rattle.end.specs.Answer.{calledOf, bufferOf};
 ghost use Rattle.player.specs.Play.{draws, eventFor, heardNumber, isKnown};
 ghost use Rattle.player.specs.House.{badLine, printedLine};
-ghost use Rattle.player.specs.Promise.{Plays, printedFor, messagesFor, InOutput};
+ghost use Rattle.player.specs.Promise.{Plays, PlaysOn, Tells, Shelf, InOutput};
 
 // What is printed for a line: its answer, or "bad", after which the house stops.
 pub enum Printed {
@@ -114,11 +115,9 @@ fn event_in(
 
 // A message of n bytes that was put out is kept under the next number, if there is one.
 fn put_out(n: usize, out: &[u8], places: &mut [u8], lengths: &mut [u8], count: usize) -> Told
-    requires { ⌜ (n ≤ length (now out)) × (length (now out) ≡ room) ⌝ }
-    requires { ⌜ length (now places) ≡ most * room ⌝ }
-    requires { ⌜ (length (now lengths) ≡ most) × (count ≤ most) ⌝ }
-    ensures { λ r. ⌜ r .printed ≡ printedFor (Answer.Out n) (now (out .entry)) count ⌝ }
-    ensures { λ r. ⌜ (r .count ≤ most) × (firstMessages (now (places .exit)) (now (lengths .exit)) (r .count) ≡ messagesFor (Answer.Out n) (now (out .entry)) (firstMessages (now (places .entry)) (now (lengths .entry)) count)) ⌝ }
+    requires { ⌜ n ≤ length (now out) ⌝ }
+    requires { ⌜ Shelf (now out) (now places) (now lengths) count ⌝ }
+    ensures { λ r. ⌜ Tells (Answer.Out n) (now (out .entry)) (firstMessages (now (places .entry)) (now (lengths .entry)) count) count r (firstMessages (now (places .exit)) (now (lengths .exit)) (r .count)) ⌝ }
 {
     if count < MOST {
         store::keep(places, lengths, count, &out[..n]);
@@ -146,10 +145,8 @@ fn shows(shown: Shown, count: usize) -> Told
 // What an answer tells, with the output that the call left.
 fn tell(answer: Answer, out: &[u8], places: &mut [u8], lengths: &mut [u8], count: usize) -> Told
     requires { ⌜ InOutput answer (now out) ⌝ }
-    requires { ⌜ (length (now out) ≡ room) × (length (now places) ≡ most * room) ⌝ }
-    requires { ⌜ (length (now lengths) ≡ most) × (count ≤ most) ⌝ }
-    ensures { λ r. ⌜ r .printed ≡ printedFor answer (now (out .entry)) count ⌝ }
-    ensures { λ r. ⌜ (r .count ≤ most) × (firstMessages (now (places .exit)) (now (lengths .exit)) (r .count) ≡ messagesFor answer (now (out .entry)) (firstMessages (now (places .entry)) (now (lengths .entry)) count)) ⌝ }
+    requires { ⌜ Shelf (now out) (now places) (now lengths) count ⌝ }
+    ensures { λ r. ⌜ Tells answer (now (out .entry)) (firstMessages (now (places .entry)) (now (lengths .entry)) count) count r (firstMessages (now (places .exit)) (now (lengths .exit)) (r .count)) ⌝ }
 {
     match answer {
         Answer::Refused(question) => shows(Shown::Refused(question), count),
@@ -161,6 +158,32 @@ fn tell(answer: Answer, out: &[u8], places: &mut [u8], lengths: &mut [u8], count
         Answer::Done => shows(Shown::Done, count),
         Answer::Ignored => shows(Shown::Ignored, count),
         Answer::Nothing => shows(Shown::Nothing, count),
+    }
+}
+
+// Plays a line that names no unknown message, with the first messages, `used` of them.
+fn play_known(
+    e: End,
+    verb: Verb,
+    clock: u64,
+    places: &mut [u8; 8192],
+    lengths: &mut [u8; 64],
+    used: usize,
+) -> Played
+    requires { ⌜ isKnown verb used ≡ true ⌝ }
+    requires { ⌜ used ≤ most ⌝ }
+    ensures { λ r. ⌜ PlaysOn e verb clock (firstMessages (now (places .entry)) (now (lengths .entry)) used) r (firstMessages (now (places .exit)) (now (lengths .exit)) (r .count)) ⌝ }
+{
+    let mut out = [0u8; 128];
+    let stepped = event_in(e, verb, clock, places, lengths, &mut out);
+    let answer = stepped.answer;
+    let t = tell(answer, &out, places, lengths, used);
+    let printed = t.printed;
+    let end = stepped.end;
+    Played {
+        printed,
+        end,
+        count: t.count,
     }
 }
 
@@ -177,29 +200,19 @@ pub fn play(
     ensures { λ r. ⌜ Plays e verb clock (messagesIn (now (places .entry)) (now (lengths .entry)) count) r (messagesIn (now (places .exit)) (now (lengths .exit)) (r .count)) ⌝ }
 {
     let used = store::least(count, MOST);
-    if !is_known(verb, used) {
-        return Played {
+    if is_known(verb, used) {
+        play_known(e, verb, clock, places, lengths, used)
+    } else {
+        Played {
             printed: Printed::Bad,
             end: e,
             count: used,
-        };
-    }
-    let mut out = [0u8; 128];
-    let stepped = event_in(e, verb, clock, places, lengths, &mut out);
-    let answer = stepped.answer;
-    let t = tell(answer, &out, places, lengths, used);
-    let printed = t.printed;
-    let end = stepped.end;
-    Played {
-        printed,
-        end,
-        count: t.count,
+        }
     }
 }
 
 fn put_bad(out: &mut [u8]) -> usize
-    ensures written { λ r. ⌜ (now (out .exit) ≡ withLine badLine (now (out .entry))) × (r ≡ lineLength badLine (now (out .entry))) ⌝ }
-    ensures within { λ r. ⌜ r ≤ length (now (out .entry)) ⌝ }
+    ensures { λ r. ⌜ Line badLine (now (out .entry)) (now (out .exit)) r ⌝ }
 {
     if out.len() < 64 {
         return 0;
@@ -211,8 +224,7 @@ fn put_bad(out: &mut [u8]) -> usize
 // Writes what is printed for a line at the start of a buffer of 64 bytes or more, which is always enough, and answers its length; in
 // a smaller buffer nothing is written, and the answer is 0.
 pub fn put_printed(out: &mut [u8], end: u8, clock: u64, printed: Printed) -> usize
-    ensures written { λ r. ⌜ (now (out .exit) ≡ withLine (printedLine end clock printed) (now (out .entry))) × (r ≡ lineLength (printedLine end clock printed) (now (out .entry))) ⌝ }
-    ensures within { λ r. ⌜ r ≤ length (now (out .entry)) ⌝ }
+    ensures { λ r. ⌜ Line (printedLine end clock printed) (now (out .entry)) (now (out .exit)) r ⌝ }
 {
     match printed {
         Printed::Bad => put_bad(out),

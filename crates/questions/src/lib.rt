@@ -1,60 +1,41 @@
-// The questions that every event asks before it moves an end: each function is one definition of the crate end, specs/Event.antt.
+// The questions that an event asks before it moves an end: `questionOf` of the crate end, specs/Event.antt. A question that is answered
+// no gives its number; otherwise the questions after it decide.
+use end::DRAWS;
 use end::End;
+use end::Event;
+use end::NUMBERS;
+use message::ROOM_NEEDED;
+use message::TICKS_LIMIT;
 use message::Verdict;
 ghost use mathlib.Core.Path.{_≡_};
-ghost use Rattle.message.specs.Question.{ask, firstNo, ticksIn, refusalOf};
-ghost use Rattle.end.specs.Event.{Send, anyQuestions, ownQuestions};
-ghost use Rattle.end.specs.Sound.{soundOf};
-ghost use mathlib.Core.List.{[], _∷_};
 ghost use mathlib.Core.Bool.{cond};
-ghost use lib.Dec.{leb, eqb};
+ghost use mathlib.Core.List.{List};
+ghost use Prim.Native.Nat.{ℕ};
+ghost use lib.Dec.{leb};
+ghost use Rattle.message.specs.Question.{firstNo, ticksIn, refusalOf};
+ghost use Rattle.end.specs.Sound.{soundOf};
+ghost use Rattle.end.specs.Event.{Send, actionOf, ownQuestions, questionOf};
+ghost use Rattle.questions.specs.Read.{ReadAs};
 
-// Questions 3, 4 and 5: the number of the first no, 0 where every answer is yes.
-fn state_refusal(e: End, clock: u64) -> u8
-    ensures { λ r. ⌜ r ≡ firstNo (ask (soundOf e) 3 ∷ ask (ticksIn clock) 4 ∷ ask (leb (e .clock) clock) 5 ∷ []) ⌝ }
+// One question before others whose first no is `rest`.
+fn asked(passed: bool, number: u8, rest: u8) -> u8
+    ensures { λ r. ⌜ r ≡ cond passed rest number ⌝ }
 {
-    let good = sound::sound(e);
-    if good {
-        if clock < 281474976710656 {
-            if e.clock <= clock { 0 } else { 5 }
-        } else {
-            4
-        }
-    } else {
-        3
-    }
-}
-
-// Questions 1 to 5, in this order. The state is tested once, and only where the output and the draws are as they must be.
-pub fn any_refusal(e: End, clock: u64, room: usize, draws: usize) -> u8
-    ensures { λ r. ⌜ r ≡ firstNo (anyQuestions e clock room draws) ⌝ }
-{
-    if 128 <= room {
-        if draws == 64 {
-            state_refusal(e, clock)
-        } else {
-            2
-        }
-    } else {
-        1
-    }
+    if passed { rest } else { number }
 }
 
 // Questions 6 and 7: only a member's Send takes a number.
-pub fn send_refusal(e: End, cue: [u8; 24]) -> u8
+fn send_refusal(e: End, cue: [u8; 24]) -> u8
     ensures { λ r. ⌜ r ≡ firstNo (ownQuestions (Send cue) e) ⌝ }
 {
     let status = e.status;
-    let numbered = !parts::is_member(status) | (e.next < 64);
-    if message::cue_in(&cue) {
-        if numbered { 0 } else { 7 }
-    } else {
-        6
-    }
+    let numbered = !state::is_member(status) | (e.next < NUMBERS);
+    let seven = asked(numbered, 7, 0);
+    asked(message::cue_in(&cue), 6, seven)
 }
 
 // Document 01's number of a verdict, 0 where nothing was refused.
-pub fn number_of(verdict: Verdict) -> u8
+fn number_of(verdict: Verdict) -> u8
     ensures { λ r. ⌜ r ≡ refusalOf verdict ⌝ }
 {
     match verdict {
@@ -63,9 +44,49 @@ pub fn number_of(verdict: Verdict) -> u8
     }
 }
 
-// The first no of two lists of questions, one after the other.
-pub fn first_of(any: u8, own: u8) -> u8
-    ensures { λ r. ⌜ r ≡ cond (eqb any 0) own any ⌝ }
+// An event's own questions: Send's, and the reader's of an arrival.
+fn own_refusal(e: End, what: Event, cue: [u8; 24], verdict: Verdict) -> u8
+    ensures { λ r. ⌜ ((bytes : List ℕ) → ReadAs what verdict bytes → r ≡ firstNo (ownQuestions (actionOf what cue bytes) e)) ⌝ }
 {
-    if any == 0 { own } else { any }
+    match what {
+        Event::Moves(_) => 0,
+        Event::Send => send_refusal(e, cue),
+        Event::Arrival => number_of(verdict),
+        Event::Fire => 0,
+        Event::Report => 0,
+    }
+}
+
+// Questions 3, 4 and 5, before others whose first no is `rest`.
+fn state_refusal(e: End, clock: u64, rest: u8) -> u8
+    ensures { λ r. ⌜ r ≡ cond (soundOf e) (cond (ticksIn clock) (cond (leb (e .clock) clock) rest 5) 4) 3 ⌝ }
+{
+    let five = asked(e.clock <= clock, 5, rest);
+    let four = asked(clock < TICKS_LIMIT, 4, five);
+    asked(sound::sound(e), 3, four)
+}
+
+// The first no of a call, 0 where every answer is yes. `verdict` is the reader's where the event is an arrival. The state is tested
+// once, and only where the output and the draws are as they must be.
+pub fn refusal(
+    e: End,
+    clock: u64,
+    room: usize,
+    draws: usize,
+    what: Event,
+    cue: [u8; 24],
+    verdict: Verdict,
+) -> u8
+    ensures { λ r. ⌜ ((bytes : List ℕ) → ReadAs what verdict bytes → r ≡ questionOf e (actionOf what cue bytes) clock room draws) ⌝ }
+{
+    let own = own_refusal(e, what, cue, verdict);
+    if ROOM_NEEDED <= room {
+        if draws == DRAWS {
+            state_refusal(e, clock, own)
+        } else {
+            2
+        }
+    } else {
+        1
+    }
 }

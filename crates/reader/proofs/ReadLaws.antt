@@ -2,42 +2,78 @@
 use mathlib.Core.Path.{_≡_, sym, ap, _∙_}
 use Prim.Native.Nat.{ℕ, zero, suc, _<_}
 use native.Mathlib.Omega.{arith}
-use mathlib.Core.Bool.{Bool, true, false, _&&_}
-use mathlib.Core.List.{List}
-use lib.ListN.{length, getD}
+use mathlib.Core.Bool.{Bool, true, false, cond, _&&_}
+use mathlib.Core.List.{List, [], _∷_}
+use lib.ListN.{length, getD, take}
 use lib.Dec.{leb, eqb}
-use Rattle.message.specs.Message.{Meaning, meaningFrom, meaningOf, countsOf, heldAs, sizeFrom}
-use Rattle.message.specs.Question.{firstNo, meaningQuestions, kindHasCounts, blankMessage, readRefusal, readOf, refusalOf}
+use borrow.Author.Tests.{eqb-true}
+use Rattle.message.specs.Message.{Meaning, meaningWith, meaningFrom, meaningOf, countsOf, heldAs, sizeWith, sizeFrom}
+use Rattle.message.specs.declared.Counts.{Counts}
+use Rattle.message.specs.Question.{ask, firstNo, readQuestions, meaningQuestions, kindHasCounts, blankMessage, readRefusal, readOf, refusalOf}
 use Rattle.message.specs.declared.Message.{Message}
 use Rattle.message.specs.declared.Reading.{Reading}
 use Rattle.message.specs.declared.Verdict.the-variants.{Accepted, Refused}
 use Rattle.message.proofs.LayoutLaws.{held-back}
-use Rattle.message.proofs.QuestionLaws.{counts-small}
+use Rattle.message.proofs.QuestionLaws.{and-both, all-passed, counts-small}
+use Rattle.reader.specs.Counting.{WidthIn, CountsIn, Loadable}
+
+-- the first of two noes
+first-two : (a b : Bool) (rest k : ℕ) → 0 < k → k ≡ cond a (cond b 0 9) 8 → cond a (cond b rest 9) 8 ≡ k
+first-two true true rest k p e = absurd (omega arith)
+first-two true false rest k p e = sym e
+first-two false b rest k p e = sym e
 
 module _ (s : List ℕ) where
-  -- question 8
+  -- questions 8 and 9
   abbrev pub Whole : Bool
   Whole = leb 12 (length s) && eqb (sizeFrom s) (length s)
 
   abbrev pub HasCounts : Bool
   HasCounts = kindHasCounts (getD s 0 0) (countsOf (meaningFrom s))
 
-  pub refused-8 : Whole ≡ false → readRefusal s ≡ 8
-  unfolding readRefusal
-  refused-8 h = rw h
+  -- the code's tests are the definitions
+  module _ {w : ℕ} {c : Counts} (v : WidthIn s w) (k : CountsIn w s c) where
+    counted : c ≡ countsOf (meaningFrom s)
+    counted = k .counts ∙ ap (λ (x : ℕ). countsOf (meaningWith x s)) (v .width)
 
-  pub refused-9 : Whole ≡ true → HasCounts ≡ false → readRefusal s ≡ 9
+    sized : sizeWith w c ≡ sizeFrom s
+    sized = λ i. sizeWith (v .width i) (counted i)
+
+    pub whole-is : {size : ℕ} → size ≡ sizeWith w c → (leb 12 (length s) && eqb size (length s)) ≡ Whole
+    whole-is e = ap (λ (x : ℕ). leb 12 (length s) && eqb x (length s)) (e ∙ sized)
+
+    pub counts-are : kindHasCounts (getD s 0 0) c ≡ HasCounts
+    counts-are = ap (kindHasCounts (getD s 0 0)) counted
+
+  -- questions 8 and 9 were answered yes
+  pub record Passed : Type 0 where
+    pub whole : Whole ≡ true
+    pub counts : HasCounts ≡ true
+
+  pub passed : firstNo (take 2 (readQuestions s)) ≡ 0 → Passed
+  passed h =
+      let a = all-passed Whole 8 (ask HasCounts 9 ∷ []) (omega arith) h in
+      record { whole = a .0; counts = all-passed HasCounts 9 [] (omega arith) (a .1) .0 }
+
+  -- so the message can be loaded
+  pub loadable : {w : ℕ} {c : Counts} → WidthIn s w → CountsIn w s c → Passed → Loadable w s c
+  loadable v k p =
+      let small = counts-small (getD s 0 0) (countsOf (meaningFrom s)) (p .counts) in
+      let size = eqb-true (sizeFrom s) (length s) (and-both (leb 12 (length s)) _ (p .whole) .1) in
+      record { counts = k .counts; size = sized v k ∙ size; small = rw (v .width, counted v k) small; widest = v .widest }
+
+  pub refused-first : (k : ℕ) → 0 < k → k ≡ firstNo (take 2 (readQuestions s)) → readRefusal s ≡ k
   unfolding readRefusal
-  refused-9 h k = rw (h, k)
+  refused-first k p e = first-two Whole HasCounts (firstNo (meaningQuestions (meaningFrom s))) k p e
 
   -- after 8 and 9 the message that was loaded decides
-  pub refused-by : Whole ≡ true → HasCounts ≡ true → (m : Message) → m ≡ heldAs (meaningFrom s)
+  pub refused-by : Passed → (m : Message) → m ≡ heldAs (meaningFrom s)
       → readRefusal s ≡ firstNo (meaningQuestions (meaningOf m))
   unfolding readRefusal
-  refused-by h k m e =
-      let small = counts-small (getD s 0 0) (countsOf (meaningFrom s)) k in
+  refused-by p m e =
+      let small = counts-small (getD s 0 0) (countsOf (meaningFrom s)) (p .counts) in
       let same : meaningOf m ≡ meaningFrom s = ap meaningOf e ∙ held-back (meaningFrom s) (small .cues) in
-      rw (h, k) (ap (λ (M : Meaning). firstNo (meaningQuestions M)) (sym same))
+      rw (p .whole, p .counts) (ap (λ (M : Meaning). firstNo (meaningQuestions M)) (sym same))
 
   -- a refusal, and an acceptance
   pub no : (k : ℕ) (r : Reading) → 0 < k → readRefusal s ≡ k → r ≡ record { verdict = Refused k; message = blankMessage }

@@ -7,16 +7,18 @@ use Prim.Native.Nat.{ℕ, _≤_}
 use mathlib.Core.List.{List}
 use lib.ListN.{length, take}
 use Rattle.numbers.specs.Number.{Bytes}
-use Rattle.message.specs.Message.{meaningOf, bytesOf}
+use Rattle.message.specs.Limit.{roomNeeded}
+use Rattle.message.specs.Entry.{cueWidth}
+use Rattle.message.specs.Message.{namePlaces, reportPlaces, echoPlaces, meaningOf, bytesOf}
 use Rattle.message.specs.Question.{readRefusal, readOf, writeRefusal, writtenOf, outputOf}
 use Rattle.message.specs.declared.Message.{Message}
 
 -- The arrays of a message have their lengths. Any value of the declared type does; at the level of definitions an array is a list.
 pub record Arrays (m : Message) : Type 0 where
-  pub names : length (m .names) ≡ 1
-  pub cue : length (m .cue) ≡ 24
-  pub reports : length (m .reports) ≡ 8
-  pub echoes : length (m .echoes) ≡ 7
+  pub names : length (m .names) ≡ namePlaces
+  pub cue : length (m .cue) ≡ cueWidth
+  pub reports : length (m .reports) ≡ reportPlaces
+  pub echoes : length (m .echoes) ≡ echoPlaces
 
 -- the bytes that the writer put into an output
 abbrev pub wireOf : Message → List ℕ → List ℕ
@@ -33,7 +35,7 @@ VeryBytes = (s : List ℕ) → Bytes s → readRefusal s ≡ 0 → bytesOf (mean
 
 -- What the reader accepts the writer accepts, into any output that is long enough, and writes as the same bytes.
 abbrev pub Rewritten : Type 0
-Rewritten = (s out : List ℕ) → Bytes s → readRefusal s ≡ 0 → 128 ≤ length out
+Rewritten = (s out : List ℕ) → Bytes s → readRefusal s ≡ 0 → roomNeeded ≤ length out
     → (writeRefusal (readOf s .message) out ≡ 0) × (wireOf (readOf s .message) out ≡ s)
 
 -- Every written message is at most 119 bytes long, and is just that many bytes of the output.

@@ -7,11 +7,11 @@ use Rattle.decimal.specs.Decimal.{allDigits, wellWritten, valueAfter, unsignedW
 use Rattle.script.specs.declared.Verb.the-variants.{Join, Send, Hear, Report}
 use Rattle.script.specs.declared.Line.the-variants.{Play, Malformed}
 use Rattle.script.specs.Words.{onto, words, same}
-use Rattle.script.specs.Line.{join, send, hear, report, fire, plainVerb, verbWith, lineIn, lineOf}
+use Rattle.script.specs.Line.{join, send, hear, report, fire, laterVerb, plainVerb, verbWith, lineIn, lineOf}
 
 -- "0 join 0"
 a-join : lineOf (48 ∷ 32 ∷ join ++ (32 ∷ 48 ∷ [])) ≡ Play (record { end = 0; verb = Join; clock = 0 })
-unfolding lineOf lineIn plainVerb words onto same unsignedWord wellWritten valueAfter
+unfolding lineOf lineIn plainVerb laterVerb words onto same unsignedWord wellWritten valueAfter
 a-join = refl
 
 -- "0 send 10 -2"
@@ -26,7 +26,7 @@ a-hear = refl
 
 -- "1 report 7"
 a-report : lineOf (49 ∷ 32 ∷ report ++ (32 ∷ 55 ∷ [])) ≡ Play (record { end = 1; verb = Report; clock = 7 })
-unfolding lineOf lineIn plainVerb words onto same unsignedWord wellWritten valueAfter
+unfolding lineOf lineIn plainVerb laterVerb words onto same unsignedWord wellWritten valueAfter
 a-report = refl
 
 -- 2^64 − 1, and the longest line that is right: `1 send 18446744073709551615 -32768`
@@ -64,18 +64,18 @@ unfolding lineOf lineIn verbWith words onto same unsignedWord wellWritten valueA
 one-word-more = refl
 
 no-focus : lineOf (48 ∷ 32 ∷ send ++ (32 ∷ 48 ∷ [])) ≡ Malformed
-unfolding lineOf lineIn plainVerb words onto same unsignedWord wellWritten valueAfter
+unfolding lineOf lineIn plainVerb laterVerb words onto same unsignedWord wellWritten valueAfter
 no-focus = refl
 
 -- "2 fire 0"; "0 Fire 0"; "0 fire 0" with a carriage return
 end-two : lineOf (50 ∷ 32 ∷ fire ++ (32 ∷ 48 ∷ [])) ≡ Malformed
-unfolding lineOf lineIn plainVerb words onto same unsignedWord wellWritten valueAfter
+unfolding lineOf lineIn plainVerb laterVerb words onto same unsignedWord wellWritten valueAfter
 end-two = refl
 
 capital : lineOf (48 ∷ 32 ∷ 70 ∷ 105 ∷ 114 ∷ 101 ∷ 32 ∷ 48 ∷ []) ≡ Malformed
-unfolding lineOf lineIn plainVerb words onto same unsignedWord wellWritten valueAfter
+unfolding lineOf lineIn plainVerb laterVerb words onto same unsignedWord wellWritten valueAfter
 capital = refl
 
 carriage-return : lineOf (48 ∷ 32 ∷ fire ++ (32 ∷ 48 ∷ 13 ∷ [])) ≡ Malformed
-unfolding lineOf lineIn plainVerb words onto same unsignedWord wellWritten allDigits valueAfter
+unfolding lineOf lineIn plainVerb laterVerb words onto same unsignedWord wellWritten allDigits valueAfter
 carriage-return = refl

@@ -5,73 +5,82 @@ use Prim.Native.Nat.{ℕ, _+_, _≤_, _<_}
 use native.Mathlib.Omega.{arith}
 use lib.ListN.{length, drop}
 use borrow.Author.Tests.{le-leb, lt-leb}
-use Rattle.decimal.specs.Decimal.{unsignedWord}
+use Rattle.numbers.proofs.Cases.{by-order}
 use Rattle.decimal.specs.Room.{part}
-use Rattle.decimal.specs.declared.Unsigned.{Unsigned}
 use Rattle.decimal.proofs.RoomLaws.{part-rest}
-use Rattle.script.specs.declared.VerbWord.{VerbWord}
-use Rattle.script.specs.declared.Line.{Line}
+use Rattle.script.specs.declared.Ends.{Ends}
 use Rattle.script.specs.declared.Line.the-variants.{Malformed}
-use Rattle.script.specs.Words.{words, spaceFrom}
-use Rattle.script.specs.Line.{plainVerb, verbWith, callOf, lineIn, lineOf}
+use Rattle.script.specs.Words.{words}
+use Rattle.script.specs.Line.{lineIn, lineOf}
+use Rattle.script.specs.Ends.{WordEnds, lineAt}
 use Rattle.script.proofs.WordsLaws.{words-last, words-next, words-some}
 
-pub too-long : (s : List ℕ) → 34 < length s → lineOf s ≡ Malformed
+pub long-line : (s : List ℕ) → 34 < length s → Malformed ≡ lineOf s
 unfolding lineOf
-too-long s h = rw (lt-leb (length s) 34 h)
+long-line s h = rw (lt-leb (length s) 34 h)
 
-module _ (s : List ℕ) (short : length s ≤ 34) where
-  by-words : lineOf s ≡ lineIn (words s)
-  unfolding lineOf
-  by-words = rw (le-leb (length s) 34 short)
+pub short-line : (s : List ℕ) → length s ≤ 34 → lineIn (words s) ≡ lineOf s
+unfolding lineOf
+short-line s h = rw (le-leb (length s) 34 h)
 
-  pub one-word : (a : ℕ) → a ≡ spaceFrom s 0 → length s ≤ a → lineOf s ≡ Malformed
+-- how many words there are; `w` is where the first four end
+module _ (s : List ℕ) (w : Ends) (h : WordEnds s w) where
+  abbrev first : List ℕ
+  first = part 0 (w .first) s
+
+  abbrev second : List ℕ
+  second = part (w .first + 1) (w .second) s
+
+  abbrev third : List ℕ
+  third = part (w .second + 1) (w .third) s
+
+  one-word : length s ≤ w .first → words s ≡ first ∷ []
+  one-word l = words-last s 0 (w .first) (h .one) (omega arith) l
+
+  after-one : w .first < length s → (r : List (List ℕ)) → words (drop (w .first + 1) s) ≡ r → words s ≡ first ∷ r
+  after-one l r e = words-next s 0 (w .first) (h .one) (omega arith) l ∙ ap (λ (q : List (List ℕ)). first ∷ q) e
+
+  two-words : w .first < length s → length s ≤ w .second → words s ≡ first ∷ second ∷ []
+  two-words l k = after-one l (second ∷ []) (words-last s (w .first + 1) (w .second) (h .two) (omega arith) k)
+
+  after-two : w .second < length s → (r : List (List ℕ)) → words (drop (w .second + 1) s) ≡ r → words s ≡ first ∷ second ∷ r
+  after-two l r e =
+      let two = h .two in
+      after-one (omega arith) (second ∷ r) (words-next s (w .first + 1) (w .second) two (omega arith) l ∙ ap (λ (q : List (List ℕ)). second ∷ q) e)
+
+  three-words : w .second < length s → length s ≤ w .third → words s ≡ first ∷ second ∷ third ∷ []
+  three-words l k = after-two l (third ∷ []) (words-last s (w .second + 1) (w .third) (h .three) (omega arith) k)
+
+  after-three : w .third < length s → (r : List (List ℕ)) → words (drop (w .third + 1) s) ≡ r → words s ≡ first ∷ second ∷ third ∷ r
+  after-three l r e =
+      let three = h .three in
+      after-two (omega arith) (third ∷ r) (words-next s (w .second + 1) (w .third) three (omega arith) l ∙ ap (λ (q : List (List ℕ)). third ∷ q) e)
+
+  pub few-words : length s ≤ w .second → Malformed ≡ lineIn (words s)
   unfolding lineIn
-  one-word a ea l = by-words ∙ ap lineIn (words-last s 0 a ea (omega arith) l)
+  few-words g =
+      by-order (w .first) (length s)
+      (λ l. sym (ap lineIn (two-words l g)))
+      (λ k. sym (ap lineIn (one-word k)))
 
-  module _ (a : ℕ) (ea : a ≡ spaceFrom s 0) (la : a < length s) (b : ℕ) (eb : b ≡ spaceFrom s (a + 1)) where
-    abbrev first : List ℕ
-    first = part 0 a s
+  pub more-words : w .fourth < length s → Malformed ≡ lineIn (words s)
+  unfolding lineIn
+  more-words l =
+      let four = h .four in
+      let x : List ℕ = part (w .third + 1) (w .fourth) s in
+      let p = words-some (drop (w .fourth + 1) s) in
+      let e = words-next s (w .third + 1) (w .fourth) four (omega arith) l ∙ ap (λ (q : List (List ℕ)). x ∷ q) (p .2) in
+      sym (ap lineIn (after-three (omega arith) (x ∷ p .0 ∷ p .1) e))
 
-    abbrev second : List ℕ
-    second = part (a + 1) b s
-
-    pub two-words : length s ≤ b → lineOf s ≡ Malformed
-    unfolding lineIn
-    two-words l = by-words ∙ ap lineIn (words-next s 0 a ea (omega arith) la ∙ ap (λ (r : List (List ℕ)). first ∷ r) (words-last s (a + 1) b eb (omega arith) l))
-
-    module _ (lb : b < length s) (c : ℕ) (ec : c ≡ spaceFrom s (b + 1)) where
-      abbrev third : List ℕ
-      third = part (b + 1) c s
-
-      after-two : (r : List (List ℕ)) → words (drop (b + 1) s) ≡ r → lineOf s ≡ lineIn (first ∷ second ∷ r)
-      after-two r e =
-          by-words
-          ∙ ap lineIn (words-next s 0 a ea (omega arith) la ∙ ap (λ (q : List (List ℕ)). first ∷ q) (words-next s (a + 1) b eb (omega arith) lb))
-          ∙ ap (λ (q : List (List ℕ)). lineIn (first ∷ second ∷ q)) e
-
-      pub three-words : length s ≤ c → {r : Line} {e t : Unsigned} {v : VerbWord} → r ≡ callOf e v t
-          → e ≡ unsignedWord first → v ≡ plainVerb second → t ≡ unsignedWord third → r ≡ lineOf s
-      unfolding lineIn
-      three-words l q pe pv pt =
-          q ∙ (λ i. callOf (pe i) (pv i) (pt i)) ∙ sym (after-two (third ∷ []) (words-last s (b + 1) c ec (omega arith) l))
-
-      pub four-words : c < length s → (d : ℕ) → d ≡ spaceFrom s (c + 1) → length s ≤ d → {r : Line} {e t : Unsigned} {v : VerbWord} → r ≡ callOf e v t
-          → e ≡ unsignedWord first → v ≡ verbWith second (part (c + 1) (length s) s) → t ≡ unsignedWord third → r ≡ lineOf s
-      unfolding lineIn
-      four-words lc d ed l q pe pv pt =
-          let e : part (c + 1) d s ≡ part (c + 1) (length s) s = part-rest (c + 1) d s l ∙ sym (part-rest (c + 1) (length s) s (omega arith)) in
-          q
-          ∙ (λ i. callOf (pe i) (pv i) (pt i))
-          ∙ sym
-          (after-two (third ∷ part (c + 1) (length s) s ∷ [])
-          (words-next s (b + 1) c ec (omega arith) lc
-          ∙ ap (λ (q : List (List ℕ)). third ∷ q) (words-last s (c + 1) d ed (omega arith) l ∙ ap (λ (x : List ℕ). x ∷ []) e)))
-
-      pub more-words : c < length s → (d : ℕ) → d ≡ spaceFrom s (c + 1) → d < length s → lineOf s ≡ Malformed
-      unfolding lineIn
-      more-words lc d ed l =
-          let p = words-some (drop (d + 1) s) in
-          let x : List ℕ = part (c + 1) d s in
-          after-two (third ∷ x ∷ p .0 ∷ p .1)
-          (words-next s (b + 1) c ec (omega arith) lc ∙ ap (λ (q : List (List ℕ)). third ∷ q) (words-next s (c + 1) d ed (omega arith) l ∙ ap (λ (q : List (List ℕ)). x ∷ q) (p .2)))
+  -- three words, or four
+  pub right-words : w .second < length s → length s ≤ w .fourth → lineAt s w ≡ lineIn (words s)
+  unfolding lineIn
+  right-words l k =
+      let four = h .four in
+      let x : List ℕ = part (w .third + 1) (length s) s in
+      by-order (w .third) (length s)
+      (λ m.
+      let e : part (w .third + 1) (w .fourth) s ≡ x = part-rest (w .third + 1) (w .fourth) s k ∙ sym (part-rest (w .third + 1) (length s) s (omega arith)) in
+      let r = words-last s (w .third + 1) (w .fourth) four (omega arith) k ∙ ap (λ (q : List ℕ). q ∷ []) e in
+      rw (lt-leb (length s) (w .third) m) (sym (ap lineIn (after-three m (x ∷ []) r))))
+      (λ g. rw (le-leb (length s) (w .third) g) (sym (ap lineIn (three-words l g))))

@@ -24,7 +24,7 @@ use Rattle.script.specs.declared.VerbWord.the-variants.{Is, NoVerb}
 use Rattle.script.specs.declared.Call.{Call}
 use Rattle.script.specs.declared.Line.the-variants.{Play, Malformed}
 use Rattle.script.specs.Words.{onto, words, same}
-use Rattle.script.specs.Line.{join, joined, leave, left, crash, send, hear, fire, report, plainVerb, sendOf, hearOf, verbWith, callOf, lineIn}
+use Rattle.script.specs.Line.{join, joined, leave, left, crash, send, hear, fire, report, laterVerb, plainVerb, sendOf, hearOf, verbWith, callOf, lineIn}
 use Rattle.script.proofs.WordsLaws.{words-some}
 
 -- ---- how long the words are together
@@ -68,7 +68,7 @@ tried v w x y r k f h =
     by-flag (same v w) (λ t. omega (arith, same-length v w t)) (λ e. f (rw e at h))
 
 plain-length : (v : List ℕ) (x : Verb) → plainVerb v ≡ Is x → length v ≤ 6
-unfolding plainVerb
+unfolding plainVerb laterVerb
 plain-length v x h =
     tried v join _ (Is x) _ (omega arith)
     (tried v joined _ (Is x) _ (omega arith)

@@ -6,12 +6,13 @@ use Prim.Native.Nat.{ℕ, zero, suc, _+_, _-_, _≤_, _<_}
 use native.Mathlib.Numerals.{add-one}
 use native.Mathlib.Omega.{arith}
 use lib.Dec.{eqb}
-use lib.ListN.{length, take, drop, getD, length-drop}
-use lib.Seq.{drop-cons, drop-drop, drop-length}
+use lib.ListN.{length, take, drop, getD, length-drop, drop-of-length-le}
+use lib.Seq.{drop-cons, drop-drop}
 use borrow.Author.Tests.{eq-eqb, ne-eqb}
 use Rattle.numbers.proofs.Cases.{by-flag}
 use Rattle.decimal.specs.Room.{part}
 use Rattle.decimal.proofs.RoomLaws.{part-rest}
+use Rattle.script.specs.Ends.{Space}
 use Rattle.script.specs.Words.{onto, words, spaceIn, spaceFrom, same}
 
 -- ---- the same words
@@ -57,9 +58,12 @@ pub space-next : (s : List ℕ) (i : ℕ) → i < length s → (getD s i 0 ≡ 3
 unfolding spaceIn
 space-next s i h e = rw (drop-cons s i 0 h, ne-eqb (getD s i 0) 32 e, add-one) (omega arith)
 
-pub space-end : (s : List ℕ) → spaceFrom s (length s) ≡ length s
+pub space-end : (s : List ℕ) (i : ℕ) → length s ≤ i → spaceFrom s i ≡ i
 unfolding spaceIn
-space-end s = rw (drop-length s) (omega arith)
+space-end s i h = rw (drop-of-length-le s {i = i} h) (omega arith)
+
+pub space-is : (s : List ℕ) (from : ℕ) {at : ℕ} → at ≡ spaceFrom s from → Space s from at
+space-is s from e = record { next = e; near = omega (arith, space-within (drop from s), length-drop from s) }
 
 -- ---- words
 

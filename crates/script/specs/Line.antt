@@ -12,6 +12,7 @@ use Rattle.decimal.specs.declared.Unsigned.the-variants.{Number, NoNumber}
 use Rattle.decimal.specs.declared.Signed.{Signed}
 use Rattle.decimal.specs.declared.Signed.the-variants.{Integer, NoInteger}
 use Rattle.decimal.specs.Decimal.{unsignedWord, signedWord}
+use Rattle.script.specs.declared.Verb.{Verb}
 use Rattle.script.specs.declared.Verb.the-variants.{Join, Joined, Leave, Left, Crash, Send, Hear, Fire, Report}
 use Rattle.script.specs.declared.VerbWord.{VerbWord}
 use Rattle.script.specs.declared.VerbWord.the-variants.{Is, NoVerb}
@@ -47,16 +48,19 @@ fire = 102 ∷ 105 ∷ 114 ∷ 101 ∷ []
 abbrev pub report : List ℕ
 report = 114 ∷ 101 ∷ 112 ∷ 111 ∷ 114 ∷ 116 ∷ []
 
--- a verb that has nothing after the clock
+-- a verb that has nothing after the clock: the last four, and all seven
+unfoldable pub laterVerb : List ℕ → VerbWord
+laterVerb v =
+    cond (same v left) (Is Left)
+    (cond (same v crash) (Is Crash)
+    (cond (same v fire) (Is Fire)
+    (cond (same v report) (Is Report) NoVerb)))
+
 unfoldable pub plainVerb : List ℕ → VerbWord
 plainVerb v =
     cond (same v join) (Is Join)
     (cond (same v joined) (Is Joined)
-    (cond (same v leave) (Is Leave)
-    (cond (same v left) (Is Left)
-    (cond (same v crash) (Is Crash)
-    (cond (same v fire) (Is Fire)
-    (cond (same v report) (Is Report) NoVerb))))))
+    (cond (same v leave) (Is Leave) (laterVerb v)))
 
 abbrev pub sendOf : Signed → VerbWord
 sendOf (Integer z) = Is (Send z)
@@ -71,8 +75,11 @@ unfoldable pub verbWith : List ℕ → List ℕ → VerbWord
 verbWith v x = cond (same v send) (sendOf (signedWord x)) (cond (same v hear) (hearOf (unsignedWord x)) NoVerb)
 
 -- an end, 0 or 1, with a verb and a clock
+abbrev pub callAt : ℕ → Verb → ℕ → Line
+callAt e v t = cond (ltb e 2) (Play (record { end = e; verb = v; clock = t })) Malformed
+
 abbrev pub callOf : Unsigned → VerbWord → Unsigned → Line
-callOf (Number e) (Is v) (Number t) = cond (ltb e 2) (Play (record { end = e; verb = v; clock = t })) Malformed
+callOf (Number e) (Is v) (Number t) = callAt e v t
 callOf (Number e) (Is v) NoNumber = Malformed
 callOf (Number e) NoVerb t = Malformed
 callOf NoNumber v t = Malformed

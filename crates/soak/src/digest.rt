@@ -50,7 +50,7 @@ fn cue(d: &mut u64, c: &[u8; 24]) {
 fn slot(d: &mut u64, s: Slot) {
     match s {
         Slot::Empty => mix(d, 0),
-        Slot::Held => mix(d, 1),
+        Slot::Held(_) => mix(d, 1),
         Slot::Waiting(q) => {
             mix(d, 2);
             mix(d, wide(q.round));
@@ -74,11 +74,11 @@ fn reply(d: &mut u64, r: Reply) {
 fn record(d: &mut u64, r: Record) {
     let s = r.slot;
     let c = r.cue;
-    let y = r.reply;
+    let y = state::reply_in(s);
     slot(d, s);
     cue(d, &c);
     reply(d, y);
-    mix(d, r.quiet);
+    mix(d, r.hush);
 }
 
 fn names(d: &mut u64, records: [Record; 64]) {

@@ -2,20 +2,25 @@
 // specs/Sound.antt; each function here is one definition of that file. The state is gone through once.
 use end::End;
 use end::Heard;
+use end::NUMBERS;
 use end::Record;
 use end::Reply;
 use end::Request;
 use end::Slot;
 use end::Source;
 use end::Span;
+use end::TIME_LIMIT;
 use message::Host;
+use message::NUMBER_LIMIT;
+use message::TICKS_LIMIT;
 ghost use mathlib.Core.Path.{_≡_};
-ghost use Prim.Native.Nat.{_<_};
+ghost use mathlib.Core.Bool.{_&&_};
 ghost use lib.ListN.{length};
-ghost use Rattle.end.specs.Sound.{allOf, requestTests, replyTests, heldTests, waitingTests, insideSound, outsideSound, within, isClosed, isNever, recordSound, namesSound, spanTests, distanceSound, heardTests, nonMemberTests, sourceSound, sourcesSound, soundOf};
-
-// "due and quiet times are below 2^48+2^32"
-const TIME_LIMIT: u64 = 281479271677952;
+ghost use lib.Dec.{eqb};
+ghost use Rattle.message.specs.Cue.{cueIn};
+ghost use Rattle.end.specs.Records.{within, isClosed};
+ghost use Rattle.end.specs.State.{places};
+ghost use Rattle.end.specs.Sound.{allOf, requestTests, replyTests, heldTests, insideSound, outsideSound, isNever, recordSound, namesSound, spanTests, distanceSound, heardTests, nonMemberTests, sourceSound, sourcesSound, soundOf};
 
 fn request_sound(q: Request) -> bool
     ensures { λ r. ⌜ r ≡ allOf (requestTests q) ⌝ }
@@ -37,27 +42,18 @@ fn reply_sound(me: Host, source: Host, reply: Reply) -> bool
     }
 }
 
-// An array of a value has its length: what the definition asks of its lists.
-fn sized_cue(cue: [u8; 24]) -> [u8; 24]
-    ensures { λ r. ⌜ (r ≡ cue) × (length cue ≡ 24) ⌝ }
+// The cue of a held name; an array has its length, which the definition asks of its list.
+fn cue_sound(cue: [u8; 24]) -> bool
+    ensures { λ r. ⌜ r ≡ (eqb (length cue) 24 && cueIn cue) ⌝ }
 {
-    cue
+    message::cue_in(&cue)
 }
 
-fn held_sound(me: Host, source: Host, r: Record) -> bool
-    ensures { λ b. ⌜ b ≡ allOf (heldTests me source r) ⌝ }
+fn held_sound(me: Host, source: Host, r: Record, reply: Reply) -> bool
+    ensures { λ b. ⌜ b ≡ allOf (heldTests me source r reply) ⌝ }
 {
     let cue = r.cue;
-    let bytes = sized_cue(cue);
-    let reply = r.reply;
-    message::cue_in(&bytes) & reply_sound(me, source, reply) & (r.quiet < TIME_LIMIT)
-}
-
-fn waiting_sound(r: Record, q: Request) -> bool
-    ensures { λ b. ⌜ b ≡ allOf (waitingTests r q) ⌝ }
-{
-    let reply = r.reply;
-    request_sound(q) & parts::is_no(reply) & (r.quiet < TIME_LIMIT)
+    cue_sound(cue) & reply_sound(me, source, reply) & (r.hush < TIME_LIMIT)
 }
 
 fn inside_sound(me: Host, source: Host, r: Record, slot: Slot) -> bool
@@ -65,8 +61,8 @@ fn inside_sound(me: Host, source: Host, r: Record, slot: Slot) -> bool
 {
     match slot {
         Slot::Empty => false,
-        Slot::Held => held_sound(me, source, r),
-        Slot::Waiting(q) => !(source.0 == me.0) & waiting_sound(r, q),
+        Slot::Held(reply) => held_sound(me, source, r, reply),
+        Slot::Waiting(q) => !(source.0 == me.0) & (request_sound(q) & (r.hush < TIME_LIMIT)),
     }
 }
 
@@ -74,11 +70,8 @@ fn outside_sound(r: Record, slot: Slot) -> bool
     ensures { λ b. ⌜ b ≡ outsideSound r slot ⌝ }
 {
     match slot {
-        Slot::Empty => {
-            let reply = r.reply;
-            parts::is_no(reply) & (r.quiet == 0)
-        }
-        Slot::Held => false,
+        Slot::Empty => r.hush == 0,
+        Slot::Held(_) => false,
         Slot::Waiting(_) => false,
     }
 }
@@ -103,8 +96,10 @@ fn record_sound(me: Host, source: Host, span: Span, n: usize, r: Record) -> bool
     }
 }
 
+// What stands in each of the 64 places.
 fn names_sound(me: Host, source: Host, span: Span, names: [Record; 64]) -> bool
-    ensures { λ r. ⌜ r ≡ namesSound me source span names 64 ⌝ }
+    ensures { λ r. ⌜ r ≡ namesSound me source span names places ⌝ }
+    ensures { λ _. ⌜ length names ≡ places ⌝ }
 {
     let mut ok = true;
     let mut n: usize = 0;
@@ -122,7 +117,7 @@ fn span_sound(own: bool, next: u32, span: Span) -> bool
     match span {
         Span::Closed => true,
         Span::Open(first, last) => {
-            (first.0 <= last.0) & (last.0 < 64) & (!own | (last.0 as u32 + 1 == next))
+            (first.0 <= last.0) & (last.0 < NUMBER_LIMIT) & (!own | (last.0 as u32 + 1 == next))
         }
     }
 }
@@ -138,7 +133,7 @@ fn heard_sound(own: bool, clock: u64, heard: Heard) -> bool
 {
     match heard {
         Heard::Never => true,
-        Heard::At(stamp, when) => !own & (stamp < 281474976710656) & (when <= clock),
+        Heard::At(stamp, when) => !own & (stamp < TICKS_LIMIT) & (when <= clock),
     }
 }
 
@@ -168,12 +163,6 @@ fn non_member_sound(own: bool, s: Source) -> bool
     is_closed(span) & is_never(heard) & (own | (s.distance == 40))
 }
 
-fn sized_names(names: [Record; 64]) -> [Record; 64]
-    ensures { λ r. ⌜ (r ≡ names) × (length names ≡ 64) ⌝ }
-{
-    names
-}
-
 // One source, for the end of host me with this next number and clock.
 fn source_sound(me: Host, next: u32, clock: u64, member: bool, h: Host, s: Source) -> bool
     ensures { λ r. ⌜ r ≡ sourceSound me next clock member h s ⌝ }
@@ -182,12 +171,11 @@ fn source_sound(me: Host, next: u32, clock: u64, member: bool, h: Host, s: Sourc
     let span = s.span;
     let heard = s.heard;
     let names = s.names;
-    let records = sized_names(names);
     span_sound(own, next, span)
         & distance_sound(own, s.distance)
         & heard_sound(own, clock, heard)
         & (member | non_member_sound(own, s))
-        & names_sound(me, h, span, records)
+        & names_sound(me, h, span, names)
 }
 
 // The sources by their constant places: a loop over them would copy the whole state.
@@ -195,7 +183,7 @@ fn sources_sound(e: End) -> bool
     ensures { λ r. ⌜ r ≡ sourcesSound e 8 ⌝ }
 {
     let status = e.status;
-    let member = parts::is_member(status);
+    let member = state::is_member(status);
     let me = e.host;
     let s0 = source_sound(me, e.next, e.clock, member, Host(0), e.sources[0]);
     let s1 = source_sound(me, e.next, e.clock, member, Host(1), e.sources[1]);
@@ -213,8 +201,8 @@ pub fn sound(e: End) -> bool
     ensures { λ r. ⌜ r ≡ soundOf e ⌝ }
 {
     (e.host.0 < 8)
-        & parts::params_small(e.params)
-        & (e.clock < 281474976710656)
-        & (e.next <= 64)
+        & state::params_small(e.params)
+        & (e.clock < TICKS_LIMIT)
+        & (e.next <= NUMBERS)
         & sources_sound(e)
 }

@@ -2,31 +2,28 @@
 use mathlib.Core.Path.{_≡_, sym, _∙_}
 use Prim.Native.Nat.{ℕ, zero, suc, _≤_, _<_}
 use native.Mathlib.Omega.{arith}
-use mathlib.Core.Bool.{true, false}
-use mathlib.Core.List.{List}
+use mathlib.Core.List.{List, _∷_}
 use lib.ListN.{length}
-use borrow.Author.Tests.{le-leb, lt-leb}
+use lib.Dec.{leb}
+use borrow.Author.Tests.{leb-true}
 use Rattle.numbers.specs.Splice.{splice}
 use Rattle.numbers.proofs.SpliceLaws.{splice-start}
-use Rattle.message.specs.Message.{meaningOf, bytesOf}
-use Rattle.message.specs.Question.{firstNo, meaningQuestions, kindHasCounts, refusalOf, writeRefusal, writtenOf, outputOf}
+use Rattle.message.specs.Limit.{roomNeeded}
+use Rattle.message.specs.Message.{numberWidth, Small, meaningOf, bytesOf}
+use Rattle.message.specs.Question.{ask, meaningQuestions, kindHasCounts, refusalOf, writeRefusal, writtenOf, outputOf}
+use Rattle.message.proofs.QuestionLaws.{all-passed, counts-small}
 use Rattle.message.specs.declared.Message.{Message}
 use Rattle.message.specs.declared.Written.{Written}
 use Rattle.message.specs.declared.Verdict.the-variants.{Accepted, Refused}
 
--- ---- the writer's questions, one at a time
 module _ (m : Message) (out : List ℕ) where
-  pub refused-1 : length out < 128 → writeRefusal m out ≡ 1
+  -- where nothing is refused there is room, and the counts are small
+  pub put-ready : writeRefusal m out ≡ 0 → Small (numberWidth (m .kind)) (m .counts) × (roomNeeded ≤ length out)
   unfolding writeRefusal
-  refused-1 h = rw (lt-leb 128 (length out) h)
-
-  pub refused-9 : 128 ≤ length out → kindHasCounts (m .kind) (m .counts) ≡ false → writeRefusal m out ≡ 9
-  unfolding writeRefusal
-  refused-9 h k = rw (le-leb 128 (length out) h, k)
-
-  pub refused-by : 128 ≤ length out → kindHasCounts (m .kind) (m .counts) ≡ true → writeRefusal m out ≡ firstNo (meaningQuestions (meaningOf m))
-  unfolding writeRefusal
-  refused-by h k = rw (le-leb 128 (length out) h, k)
+  put-ready h =
+      let a = all-passed (leb roomNeeded (length out)) 1 (ask (kindHasCounts (m .kind) (m .counts)) 9 ∷ meaningQuestions (meaningOf m)) (omega arith) h in
+      let b = all-passed (kindHasCounts (m .kind) (m .counts)) 9 (meaningQuestions (meaningOf m)) (omega arith) (a .1) in
+      (counts-small (m .kind) (m .counts) (b .0), leb-true roomNeeded (length out) (a .0))
 
   -- what the writer promises of its answer and its output
   abbrev pub Promise : Written → List ℕ → Type 0

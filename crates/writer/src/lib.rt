@@ -1,10 +1,25 @@
 // The writer: a message into the first bytes of an output, or the number of the question that it fails. Its promises are
 // `writtenOf` and `outputOf` of the crate message, specs/Question.antt.
 use message::Message;
+use message::ROOM_NEEDED;
 use message::Verdict;
 use message::Written;
 ghost use mathlib.Core.Path.{_≡_};
-ghost use Rattle.message.specs.Question.{refusalOf, writeRefusal, writtenOf, outputOf};
+ghost use Rattle.message.specs.Question.{firstNo, roomQuestions, refusalOf, writeRefusal, writtenOf, outputOf};
+
+// Questions 1, 9, 10 and 11, of a message and an output with so many bytes: the number of the first that is answered no, or 0.
+fn refusal(m: Message, room: usize) -> u8
+    ensures { λ r. ⌜ r ≡ firstNo (roomQuestions m room) ⌝ }
+{
+    if room < ROOM_NEEDED {
+        return 1;
+    }
+    let c = m.counts;
+    if !message::kind_has_counts(m.kind, c) {
+        return 9;
+    }
+    message::meaning_refusal(m)
+}
 
 // Writes a message into the first bytes of `out`: questions 1, 9, 10 and 11, in this order.
 pub fn write(m: Message, out: &mut [u8]) -> Written
@@ -12,20 +27,7 @@ pub fn write(m: Message, out: &mut [u8]) -> Written
     ensures { λ r. ⌜ refusalOf (r .verdict) ≡ writeRefusal m (now (out .entry)) ⌝ }
     ensures { λ r. ⌜ now (out .exit) ≡ outputOf m (now (out .entry)) ⌝ }
 {
-    if out.len() < 128 {
-        return Written {
-            verdict: Verdict::Refused(1),
-            len: 0,
-        };
-    }
-    let c = m.counts;
-    if !message::kind_has_counts(m.kind, c) {
-        return Written {
-            verdict: Verdict::Refused(9),
-            len: 0,
-        };
-    }
-    let q = message::meaning_refusal(m);
+    let q = refusal(m, out.len());
     if q != 0 {
         return Written {
             verdict: Verdict::Refused(q),

@@ -888,6 +888,10 @@ impl World {
                 record.cue.0[at] = dice.byte();
             }
         }
+        // Beside anything but a held cue there is no reply: the end's record has no such value.
+        if record.body != Body::Held {
+            record.reply = None;
+        }
     }
 
     /// One record of an open source, changed so that the end stays sound, with

@@ -1,27 +1,23 @@
 -- `answers::put_out` meets its contract: the word and then the number.
 use native.Mathlib.Omega.{arith}
-use borrow.Author.Needs.{needs}
 use Rattle.answers.specs.AnswerLine.{answerWords}
 use Rattle.answers.proofs.PutLaws.{put-both}
+use borrow.Author.Needs.{needs}
 use Rattle.answers.proofs.put_out.Statement.{statement}
 use Rattle.answers.proofs.put_out.Tie as tie
 
-slice-aggregate-text : tie.Need-slice-aggregate-text
-slice-aggregate-text c = search needs
-
-text-requires : tie.Need-text-requires
-text-requires c κs = search needs
-
-number-requires : tie.Need-number-requires
-number-requires c κs = search needs
-
-same-length : tie.Need-same-length
-same-length c = search needs
-
 returns : tie.Need-returns
 unfolding answerWords
-returns c = put-both (c .before .before .before .before .before .before .text .ensures) (c .before .before .number .ensures) (omega arith) (omega arith)
+returns c =
+    let t = c .before .before in
+    put-both (t .before .before .before .before .text .ensures) (t .number .ensures) (omega arith) (omega arith)
 
 pub put-out-spec : {M : Type 1} → statement M
 put-out-spec =
-    tie.close (tie.spec slice-aggregate-text text-requires number-requires same-length returns)
+    tie.close
+    (tie.spec
+    (λ c. search needs)
+    (λ c κs. search needs)
+    (λ c κs. search needs)
+    (λ c. search needs)
+    returns)

@@ -5,11 +5,12 @@ use borrow.Author.Needs.{needs}
 use Rattle.console.proofs.fresh.Statement.{statement}
 use Rattle.console.proofs.fresh.Tie as tie
 
-open-requires : tie.Need-open-requires
-open-requires c κs = search needs
-
 returns : tie.Need-returns
 returns c = ap (λ (o : Opened). o .end) (c .before .open .ensures .0)
 
 pub fresh-spec : {M : Type 1} → statement M
-fresh-spec = tie.close (tie.spec open-requires returns)
+fresh-spec =
+    tie.close
+    (tie.spec
+    (λ c κs. search needs)
+    returns)

@@ -14,15 +14,14 @@ use Rattle.decimal.proofs.DecimalLaws.{both}
 use Rattle.decimal.proofs.negative.Statement.{statement}
 use Rattle.decimal.proofs.negative.Tie as tie
 
-enum-known-u : tie.Need-enum-known-u
-enum-known-u c = search needs
-
 -- the size of a negative number of 16 bits
-size : (c : tie.Then1) → (0 < c .before .before .u .given .0 .0) × (c .before .before .u .given .0 .0 ≤ 32768)
+abbrev number : tie.Then1 → ℕ
+number c = c .before .before .u .given .0 .0
+
+size : (c : tie.Then1) → (0 < number c) × (number c ≤ 32768)
 size c =
-    let n = c .before .before .u .given .0 .0 in
-    let p = both (ltb 0 n) (leb n 32768) (c .if1 .taken) in
-    (ltb-true 0 n (p .0), leb-true n 32768 (p .1))
+    let p = both (ltb 0 (number c)) (leb (number c) 32768) (c .if1 .taken) in
+    (ltb-true 0 (number c) (p .0), leb-true (number c) 32768 (p .1))
 
 bits : (n : ℕ) → 0 < n → n ≤ 32768 → signed (65536 - n) ≡ negsuc (n - 1)
 bits n l g = rw (le-ltb (65536 - n) 32768 (omega arith)) (ap negsuc (omega arith))
@@ -33,34 +32,25 @@ sub-to-i16 c = omega (arith, size c)
 cast-to-i16 : tie.Need-cast-to-i16
 cast-to-i16 c = omega (arith, size c)
 
-to-i16-requires : tie.Need-to-i16-requires
-to-i16-requires c κs = search needs
-
-enum-told : tie.Need-enum-told
-enum-told c = search needs
-
 returns : tie.Need-returns
 returns c =
-    let n = c .before .before .before .u .given .0 .0 in
-    let p = size (c .before) in
-    rw (c .before .before .before .u .given .1, c .before .if1 .taken)
-    (ap Integer (toZ-ofZ {w = w16} (sfits-of {w = w16} (c .to-i16 .ok)) ∙ c .to-i16 .ensures ∙ bits n (p .0) (p .1)))
+    let t = c .before in
+    let p = size t in
+    let e = toZ-ofZ {w = w16} (sfits-of {w = w16} (c .to-i16 .ok)) ∙ c .to-i16 .ensures ∙ bits (number t) (p .0) (p .1) in
+    rw (t .before .before .u .given .1, t .if1 .taken) (ap Integer e)
 
 returns-2 : tie.Need-returns-2
 returns-2 c = rw (c .before .before .u .given .1, c .if1 .left)
-
-returns-3 : tie.Need-returns-3
-returns-3 c = search needs
 
 pub negative-spec : {M : Type 1} → statement M
 negative-spec =
     tie.close
     (tie.spec
-    enum-known-u
+    (λ c. search needs)
     sub-to-i16
     cast-to-i16
-    to-i16-requires
-    enum-told
+    (λ c κs. search needs)
+    (λ c. search needs)
     returns
     returns-2
-    returns-3)
+    (λ c. search needs))

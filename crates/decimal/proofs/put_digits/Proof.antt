@@ -20,40 +20,25 @@ abbrev μ-loop : tie.MeasureT-loop
 μ-loop out₀ at end n left₀ i₀ out left i = left
 
 loop-holds : tie.Need-loop-holds Inv-loop μ-loop
-loop-holds c = (c .pre .0, omega arith, refl, refl, refl)
+loop-holds c = (c .pre .ends, omega arith, refl, refl, refl)
 
 sub-i : tie.Need-sub-i Inv-loop μ-loop
 sub-i c = omega (arith, length-least (c .before .loop .left))
 
-cast-out : tie.Need-cast-out Inv-loop μ-loop
-cast-out c = omega arith
-
-add-out : tie.Need-add-out Inv-loop μ-loop
-add-out c = omega arith
-
 slice-write-out : tie.Need-slice-write-out Inv-loop μ-loop
 slice-write-out c = omega (arith, length-least (c .before .loop .left))
 
-loop-less : tie.Need-loop-less Inv-loop μ-loop
-loop-less c = omega arith
-
 loop-again : tie.Need-loop-again Inv-loop μ-loop
 loop-again c =
-    let a = c .before .before .args in
     let l = c .before .loop in
-    let m = length-more (l .left) (c .loop-test .taken) in (
+    let m = length-more (l .left) (c .loop-test .taken) in
+    let some = length-least (l .left) in (
       omega arith,
       omega arith,
       simp length-set (l .inv .2),
-      take-set-le (a .at) (l .out) _ _ (omega (arith, length-least (l .left))) ∙ l .inv .3,
-      sym (digits-step (l .out) (l .i) (l .left) (c .loop-test .taken) (omega (arith, length-least (l .left))) (omega arith)) ∙ l .inv .4,
+      take-set-le (c .before .before .args .at) (l .out) _ _ (omega arith) ∙ l .inv .3,
+      sym (digits-step (l .out) (l .i) (l .left) (c .loop-test .taken) (omega arith) (omega arith)) ∙ l .inv .4,
     )
-
-cast-out-2 : tie.Need-cast-out-2 Inv-loop μ-loop
-cast-out-2 c = omega arith
-
-add-out-2 : tie.Need-add-out-2 Inv-loop μ-loop
-add-out-2 c = omega arith
 
 slice-write-out-2 : tie.Need-slice-write-out-2 Inv-loop μ-loop
 slice-write-out-2 c = omega (arith, length-one (c .before .loop .left) (c .loop-test .left))
@@ -64,7 +49,8 @@ same-length c = simp length-set (c .before .loop .inv .2)
 returns : tie.Need-returns Inv-loop μ-loop
 unfolding splice
 returns c =
-    let a = c .before .before .args in
+    let s = c .before .before in
+    let a = s .args in
     let l = c .before .loop in
     let o = decimal-one (l .left) (c .loop-test .left) in
     let i : l .i ≡ suc (a .at) = omega (arith, length-one (l .left) (c .loop-test .left)) in
@@ -72,7 +58,7 @@ returns c =
     let e : (48 + l .left) ∷ drop (suc (a .at)) (l .out) ≡ decimal (a .n) ++ drop (a .end) (a .out .now) = sym (λ k. o k ++ drop (i k) (l .out)) ∙ l .inv .4 in
     set-split (l .out) (a .at) (48 + l .left) h
     ∙ (λ k. l .inv .3 k ++ e k)
-    ∙ ap (λ (k : ℕ). take (a .at) (a .out .now) ++ (decimal (a .n) ++ drop k (a .out .now))) (c .before .before .pre .0)
+    ∙ ap (λ (k : ℕ). take (a .at) (a .out .now) ++ (decimal (a .n) ++ drop k (a .out .now))) (s .pre .ends)
 
 pub put-digits-spec : {M : Type 1} → statement M
 put-digits-spec =
@@ -82,13 +68,13 @@ put-digits-spec =
     μ-loop
     loop-holds
     sub-i
-    cast-out
-    add-out
+    (λ c. omega arith)
+    (λ c. omega arith)
     slice-write-out
-    loop-less
+    (λ c. omega arith)
     loop-again
-    cast-out-2
-    add-out-2
+    (λ c. omega arith)
+    (λ c. omega arith)
     slice-write-out-2
     same-length
     returns)

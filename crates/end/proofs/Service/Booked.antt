@@ -13,10 +13,14 @@ use Rattle.message.specs.Message.{Meaning}
 use Rattle.message.specs.declared.Name.{Name}
 use Rattle.end.specs.declared.End.{End}
 use Rattle.end.specs.State.{isMember}
-use Rattle.end.specs.Arrival.{Effect, Out, Got, Done, Step, messageName, messageCue}
-use Rattle.end.specs.Event.{Moving, Join, Joined, Leave, Left, Crash, moves, movesTo, Event, Move, Send, Arrival}
+use Rattle.end.specs.declared.Move.{Move}
+use Rattle.end.specs.declared.Move.the-variants.{Join, Joined, Leave, Left, Crash}
+use Rattle.end.specs.Answer.{Effect, Out, Got, Done, PutsOut, HandsOut, Untouched, classOf, handsOut, Step, give}
+use Rattle.end.specs.Arrival.{messageName, messageCue}
+use Rattle.end.specs.Event.{moves, movesTo, Action, Moves, Send, Arrival}
 use Rattle.end.specs.Book.{Book, put, readAs, isOriginal, isRepair, source, number, among, firstOf, isSome, notBelow, isGot, due, after, NeverGot, IsOriginal, Meets, limits, gets, hand, dueMessage, afterMessage, file, clearedBy, movedBook}
-use Rattle.end.proofs.Service.Tools.{byTest, put-all, put-same, put-other, clash′, or-left, or-right, and-left, and-right, eqb-flip, getElem-getD, getElem-keeps, getElem-snoc}
+use Rattle.end.proofs.Readings.{InRange, in-range}
+use Rattle.end.proofs.Tools.{byTest, put-all, put-same, put-other, clash′, or-left, or-right, and-left, and-right, eqb-flip, getElem-getD, getElem-keeps, getElem-snoc}
 use Rattle.end.proofs.Service.View.{holds, firstAt, orElse, Same, Took, Rel, carries, Filed, Grows, Right, grows-refl}
 
 -- ---- 1. Nothing that the service sees has changed.
@@ -26,13 +30,13 @@ rel-same {b} {h} {e} {e′} r v = record {
   host = v .host ∙ r .host;
   status = v .status ∙ r .status;
   next = v .next ∙ r .next;
-  filed = λ s n c hs hn p. r .filed s n c hs hn (sym (v .holding s n hs hn) ∙ p);
-  handed = λ m s n hs hn d. rw (v .holding s n hs hn) (r .handed (ap isMember (sym (v .status)) ∙ m) s n hs hn d);
+  filed = λ s n c hs p. r .filed s n c hs (sym (v .holding s n hs) ∙ p);
+  handed = λ m s n hs d. rw (v .holding s n hs) (r .handed (ap isMember (sym (v .status)) ∙ m) s n hs d);
   firsts = λ m s hs d. rw (v .firsts s hs) (r .firsts (ap isMember (sym (v .status)) ∙ m) s hs d);
 }
 
-pub calm-right : {b : Book} {h : ℕ} {ev : Event} {e : End} {r : Step} → Rel b h e → Same e (r .left) → after b h ev ≡ b → Meets (due b h ev) (r .effect)
-    → ((x : List ℕ) → r .effect ≡ Out x → Filed b x) → Right b h ev r
+pub calm-right : {b : Book} {h : ℕ} {ev : Action} {e : End} {r : Step} → Rel b h e → Same e (r .left) → after b h ev ≡ b → Meets (due b h ev) (r .effect)
+    → ((x : List ℕ) → classOf (r .effect) ≡ PutsOut x → Filed b x) → Right b h ev r
 calm-right {b} {h} {ev} {e} {r} q v k a f = record {
   answered = a;
   rel = rw k (rel-same q v);
@@ -45,18 +49,21 @@ calm-right {b} {h} {ev} {e} {r} q v k a f = record {
 pub record Quiet (e : End) (r : Step) : Type 0 where
   pub same : Same e (r .left)
   pub not-got : isGot (r .effect) ≡ false
-  pub out : (x : List ℕ) → r .effect ≡ Out x → (m : Meaning) → readAs x ≡ some m → carries m ≡ true → holds e (source m) (number m) ≡ some (messageCue m)
+  pub out : (x : List ℕ) → classOf (r .effect) ≡ PutsOut x → (m : Meaning) → readAs x ≡ some m → carries m ≡ true → holds e (source m) (number m) ≡ some (messageCue m)
 
--- the name in a message that was read is in range
-pub record InRange (m : Meaning) : Type 0 where
-  pub source : source m < 8
-  pub number : number m < 64
+-- an answer that leaves the output alone
+pub untouched-quiet : (e e′ : End) (a : Effect) → classOf a ≡ Untouched → Same e e′ → Quiet e (give a e′)
+unfolding isGot
+untouched-quiet e e′ a h v = record {
+  same = v;
+  not-got = ap handsOut h;
+  out = λ x p. let u : Untouched ≡ PutsOut x = sym h ∙ p in let z : _≡_ {A = ℕ} 0 1 = cc in absurd (omega arith);
+}
 
-module _ (in-range : (x : List ℕ) (m : Meaning) → readAs x ≡ some m → InRange m) where
-  pub quiet-right : {b : Book} {h : ℕ} {ev : Event} {e : End} {r : Step} → Rel b h e → Quiet e r → after b h ev ≡ b → due b h ev ≡ NeverGot → Right b h ev r
-  quiet-right {b} {h} {ev} {e} {r} q v k d =
-      calm-right q (v .same) k (rw d (v .not-got))
-      (λ x p m y z. q .filed (source m) (number m) (messageCue m) (in-range x m y .source) (in-range x m y .number) (v .out x p m y z))
+pub quiet-right : {b : Book} {h : ℕ} {ev : Action} {e : End} {r : Step} → Rel b h e → Quiet e r → after b h ev ≡ b → due b h ev ≡ NeverGot → Right b h ev r
+quiet-right {b} {h} {ev} {e} {r} q v k d =
+    calm-right q (v .same) k (rw d (v .not-got))
+    (λ x p m y z. q .filed (source m) (number m) (messageCue m) (in-range x m y .source) (v .out x p m y z))
 
 -- ---- 2. A cue was handed out.
 
@@ -78,30 +85,30 @@ or-false : (a : Bool) → a || false ≡ a
 or-false true = refl
 or-false false = refl
 
-module _ (b : Book) (h : ℕ) (e e′ : End) (s n : ℕ) (c : List ℕ) (q : Rel b h e) (v : Took e e′ s n c) (hs : s < 8) (hn : n < 64) where
+module _ (b : Book) (h : ℕ) (e e′ : End) (s n : ℕ) (c : List ℕ) (q : Rel b h e) (v : Took e e′ s n c) (hs : s < 8) where
   hand-handed : (k : ℕ) → hand b h s n .handed h k ≡ put (b .handed h) s (b .handed h s ++ (n ∷ [])) k
   unfolding hand
   hand-handed k = rw (put-same (b .handed) h (put (b .handed h) s (b .handed h s ++ (n ∷ []))))
 
-  took-filed : getElem? (b .filed s) n ≡ some c → (k j : ℕ) (c′ : List ℕ) → k < 8 → j < 64 → holds e′ k j ≡ some c′ → getElem? (b .filed k) j ≡ some c′
-  took-filed f k j c′ hk hj p = byTest (eqb k s && eqb j n)
+  took-filed : getElem? (b .filed s) n ≡ some c → (k j : ℕ) (c′ : List ℕ) → k < 8 → holds e′ k j ≡ some c′ → getElem? (b .filed k) j ≡ some c′
+  took-filed f k j c′ hk p = byTest (eqb k s && eqb j n)
       (λ t.
       let ks : k ≡ s = eqb-true k s (and-left (eqb k s) _ t) in
       let jn : j ≡ n = eqb-true j n (and-right (eqb k s) _ t) in
       let w : holds e′ s n ≡ some c = v .holds-there in
       cc)
-      (λ t. q .filed k j c′ hk hj (sym (v .holding k j hk hj t) ∙ p))
+      (λ t. q .filed k j c′ hk (sym (v .holding k j hk t) ∙ p))
 
-  took-handed : isMember (e .status) ≡ true → (k j : ℕ) → k < 8 → j < 64 → eqb h k ≡ false → isSome (holds e′ k j) ≡ among j (hand b h s n .handed h k)
+  took-handed : isMember (e .status) ≡ true → (k j : ℕ) → k < 8 → eqb h k ≡ false → isSome (holds e′ k j) ≡ among j (hand b h s n .handed h k)
   unfolding isSome
-  took-handed m k j hk hj d = rw (hand-handed k)
+  took-handed m k j hk d = rw (hand-handed k)
       (put-all (λ i l. i ≡ k → isSome (holds e′ i j) ≡ among j l) (b .handed h) s (b .handed h s ++ (n ∷ []))
       (λ i. rw (among-snoc j (b .handed h s) n)
       (byTest (eqb j n)
       (λ t. let jn : j ≡ n = eqb-true j n t in rw (t, jn, v .holds-there, or-true (among n (b .handed h s))))
-      (λ t. rw (t, or-false (among j (b .handed h s)), v .holding s j hs hj (rw (t, eq-eqb s s refl))) (q .handed m s j hs hj (rw i d)))))
+      (λ t. rw (t, or-false (among j (b .handed h s)), v .holding s j hs (rw (t, eq-eqb s s refl))) (q .handed m s j hs (rw i d)))))
       k
-      (λ t i. rw (v .holding k j hk hj (rw t)) (q .handed m k j hk hj d)) refl)
+      (λ t i. rw (v .holding k j hk (rw t)) (q .handed m k j hk d)) refl)
 
   took-firsts : isMember (e .status) ≡ true → (k : ℕ) → k < 8 → eqb h k ≡ false → firstAt e′ k ≡ firstOf (hand b h s n .handed h k)
   took-firsts m k hk d = rw (hand-handed k)
@@ -145,12 +152,12 @@ pub record Hears (h : ℕ) (e : End) (m : Meaning) (r : Step) : Type 0 where
   pub else : takes h e m ≡ false → Quiet e r
 
 -- the end's decision is the book's
-module _ (b : Book) (h : ℕ) (e : End) (q : Rel b h e) (s n : ℕ) (hs : s < 8) (hn : n < 64) (c : List ℕ) (f : getElem? (b .filed s) n ≡ some c) where
+module _ (b : Book) (h : ℕ) (e : End) (q : Rel b h e) (s n : ℕ) (hs : s < 8) (c : List ℕ) (f : getElem? (b .filed s) n ≡ some c) where
   limits-fresh : limits b h s n ≡ fresh h e s n
   unfolding limits fresh isSome
   limits-fresh =
       rw (← (q .status))
-      (byTest (isMember (e .status)) (λ m. byTest (eqb h s) (λ t. rw (m, t)) (λ t. rw (m, t, f, q .handed m s n hs hn t, q .firsts m s hs t))) (λ m. rw m))
+      (byTest (isMember (e .status)) (λ m. byTest (eqb h s) (λ t. rw (m, t)) (λ t. rw (m, t, f, q .handed m s n hs t, q .firsts m s hs t))) (λ m. rw m))
 
   -- where there is a fresh number, the firsts agree
   first-agrees : fresh h e s n ≡ true → firstAt e s ≡ firstOf (b .handed h s)
@@ -163,14 +170,14 @@ gets-takes : (b : Book) (h : ℕ) (e : End) → Rel b h e → (m : Meaning) → 
 unfolding gets takes
 gets-takes b h e q m r f = byTest (carries m)
     (λ c.
-    let l = limits-fresh b h e q (source m) (number m) (r .source) (r .number) (messageCue m) (f c) in
+    let l = limits-fresh b h e q (source m) (number m) (r .source) (messageCue m) (f c) in
     byTest (fresh h e (source m) (number m))
-    (λ t. rw (l, first-agrees b h e q (source m) (number m) (r .source) (r .number) (messageCue m) (f c) t))
+    (λ t. rw (l, first-agrees b h e q (source m) (number m) (r .source) (messageCue m) (f c) t))
     (λ t. simp (l, t, and-false)))
     (λ c. rw (or-left (isOriginal m) (isRepair m) c, or-right (isOriginal m) (isRepair m) c))
 
-got-not-out : (a : Effect) (name : Name) (c x : List ℕ) → a ≡ Got name c → a ≡ Out x → ⊥
-got-not-out a name c x p q = let z : _≡_ {A = ℕ} 0 1 = cc in omega arith
+got-not-out : (a : Effect) (name : Name) (c x : List ℕ) → a ≡ Got name c → classOf a ≡ PutsOut x → ⊥
+got-not-out a name c x p q = let z : HandsOut name c ≡ PutsOut x = sym (ap classOf p) ∙ q in let o : _≡_ {A = ℕ} 0 1 = cc in omega arith
 
 either-carries : (a b c : Bool) → a || (b && c) ≡ true → a || b ≡ true
 either-carries true b c h = refl
@@ -182,23 +189,22 @@ unfolding takes
 takes-carries h e m t =
     either-carries (isOriginal m) (isRepair m) (isSome (firstAt e (source m))) (and-left (isOriginal m || (isRepair m && isSome (firstAt e (source m)))) _ t)
 
-module _ (in-range : (x : List ℕ) (m : Meaning) → readAs x ≡ some m → InRange m) where
-  pub arrival-right : (b : Book) (h : ℕ) (e : End) (x : List ℕ) (m : Meaning) (r : Step) → Rel b h e → Filed b x → readAs x ≡ some m → Hears h e m r → Right b h (Arrival x) r
-  unfolding due after dueMessage afterMessage
-  arrival-right b h e x m r q f p v =
-      let i : InRange m = in-range x m p in
-      let g : gets b h m ≡ takes h e m = gets-takes b h e q m i (f m p) in
-      byTest (takes h e m)
-      (λ t.
-      let d = v .hands t in
-      let k : getElem? (b .filed (source m)) (number m) ≡ some (messageCue m) = f m p (takes-carries h e m t) in
-      record {
-        answered = rw (p, g, t) (d .0 ∙ ap (Got (messageName m)) (sym (getElem-getD (b .filed (source m)) (number m) (messageCue m) [] k)));
-        rel = rw (p, g, t) (took-rel b h e (r .left) (source m) (number m) (messageCue m) q (d .2) (i .source) (i .number) (d .1) k);
-        grows = rw (p, g, t) (hand-grows b h (source m) (number m));
-        filed = λ y z. absurd (got-not-out (r .effect) (messageName m) (messageCue m) y (d .0) z);
-      })
-      (λ t. quiet-right in-range q (v .else t) (rw (p, g, t)) (rw (p, g, t)))
+pub arrival-right : (b : Book) (h : ℕ) (e : End) (x : List ℕ) (m : Meaning) (r : Step) → Rel b h e → Filed b x → readAs x ≡ some m → Hears h e m r → Right b h (Arrival x) r
+unfolding due after dueMessage afterMessage
+arrival-right b h e x m r q f p v =
+    let i : InRange m = in-range x m p in
+    let g : gets b h m ≡ takes h e m = gets-takes b h e q m i (f m p) in
+    byTest (takes h e m)
+    (λ t.
+    let d = v .hands t in
+    let k : getElem? (b .filed (source m)) (number m) ≡ some (messageCue m) = f m p (takes-carries h e m t) in
+    record {
+      answered = rw (p, g, t) (d .0 ∙ ap (Got (messageName m)) (sym (getElem-getD (b .filed (source m)) (number m) (messageCue m) [] k)));
+      rel = rw (p, g, t) (took-rel b h e (r .left) (source m) (number m) (messageCue m) q (d .2) (i .source) (d .1) k);
+      grows = rw (p, g, t) (hand-grows b h (source m) (number m));
+      filed = λ y z. absurd (got-not-out (r .effect) (messageName m) (messageCue m) y (d .0) z);
+    })
+    (λ t. quiet-right q (v .else t) (rw (p, g, t)) (rw (p, g, t)))
 
 -- ---- 4. A cue was sent.
 
@@ -229,15 +235,15 @@ sent-rel b h c e r q v = record {
   host = v .took .host ∙ q .host;
   status = v .took .status ∙ q .status;
   next = rw (put-same (b .filed) h (b .filed h ++ (c ∷ [])), length-append) (v .next ∙ ap (λ (n : ℕ). n + 1) (q .next));
-  filed = λ k j a hk hj p. byTest (eqb k h && eqb j (e .next))
+  filed = λ k j a hk p. byTest (eqb k h && eqb j (e .next))
       (λ t.
       let kh : k ≡ h = eqb-true k h (and-left (eqb k h) _ t) in
       let jn : j ≡ e .next = eqb-true j (e .next) (and-right (eqb k h) _ t) in
       let w : holds (r .left) h (e .next) ≡ some c = v .took .holds-there in
       let n : getElem? (file b h c .filed h) (e .next) ≡ some c = filed-new b h c e q in
       cc)
-      (λ t. file-grows b h c .filed k j a (q .filed k j a hk hj (sym (v .took .holding k j hk hj t) ∙ p)));
-  handed = λ m s n hs hn d. rw (v .took .holding s n hs hn (rw (eqb-flip h s d))) (q .handed (ap isMember (sym (v .took .status)) ∙ m) s n hs hn d);
+      (λ t. file-grows b h c .filed k j a (q .filed k j a hk (sym (v .took .holding k j hk t) ∙ p)));
+  handed = λ m s n hs d. rw (v .took .holding s n hs (rw (eqb-flip h s d))) (q .handed (ap isMember (sym (v .took .status)) ∙ m) s n hs d);
   firsts = λ m s hs d. rw (v .took .firsts s hs (eqb-flip h s d)) (q .firsts (ap isMember (sym (v .took .status)) ∙ m) s hs d);
 }
 
@@ -259,20 +265,20 @@ send-right b h c e r q m v =
       answered = rw (bm, ← (q .next)) (v .bytes, v .answer, v .message);
       rel = rw bm (sent-rel b h c e r q v);
       grows = rw bm (file-grows b h c);
-      filed = λ x p. rw bm (let bx : v .bytes ≡ x = cc (v .answer, p) in rw bx at (sent-filed b h c e (v .bytes) q (v .message)));
+      filed = λ x p. rw bm (let bx : PutsOut (v .bytes) ≡ PutsOut x = sym (ap classOf (v .answer)) ∙ p in let same : v .bytes ≡ x = cc in rw same at (sent-filed b h c e (v .bytes) q (v .message)));
     }
 
 -- ---- 5. The status moved.
 
-pub record Moved (m : Moving) (e e′ : End) : Type 0 where
+pub record Moved (m : Move) (e e′ : End) : Type 0 where
   pub host : e′ .host .0 ≡ e .host .0
   pub status : e′ .status ≡ movesTo m
   pub next : e′ .next ≡ e .next
-  pub holding : (s n : ℕ) (c : List ℕ) → s < 8 → n < 64 → holds e′ s n ≡ some c → holds e s n ≡ some c
-  pub empty : isMember (movesTo m) ≡ true → (s n : ℕ) → s < 8 → n < 64 → holds e′ s n ≡ none
+  pub holding : (s n : ℕ) (c : List ℕ) → s < 8 → holds e′ s n ≡ some c → holds e s n ≡ some c
+  pub empty : isMember (movesTo m) ≡ true → (s n : ℕ) → s < 8 → holds e′ s n ≡ none
   pub no-first : isMember (movesTo m) ≡ true → (s : ℕ) → s < 8 → firstAt e′ s ≡ none
 
-joined-clears : (m : Moving) → isMember (movesTo m) ≡ true → (f : ℕ → List ℕ) (s : ℕ) → clearedBy m f s ≡ []
+joined-clears : (m : Move) → isMember (movesTo m) ≡ true → (f : ℕ → List ℕ) (s : ℕ) → clearedBy m f s ≡ []
 unfolding clearedBy
 joined-clears Join h f s = clash′ h
 joined-clears Joined h f s = refl
@@ -280,22 +286,22 @@ joined-clears Leave h f s = clash′ h
 joined-clears Left h f s = clash′ h
 joined-clears Crash h f s = clash′ h
 
-moved-rel : (b : Book) (h : ℕ) (m : Moving) (e e′ : End) → Rel b h e → Moved m e e′ → Rel (movedBook b h m) h e′
+moved-rel : (b : Book) (h : ℕ) (m : Move) (e e′ : End) → Rel b h e → Moved m e e′ → Rel (movedBook b h m) h e′
 unfolding movedBook isSome among firstOf
 moved-rel b h m e e′ q v = record {
   host = v .host ∙ q .host;
   status = rw (put-same (b .status) h (movesTo m)) (v .status);
   next = v .next ∙ q .next;
-  filed = λ s n c hs hn p. q .filed s n c hs hn (v .holding s n c hs hn p);
-  handed = λ x s n hs hn d.
+  filed = λ s n c hs p. q .filed s n c hs (v .holding s n c hs p);
+  handed = λ x s n hs d.
       let mm : isMember (movesTo m) ≡ true = ap isMember (sym (v .status)) ∙ x in
-      rw (put-same (b .handed) h (clearedBy m (b .handed h)), joined-clears m mm (b .handed h) s, v .empty mm s n hs hn);
+      rw (put-same (b .handed) h (clearedBy m (b .handed h)), joined-clears m mm (b .handed h) s, v .empty mm s n hs);
   firsts = λ x s hs d.
       let mm : isMember (movesTo m) ≡ true = ap isMember (sym (v .status)) ∙ x in
       rw (put-same (b .handed) h (clearedBy m (b .handed h)), joined-clears m mm (b .handed h) s, v .no-first mm s hs);
 }
 
-moved-grows : (b : Book) (h : ℕ) (m : Moving) → Grows h b (movedBook b h m)
+moved-grows : (b : Book) (h : ℕ) (m : Move) → Grows h b (movedBook b h m)
 unfolding movedBook
 moved-grows b h m = record {
   status = λ k d. put-other (b .status) h (movesTo m) k d;
@@ -304,7 +310,7 @@ moved-grows b h m = record {
   filed = λ k n c p. p;
 }
 
-pub move-right : (b : Book) (h : ℕ) (m : Moving) (e : End) (r : Step) → Rel b h e → moves m (e .status) ≡ true → r .effect ≡ Done → Moved m e (r .left) → Right b h (Move m) r
+pub move-right : (b : Book) (h : ℕ) (m : Move) (e : End) (r : Step) → Rel b h e → moves m (e .status) ≡ true → r .effect ≡ Done → Moved m e (r .left) → Right b h (Moves m) r
 unfolding due after
 move-right b h m e r q t a v =
     let bt : moves m (b .status h) ≡ true = ap (moves m) (sym (q .status)) ∙ t in
@@ -312,5 +318,5 @@ move-right b h m e r q t a v =
       answered = rw bt a;
       rel = rw bt (moved-rel b h m e (r .left) q v);
       grows = rw bt (moved-grows b h m);
-      filed = λ x p. let z : _≡_ {A = ℕ} 0 1 = cc (a, p) in absurd (omega arith);
+      filed = λ x p. let u : Untouched ≡ PutsOut x = sym (ap classOf a) ∙ p in let z : _≡_ {A = ℕ} 0 1 = cc in absurd (omega arith);
     }

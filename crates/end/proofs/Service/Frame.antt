@@ -6,7 +6,7 @@ use mathlib.Core.Logic.{⊎-elim}
 use mathlib.Core.Option.{none}
 use Prim.Native.Nat.{ℕ, zero, suc, _<_}
 use native.Mathlib.Omega.{arith}
-use lib.ListN.{length, getD, replicate, getD-replicate}
+use lib.ListN.{length, getD}
 use lib.Dec.{eqb, leb}
 use borrow.Author.Tests.{eqb-true, ltb-true}
 use Rattle.message.specs.Entry.{asHost}
@@ -15,19 +15,20 @@ use Rattle.message.specs.declared.Verdict.the-variants as verdict
 use Rattle.message.proofs.QuestionLaws.{all-passed}
 use Rattle.end.specs.declared.Params.{Params}
 use Rattle.end.specs.declared.Status.the-variants.{Idle}
-use Rattle.end.specs.declared.Span.the-variants.{Closed}
-use Rattle.end.specs.declared.Source.{Source}
 use Rattle.end.specs.declared.End.{End}
 use Rattle.end.specs.declared.Opened.{Opened}
-use Rattle.end.specs.State.{noRecord, noSource, blankRecord, blankNames, unheard, unheardSources, freshEnd}
+use Rattle.end.specs.State.{noSource, unheardSources, freshEnd}
 use Rattle.end.specs.Sound.{soundOf}
-use Rattle.end.specs.Arrival.{Effect, Out, Got, Done, Ignored, Nothing}
-use Rattle.end.specs.Event.{Event, Move, Send, Arrival, Else, Outcome, Refused, Did, Result, done, timing, stepOf, ownQuestions, questionOf, eventOf}
+use Rattle.end.specs.Answer.{Effect, Class, PutsOut, HandsOut, Untouched, classIn, Refused, Did, Result, done}
+use Rattle.end.specs.Round.{drawCount}
+use Rattle.end.specs.Event.{Action, Moves, Send, Arrival, Else, stepOf, ownQuestions, questionOf, eventOf}
 use Rattle.end.specs.Opening.{openRefusal, endFor, openingOf}
 use Rattle.end.specs.Book.{Book, emptyBook, Answered, RunFrom, bookAfter, after, firstOf, isSome, among}
-use Rattle.end.specs.Run.{World, Call, resultOf, sentAfter, worldAfter, seen, CueArray, Brought, Allowed, Fresh, Service}
-use Rattle.end.proofs.Service.Tools.{byCond, put-all, set-elim}
-use Rattle.end.proofs.Service.View.{heldIn, heldAt, holds, firstIn, firstAt, Rel, Filed, Grows, Right, grows-refl}
+use Rattle.end.specs.Run.{World, Call, resultOf, sentBy, sentAfter, worldAfter, seen, CueArray, Brought, Allowed, Fresh, Service}
+use Rattle.end.proofs.Tools.{byCond, put-all}
+use Rattle.end.proofs.Facts.{unheard-at}
+use Rattle.end.proofs.Service.Sources.{outside-none}
+use Rattle.end.proofs.Service.View.{holds, firstIn, firstAt, Rel, Filed, Grows, Right, grows-refl}
 
 -- the ends against the book; all that was put out carries the filed cues
 pub record Inv (w : World) (b : Book) : Type 0 where
@@ -35,21 +36,21 @@ pub record Inv (w : World) (b : Book) : Type 0 where
   pub sent : (x : List ℕ) → List·Memᴰ x (w .sent) → Filed b x
 
 -- what a call that was not refused has passed: questions 3 and 4, and the event's own
-pub record Passed (e : End) (ev : Event) (clock : ℕ) : Type 0 where
+pub record Passed (e : End) (ev : Action) (clock : ℕ) : Type 0 where
   pub sound : soundOf e ≡ true
   pub ticks : clock < 281474976710656
   pub own : firstNo (ownQuestions ev e) ≡ 0
 
-pub passes : (e : End) (ev : Event) (clock room draws : ℕ) → questionOf e ev clock room draws ≡ 0 → Passed e ev clock
+pub passes : (e : End) (ev : Action) (clock room draws : ℕ) → questionOf e ev clock room draws ≡ 0 → Passed e ev clock
 unfolding questionOf
 passes e ev clock room draws h =
     let own = ownQuestions ev e in
     let q5 = ask (leb (e .clock) clock) 5 ∷ own in
     let q4 = ask (ticksIn clock) 4 ∷ q5 in
     let q3 = ask (soundOf e) 3 ∷ q4 in
-    let q2 = ask (eqb draws 64) 2 ∷ q3 in
+    let q2 = ask (eqb draws drawCount) 2 ∷ q3 in
     let a1 = all-passed (leb 128 room) 1 q2 (omega arith) h .1 in
-    let a2 = all-passed (eqb draws 64) 2 q3 (omega arith) a1 .1 in
+    let a2 = all-passed (eqb draws drawCount) 2 q3 (omega arith) a1 .1 in
     let a3 = all-passed (soundOf e) 3 q4 (omega arith) a2 in
     let a4 = all-passed (ticksIn clock) 4 q5 (omega arith) (a3 .1) in
     let a5 = all-passed (leb (e .clock) clock) 5 own (omega arith) (a4 .1) in
@@ -61,59 +62,52 @@ rel-grows {b} {b′} {h} {k} {e} g d r = record {
   host = r .host;
   status = r .status ∙ sym (g .status k d);
   next = r .next ∙ sym (g .count k d);
-  filed = λ s n c hs hn q. g .filed s n c (r .filed s n c hs hn q);
-  handed = λ m s n hs hn q. rw (g .handed k s d) (r .handed m s n hs hn q);
+  filed = λ s n c hs q. g .filed s n c (r .filed s n c hs q);
+  handed = λ m s n hs q. rw (g .handed k s d) (r .handed m s n hs q);
   firsts = λ m s hs q. rw (g .handed k s d) (r .firsts m s hs q);
 }
 
 -- what was put out before, and what this call put out
-sent-after : (P : List ℕ → Type 0) (o : Outcome) (l : List (List ℕ)) → ((x : List ℕ) → List·Memᴰ x l → P x) → ((x : List ℕ) → o ≡ Did (Out x) → P x)
-    → (x : List ℕ) → List·Memᴰ x (sentAfter o l) → P x
-unfolding sentAfter
-sent-after P (Refused k) l old new x m = old x m
-sent-after P (Did (Out y)) l old new x m = ⊎-elim (λ e. new x (ap (λ z. Did (Out z)) (sym e))) (old x) (List·Memᴰ·cases-cons m)
-sent-after P (Did (Got name c)) l old new x m = old x m
-sent-after P (Did Done) l old new x m = old x m
-sent-after P (Did Ignored) l old new x m = old x m
-sent-after P (Did Nothing) l old new x m = old x m
+sent-by : (P : List ℕ → Type 0) (o : Class) (l : List (List ℕ)) → ((x : List ℕ) → List·Memᴰ x l → P x) → ((x : List ℕ) → o ≡ PutsOut x → P x)
+    → (x : List ℕ) → List·Memᴰ x (sentBy o l) → P x
+sent-by P (PutsOut y) l old new x m = ⊎-elim (λ e. new x (ap PutsOut (sym e))) (old x) (List·Memᴰ·cases-cons m)
+sent-by P (HandsOut name c) l old new x m = old x m
+sent-by P Untouched l old new x m = old x m
 
-inv-after : (w : World) (b b′ : Book) (h : ℕ) (r : Result) → Inv w b → Grows h b b′ → Rel b′ h (r .left) → ((x : List ℕ) → r .outcome ≡ Did (Out x) → Filed b′ x) → Inv (worldAfter w h r) b′
-unfolding worldAfter
+inv-after : (w : World) (b b′ : Book) (h : ℕ) (r : Result) → Inv w b → Grows h b b′ → Rel b′ h (r .left) → ((x : List ℕ) → classIn (r .outcome) ≡ PutsOut x → Filed b′ x) → Inv (worldAfter w h r) b′
+unfolding worldAfter sentAfter
 inv-after w b b′ h r inv g q f = record {
   rel = λ k hk. put-all (Rel b′) (w .ends) h (r .left) q k (λ d. rel-grows g d (inv .rel k hk));
-  sent = sent-after (Filed b′) (r .outcome) (w .sent) (λ x m y p k. g .filed _ _ _ (inv .sent x m y p k)) f;
+  sent = sent-by (Filed b′) (classIn (r .outcome)) (w .sent) (λ x m y p k. g .filed _ _ _ (inv .sent x m y p k)) f;
 }
 
 -- one call: by the book, and the invariant is kept
-pub record Stepped (w : World) (b : Book) (h : ℕ) (ev : Event) (r : Result) : Type 0 where
+pub record Stepped (w : World) (b : Book) (h : ℕ) (ev : Action) (r : Result) : Type 0 where
   pub answered : Answered b h ev (r .outcome)
   pub status : r .left .status ≡ bookAfter b h ev (r .outcome) .status h
   pub inv : Inv (worldAfter w h r) (bookAfter b h ev (r .outcome))
 
 -- what is to be shown of the events: on an end that passed the questions and agrees with the book, each is by the book
 abbrev pub EventsRight : Type 0
-EventsRight = (b : Book) (e : End) (h clock : ℕ) (draws : List ℕ) (ev : Event) → h < 8 → CueArray ev → Passed e ev clock → Rel b h e
-    → ((x : List ℕ) → ev ≡ Arrival x → Filed b x) → Right b h ev (stepOf (timing e clock draws) ev e)
+EventsRight = (b : Book) (e : End) (h clock : ℕ) (draws : List ℕ) (ev : Action) → h < 8 → CueArray ev → Passed e ev clock → Rel b h e
+    → ((x : List ℕ) → ev ≡ Arrival x → Filed b x) → Right b h ev (stepOf clock draws ev e)
 
 -- what an Arrival brings carries the filed cue
-brought-filed : (w : World) (b : Book) (ev : Event) (a : Effect) → Inv w b → Brought (w .sent) ev (Did a) → (x : List ℕ) → ev ≡ Arrival x → Filed b x
-brought-filed w b (Move m) a inv p x e = let z : _≡_ {A = ℕ} 0 1 = cc in absurd (omega arith)
+brought-filed : (w : World) (b : Book) (ev : Action) (a : Effect) → Inv w b → Brought (w .sent) ev (Did a) → (x : List ℕ) → ev ≡ Arrival x → Filed b x
+brought-filed w b (Moves m) a inv p x e = let z : _≡_ {A = ℕ} 0 1 = cc in absurd (omega arith)
 brought-filed w b (Send c) a inv p x e = let z : _≡_ {A = ℕ} 0 1 = cc in absurd (omega arith)
 brought-filed w b (Arrival y) a inv p x e = let q : y ≡ x = cc in rw q at (inv .sent y p)
 brought-filed w b (Else o) a inv p x e = let z : _≡_ {A = ℕ} 0 1 = cc in absurd (omega arith)
 
-did-out : (a : Effect) (x : List ℕ) → Did a ≡ Did (Out x) → a ≡ Out x
-did-out a x p = cc
-
 module _ (events : EventsRight) where
-  stepped : (w : World) (b : Book) (c : Call) → Inv w b → c .host < 8 → CueArray (c .event) → Brought (w .sent) (c .event) (resultOf w c .outcome)
-      → Stepped w b (c .host) (c .event) (resultOf w c)
+  stepped : (w : World) (b : Book) (c : Call) → Inv w b → c .host < 8 → CueArray (c .action) → Brought (w .sent) (c .action) (resultOf w c .outcome)
+      → Stepped w b (c .host) (c .action) (resultOf w c)
   unfolding resultOf eventOf bookAfter
   stepped w b c inv hh array =
       let h = c .host in
-      let ev = c .event in
+      let ev = c .action in
       let e = w .ends h in
-      let step = stepOf (timing e (c .clock) (c .draws)) ev e in
+      let step = stepOf (c .clock) (c .draws) ev e in
       byCond (λ r. Brought (w .sent) ev (r .outcome) → Stepped w b h ev r) (eqb (questionOf e ev (c .clock) (length (c .output)) (length (c .draws))) 0)
       (λ t br.
       let z : Passed e ev (c .clock) = passes e ev (c .clock) (length (c .output)) (length (c .draws)) (eqb-true _ _ t) in
@@ -121,7 +115,7 @@ module _ (events : EventsRight) where
       record {
         answered = r .answered;
         status = r .rel .status;
-        inv = inv-after w b (after b h ev) h (done step) inv (r .grows) (r .rel) (λ x p. r .filed x (did-out (step .effect) x p));
+        inv = inv-after w b (after b h ev) h (done step) inv (r .grows) (r .rel) (r .filed);
       })
       (λ t br. record {
         answered = tt;
@@ -134,23 +128,17 @@ module _ (events : EventsRight) where
   unfolding seen
   runs [] w b inv a = tt
   runs (c ∷ cs) w b inv a =
-      let s : Stepped w b (c .host) (c .event) (resultOf w c) = stepped w b c inv (a .0) (a .1) (a .2) in (
+      let s : Stepped w b (c .host) (c .action) (resultOf w c) = stepped w b c inv (a .0) (a .1) (a .2) in (
         s .answered,
         s .status,
-        runs cs (worldAfter w (c .host) (resultOf w c)) (bookAfter b (c .host) (c .event) (resultOf w c .outcome)) (s .inv) (a .3),
+        runs cs (worldAfter w (c .host) (resultOf w c)) (bookAfter b (c .host) (c .action) (resultOf w c .outcome)) (s .inv) (a .3),
       )
 
 -- ---- the start
 
--- each of the eight sources of which nothing is kept
-pub unheard-at : (me s : ℕ) → s < 8 → (getD (unheardSources me) s noSource .span ≡ Closed) × (getD (unheardSources me) s noSource .names ≡ blankNames)
-unheard-at me s hs =
-    set-elim (λ (y : Source). (y .span ≡ Closed) × (y .names ≡ blankNames)) (replicate 8 (unheard 40)) me s (unheard 0) noSource (λ i. (refl, refl))
-    (rw (getD-replicate 8 s (unheard 40) noSource hs) (refl, refl))
-
-pub none-held : (e : End) → e .sources ≡ unheardSources (e .host .0) → (s n : ℕ) → s < 8 → n < 64 → holds e s n ≡ none
-unfolding holds heldAt heldIn
-none-held e p s n hs hn = rw (p, unheard-at (e .host .0) s hs .1, getD-replicate 64 n blankRecord noRecord hn)
+pub none-held : (e : End) → e .sources ≡ unheardSources (e .host .0) → (s n : ℕ) → s < 8 → holds e s n ≡ none
+unfolding holds
+none-held e p s n hs = outside-none (getD (e .sources) s noSource) n (rw (p, unheard-at (e .host .0) s hs .0))
 
 pub none-first : (e : End) → e .sources ≡ unheardSources (e .host .0) → (s : ℕ) → s < 8 → firstAt e s ≡ none
 unfolding firstAt firstIn
@@ -162,8 +150,8 @@ fresh-rel h p = record {
   host = refl;
   status = refl;
   next = refl;
-  filed = λ s n c hs hn q. sym (none-held (freshEnd (asHost h) p Idle) refl s n hs hn) ∙ q;
-  handed = λ m s n hs hn d. rw (none-held (freshEnd (asHost h) p Idle) refl s n hs hn);
+  filed = λ s n c hs q. sym (none-held (freshEnd (asHost h) p Idle) refl s n hs) ∙ q;
+  handed = λ m s n hs d. rw (none-held (freshEnd (asHost h) p Idle) refl s n hs);
   firsts = λ m s hs d. none-first (freshEnd (asHost h) p Idle) refl s hs;
 }
 

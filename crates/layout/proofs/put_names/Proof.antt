@@ -1,67 +1,33 @@
--- `layout::put_names` meets its contract: after i turns the first i entries are written.
-use borrow.Author.Needs.{needs}
-use mathlib.Core.Path.{_≡_, refl, sym, _∙_}
-use Prim.Native.Nat.{_-_, _≤_}
+-- `layout::put_names` meets its contract: the count, and after i turns the first i entries.
+use Prim.Native.Nat.{_+_, _-_}
 use native.Mathlib.Omega.{arith}
-use lib.ListN.{length, take}
-use Rattle.numbers.specs.Splice.{splice}
-use Rattle.numbers.proofs.SpliceLaws.{splice-nil}
-use Rattle.message.specs.Section.{flat}
-use Rattle.message.specs.Entry.{nameBytes, blankName}
-use Rattle.message.proofs.EntryLaws.{length-name}
-use Rattle.layout.proofs.PutLaws.{put-turn}
+use mathlib.Core.Path.{refl}
+use borrow.Author.Needs.{needs}
+use Rattle.message.specs.Entry.{nameBytes, nameWidth, blankName}
+use Rattle.message.specs.Message.{namePlaces}
+use Rattle.layout.proofs.PutLaws.{PutSoFar, put-start, entry-room, entry-put, section-put}
 use Rattle.layout.proofs.put_names.Statement.{statement}
 use Rattle.layout.proofs.put_names.Tie as tie
 
 abbrev Inv-loop : tie.InvT-loop
-Inv-loop out₀ at n names i₀ out i = (i ≤ n) × (length out ≡ length out₀) × (out ≡ splice at (flat (nameBytes 1) (take i names)) out₀)
+Inv-loop start at w n names i₀ out i = PutSoFar (nameBytes w) (nameWidth w) names n (at + 1) start out i
 
 abbrev μ-loop : tie.MeasureT-loop
-μ-loop out₀ at n names i₀ out i = n - i
+μ-loop start at w n names i₀ out i = n - i
 
 loop-holds : tie.Need-loop-holds Inv-loop μ-loop
-unfolding flat
-loop-holds c = (omega arith, refl, sym (splice-nil _ _))
-
-mul-name : tie.Need-mul-name Inv-loop μ-loop
-mul-name c = omega arith
-
-array-copy-out-name : tie.Need-array-copy-out-name Inv-loop μ-loop
-array-copy-out-name c = omega arith
-
-mul-put-name : tie.Need-mul-put-name Inv-loop μ-loop
-mul-put-name c = omega arith
-
-add-put-name : tie.Need-add-put-name Inv-loop μ-loop
-add-put-name c = omega arith
-
-put-name-requires : tie.Need-put-name-requires Inv-loop μ-loop
-put-name-requires c κs = omega arith
-
-add-i : tie.Need-add-i Inv-loop μ-loop
-add-i c = omega arith
-
-loop-less : tie.Need-loop-less Inv-loop μ-loop
-loop-less c = omega arith
+loop-holds c = put-start namePlaces (search needs) (omega arith) (omega arith)
 
 loop-again : tie.Need-loop-again Inv-loop μ-loop
 loop-again c =
-    let a = c .before .before .before .before .before .before .before .before .args in
-    let l = c .before .before .before .before .before .before .loop in
-    let p = c .before .before .put-name in
-    let k : length (a .t4) ≡ 1 = search needs in (
-      omega arith,
-      p .kept .0 ∙ l .inv .1,
-      put-turn (nameBytes 1) 3 (length-name 1) (a .t4) (l .i) (a .at) blankName (a .out .now) (l .out) (p .last .0) (omega arith) (omega arith) (l .inv .2) (p .ensures),
-    )
-
-same-length : tie.Need-same-length Inv-loop μ-loop
-same-length c = c .before .loop .inv .1
+    let p = c .before .before in
+    let t = p .before .before .before .before in
+    entry-put (t .loop .inv) blankName (omega arith) (p .put-name .kept .0) refl (p .put-name .ensures)
 
 returns : tie.Need-returns Inv-loop μ-loop
 returns c =
-    let e : c .before .loop .i ≡ c .before .before .before .args .n = omega arith in
-    rw (← e) (c .before .loop .inv .2)
+    let l = c .before in
+    section-put (l .loop .inv) (omega arith) (omega arith) refl (l .before .before .before .put-byte .ensures)
 
 pub put-names-spec : {M : Type 1} → statement M
 put-names-spec =
@@ -69,14 +35,18 @@ put-names-spec =
     (tie.spec
     Inv-loop
     μ-loop
+    (λ c. search needs)
+    (λ c κs. search needs)
     loop-holds
-    mul-name
-    array-copy-out-name
-    mul-put-name
-    add-put-name
-    put-name-requires
-    add-i
-    loop-less
+    (λ c. omega (arith, entry-room (c .before .loop .inv) (omega arith)))
+    (λ c. omega (arith, entry-room (c .before .loop .inv) (omega arith)))
+    (λ c. omega (arith, entry-room (c .before .loop .inv) (omega arith)))
+    (λ c. omega (arith, entry-room (c .before .loop .inv) (omega arith)))
+    (λ c. omega arith)
+    (λ c. omega arith)
+    (λ c κs. omega (arith, entry-room (c .before .before .before .loop .inv) (omega arith)))
+    (λ c. omega arith)
+    (λ c. omega arith)
     loop-again
-    same-length
+    (λ c. omega arith)
     returns)

@@ -1,67 +1,33 @@
--- `layout::put_reports` meets its contract: after i turns the first i entries are written.
-use borrow.Author.Needs.{needs}
-use mathlib.Core.Path.{_≡_, refl, sym, _∙_}
-use Prim.Native.Nat.{_-_, _≤_}
+-- `layout::put_reports` meets its contract: the count, and after i turns the first i entries.
+use Prim.Native.Nat.{_+_, _-_}
 use native.Mathlib.Omega.{arith}
-use lib.ListN.{length, take}
-use Rattle.numbers.specs.Splice.{splice}
-use Rattle.numbers.proofs.SpliceLaws.{splice-nil}
-use Rattle.message.specs.Section.{flat}
-use Rattle.message.specs.Entry.{reportBytes, blankReport}
-use Rattle.message.proofs.EntryLaws.{length-report}
-use Rattle.layout.proofs.PutLaws.{put-turn}
+use mathlib.Core.Path.{refl}
+use borrow.Author.Needs.{needs}
+use Rattle.message.specs.Entry.{reportBytes, reportWidth, blankReport}
+use Rattle.message.specs.Message.{reportPlaces}
+use Rattle.layout.proofs.PutLaws.{PutSoFar, put-start, entry-room, entry-put, section-put}
 use Rattle.layout.proofs.put_reports.Statement.{statement}
 use Rattle.layout.proofs.put_reports.Tie as tie
 
 abbrev Inv-loop : tie.InvT-loop
-Inv-loop out₀ at n reports i₀ out i = (i ≤ n) × (length out ≡ length out₀) × (out ≡ splice at (flat (reportBytes 1) (take i reports)) out₀)
+Inv-loop start at w n reports i₀ out i = PutSoFar (reportBytes w) (reportWidth w) reports n (at + 1) start out i
 
 abbrev μ-loop : tie.MeasureT-loop
-μ-loop out₀ at n reports i₀ out i = n - i
+μ-loop start at w n reports i₀ out i = n - i
 
 loop-holds : tie.Need-loop-holds Inv-loop μ-loop
-unfolding flat
-loop-holds c = (omega arith, refl, sym (splice-nil _ _))
-
-mul-report : tie.Need-mul-report Inv-loop μ-loop
-mul-report c = omega arith
-
-array-copy-out-report : tie.Need-array-copy-out-report Inv-loop μ-loop
-array-copy-out-report c = omega arith
-
-mul-put-report : tie.Need-mul-put-report Inv-loop μ-loop
-mul-put-report c = omega arith
-
-add-put-report : tie.Need-add-put-report Inv-loop μ-loop
-add-put-report c = omega arith
-
-put-report-requires : tie.Need-put-report-requires Inv-loop μ-loop
-put-report-requires c κs = omega arith
-
-add-i : tie.Need-add-i Inv-loop μ-loop
-add-i c = omega arith
-
-loop-less : tie.Need-loop-less Inv-loop μ-loop
-loop-less c = omega arith
+loop-holds c = put-start reportPlaces (search needs) (omega arith) (omega arith)
 
 loop-again : tie.Need-loop-again Inv-loop μ-loop
 loop-again c =
-    let a = c .before .before .before .before .before .before .before .before .args in
-    let l = c .before .before .before .before .before .before .loop in
-    let p = c .before .before .put-report in
-    let k : length (a .t4) ≡ 8 = search needs in (
-      omega arith,
-      p .kept .0 ∙ l .inv .1,
-      put-turn (reportBytes 1) 2 (length-report 1) (a .t4) (l .i) (a .at) blankReport (a .out .now) (l .out) (p .last .0) (omega arith) (omega arith) (l .inv .2) (p .ensures),
-    )
-
-same-length : tie.Need-same-length Inv-loop μ-loop
-same-length c = c .before .loop .inv .1
+    let p = c .before .before in
+    let t = p .before .before .before .before in
+    entry-put (t .loop .inv) blankReport (omega arith) (p .put-report .kept .0) refl (p .put-report .ensures)
 
 returns : tie.Need-returns Inv-loop μ-loop
 returns c =
-    let e : c .before .loop .i ≡ c .before .before .before .args .n = omega arith in
-    rw (← e) (c .before .loop .inv .2)
+    let l = c .before in
+    section-put (l .loop .inv) (omega arith) (omega arith) refl (l .before .before .before .put-byte .ensures)
 
 pub put-reports-spec : {M : Type 1} → statement M
 put-reports-spec =
@@ -69,14 +35,18 @@ put-reports-spec =
     (tie.spec
     Inv-loop
     μ-loop
+    (λ c. search needs)
+    (λ c κs. search needs)
     loop-holds
-    mul-report
-    array-copy-out-report
-    mul-put-report
-    add-put-report
-    put-report-requires
-    add-i
-    loop-less
+    (λ c. omega (arith, entry-room (c .before .loop .inv) (omega arith)))
+    (λ c. omega (arith, entry-room (c .before .loop .inv) (omega arith)))
+    (λ c. omega (arith, entry-room (c .before .loop .inv) (omega arith)))
+    (λ c. omega (arith, entry-room (c .before .loop .inv) (omega arith)))
+    (λ c. omega arith)
+    (λ c. omega arith)
+    (λ c κs. omega (arith, entry-room (c .before .before .before .loop .inv) (omega arith)))
+    (λ c. omega arith)
+    (λ c. omega arith)
     loop-again
-    same-length
+    (λ c. omega arith)
     returns)

@@ -8,21 +8,22 @@ use Rattle.lines.proofs.feed.Tie as tie
 
 returns : tie.Need-returns
 unfolding fedOf
-returns c = rw (eq-eqb (c .before .args .b) 10 (c .if1 .taken)) (refl, refl)
-
-element-write-line : tie.Need-element-write-line
-element-write-line c = search needs
-
-add-t8 : tie.Need-add-t8
-add-t8 c = search needs
+returns c = rw (eq-eqb _ 10 (c .if1 .taken)) (refl, refl)
 
 returns-2 : tie.Need-returns-2
 unfolding fedOf
-returns-2 c = rw (ne-eqb (c .before .before .args .b) 10 (c .before .if1 .left), lt-ltb (c .before .before .args .len) 34 (c .if2 .taken)) (refl, refl)
+returns-2 c = rw (ne-eqb _ 10 (c .before .if1 .left), lt-ltb _ 34 (c .if2 .taken)) (refl, refl)
 
 returns-3 : tie.Need-returns-3
 unfolding fedOf
-returns-3 c = rw (ne-eqb (c .before .before .args .b) 10 (c .before .if1 .left), le-ltb (c .before .before .args .len) 34 (c .if2 .left)) (refl, refl)
+returns-3 c = rw (ne-eqb _ 10 (c .before .if1 .left), le-ltb _ 34 (c .if2 .left)) (refl, refl)
 
 pub feed-spec : {M : Type 1} → statement M
-feed-spec = tie.close (tie.spec returns element-write-line add-t8 returns-2 returns-3)
+feed-spec =
+    tie.close
+    (tie.spec
+    returns
+    (λ c. search needs)
+    (λ c. search needs)
+    returns-2
+    returns-3)

@@ -1,13 +1,13 @@
 -- `lines::take_line` meets its contract. What is left of the bytes, taken into the line so far, is what the whole gives.
 use mathlib.Core.Path.{_≡_, refl, sym, ap, _∙_}
 use mathlib.Core.List.{List}
-use Prim.Native.Nat.{ℕ, _+_, _-_}
+use Prim.Native.Nat.{ℕ, _+_, _-_, _<_}
 use native.Mathlib.Omega.{arith}
 use lib.ListN.{length, take, drop}
-use borrow.Author.Needs.{needs}
 use Rattle.lines.specs.declared.Fed.the-variants.{Whole, TooLong}
 use Rattle.lines.specs.Cut.{cutOf, lineCut}
 use Rattle.lines.proofs.CutLaws.{inside, outside, cut-more, cut-ended}
+use borrow.Author.Needs.{needs}
 use Rattle.lines.proofs.take_line.Statement.{statement}
 use Rattle.lines.proofs.take_line.Tie as tie
 
@@ -19,72 +19,72 @@ Inv-loop buffer from until line₀ len at₀ n₀ line at n =
 abbrev μ-loop : tie.MeasureT-loop
 μ-loop buffer from until line₀ len at₀ n₀ line at n = length buffer - at
 
+-- a byte was fed: the turn that it was fed in, the byte's place and what it was taken from
+abbrev turn : tie.After-feed Inv-loop μ-loop → tie.At-loop Inv-loop μ-loop
+turn f = f .before .before .before .before
+
+abbrev place : tie.After-feed Inv-loop μ-loop → ℕ
+place f = turn f .loop .at
+
+abbrev end : tie.After-feed Inv-loop μ-loop → ℕ
+end f = turn f .before .before .args .until
+
+abbrev bytes : tie.After-feed Inv-loop μ-loop → List ℕ
+bytes f = turn f .before .before .args .buffer .now
+
+there : (f : tie.After-feed Inv-loop μ-loop) → (place f < end f) × (place f < length (bytes f))
+there f = inside (place f) (end f) (length (bytes f)) (f .before .before .before .loop-test .taken)
+
 loop-holds : tie.Need-loop-holds Inv-loop μ-loop
 loop-holds c = (refl, refl)
 
 shared-slice-read-b : tie.Need-shared-slice-read-b Inv-loop μ-loop
-shared-slice-read-b c =
-    let a = c .before .before .before .before .args in
-    inside (c .before .before .loop .at) (a .until) (length (a .buffer .now)) (c .before .loop-test .taken) .1
+shared-slice-read-b c = inside _ _ _ (c .before .loop-test .taken) .1
 
 add-at : tie.Need-add-at Inv-loop μ-loop
 add-at c =
-    let a = c .before .before .before .before .args in
-    let h = inside (c .before .before .loop .at) (a .until) (length (a .buffer .now)) (c .before .loop-test .taken) .1 in
+    let t = c .before .before in
+    let a = t .before .before .args in
+    let h = inside (t .loop .at) (a .until) (length (a .buffer .now)) (c .before .loop-test .taken) .1 in
     omega arith
-
-feed-requires : tie.Need-feed-requires Inv-loop μ-loop
-feed-requires c κs = search needs
-
-enum-known-m : tie.Need-enum-known-m Inv-loop μ-loop
-enum-known-m c = search needs
 
 loop-less : tie.Need-loop-less Inv-loop μ-loop
 loop-less c =
-    let a = c .before .before .before .before .before .before .before .before .before .args in
-    let h = inside (c .before .before .before .before .before .before .before .loop .at) (a .until) (length (a .buffer .now)) (c .before .before .before .before .before .before .loop-test .taken) .1 in
+    let h = there (c .before .before .before) .1 in
     omega arith
 
 loop-again : tie.Need-loop-again Inv-loop μ-loop
 loop-again c =
-    let a = c .before .before .before .before .before .before .before .before .before .args in
-    let l = c .before .before .before .before .before .before .before .loop in
-    let f = c .before .before .before .feed in
-    let h = inside (l .at) (a .until) (length (a .buffer .now)) (c .before .before .before .before .before .before .loop-test .taken) in
+    let f = c .before .before .before in
+    let l = turn f .loop in
+    let h = there f in
     let x = c .before .m .given in
-    let p = cut-more (a .buffer .now) (a .until) (l .at) (l .n) (l .line) (h .0) (h .1) (x .0 .0) (sym (f .ensures .0) ∙ x .1) in
-    (p .0 ∙ l .inv .0, ap (lineCut (drop (l .at + 1) (take (a .until) (a .buffer .now))) (x .0 .0)) (f .ensures .1) ∙ p .1 ∙ l .inv .1)
-
-enum-known-m-2 : tie.Need-enum-known-m-2 Inv-loop μ-loop
-enum-known-m-2 c = search needs
+    let p = cut-more (bytes f) (end f) (place f) (l .n) (l .line) (h .0) (h .1) (x .0 .0) (sym (f .feed .ensures .0) ∙ x .1) in
+    (p .0 ∙ l .inv .0, ap (lineCut (drop (place f + 1) (take (end f) (bytes f))) (x .0 .0)) (f .feed .ensures .1) ∙ p .1 ∙ l .inv .1)
 
 returns : tie.Need-returns Inv-loop μ-loop
 returns c =
-    let a = c .before .before .before .before .before .before .before .before .before .args in
-    let l = c .before .before .before .before .before .before .before .loop in
-    let f = c .before .before .before .feed in
-    let h = inside (l .at) (a .until) (length (a .buffer .now)) (c .before .before .before .before .before .before .loop-test .taken) in
+    let f = c .before .before .before in
+    let l = turn f .loop in
+    let h = there f in
     let x = c .before .m2 .given in
-    let p = cut-ended (a .buffer .now) (a .until) (l .at) (l .n) (l .line) (h .0) (h .1) (Whole (x .0 .0)) (λ A y z. refl) (sym (f .ensures .0) ∙ x .1) in
-    (p .0 ∙ l .inv .0, f .ensures .1 ∙ p .1 ∙ l .inv .1)
-
-enum-told : tie.Need-enum-told Inv-loop μ-loop
-enum-told c = search needs
+    let p = cut-ended (bytes f) (end f) (place f) (l .n) (l .line) (h .0) (h .1) (Whole (x .0 .0)) (λ A y z. refl) (sym (f .feed .ensures .0) ∙ x .1) in
+    (p .0 ∙ l .inv .0, f .feed .ensures .1 ∙ p .1 ∙ l .inv .1)
 
 returns-2 : tie.Need-returns-2 Inv-loop μ-loop
 returns-2 c =
-    let a = c .before .before .before .before .before .before .before .before .args in
-    let l = c .before .before .before .before .before .before .loop in
-    let f = c .before .before .feed in
-    let h = inside (l .at) (a .until) (length (a .buffer .now)) (c .before .before .before .before .before .loop-test .taken) in
-    let p = cut-ended (a .buffer .now) (a .until) (l .at) (l .n) (l .line) (h .0) (h .1) TooLong (λ A y z. refl) (sym (f .ensures .0) ∙ c .enum-told .given .1) in
-    (p .0 ∙ l .inv .0, f .ensures .1 ∙ p .1 ∙ l .inv .1)
+    let f = c .before .before in
+    let l = turn f .loop in
+    let h = there f in
+    let p = cut-ended (bytes f) (end f) (place f) (l .n) (l .line) (h .0) (h .1) TooLong (λ A y z. refl) (sym (f .feed .ensures .0) ∙ c .enum-told .given .1) in
+    (p .0 ∙ l .inv .0, f .feed .ensures .1 ∙ p .1 ∙ l .inv .1)
 
 returns-3 : tie.Need-returns-3 Inv-loop μ-loop
 unfolding cutOf lineCut
 returns-3 c =
-    let a = c .before .before .before .args in
-    let l = c .before .loop in
+    let t = c .before in
+    let a = t .before .before .args in
+    let l = t .loop in
     let none = outside (a .buffer .now) (a .until) (l .at) (c .loop-test .left) in
     (sym (ap (λ (s : List ℕ). cutOf s (l .at) (l .n)) none) ∙ l .inv .0, sym (ap (λ (s : List ℕ). lineCut s (l .n) (l .line)) none) ∙ l .inv .1)
 
@@ -97,12 +97,12 @@ take-line-spec =
     loop-holds
     shared-slice-read-b
     add-at
-    feed-requires
-    enum-known-m
+    (λ c κs. search needs)
+    (λ c. search needs)
     loop-less
     loop-again
-    enum-known-m-2
+    (λ c. search needs)
     returns
-    enum-told
+    (λ c. search needs)
     returns-2
     returns-3)

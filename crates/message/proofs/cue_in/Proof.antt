@@ -5,21 +5,6 @@ use Rattle.message.specs.Cue.{cueIn, lampIn}
 use Rattle.message.proofs.cue_in.Statement.{statement}
 use Rattle.message.proofs.cue_in.Tie as tie
 
-offset-in-requires : tie.Need-offset-in-requires
-offset-in-requires c κs = search needs
-
-offset-in-requires-2 : tie.Need-offset-in-requires-2
-offset-in-requires-2 c κs = search needs
-
-offset-in-requires-3 : tie.Need-offset-in-requires-3
-offset-in-requires-3 c κs = search needs
-
-offset-in-requires-4 : tie.Need-offset-in-requires-4
-offset-in-requires-4 c κs = search needs
-
-read-u16-requires : tie.Need-read-u16-requires
-read-u16-requires c κs = search needs
-
 returns : tie.Need-returns
 unfolding cueIn
 returns c =
@@ -34,9 +19,9 @@ pub cue-in-spec : {M : Type 1} → statement M
 cue-in-spec =
     tie.close
     (tie.spec
-    offset-in-requires
-    offset-in-requires-2
-    offset-in-requires-3
-    offset-in-requires-4
-    read-u16-requires
+    (λ c κs. search needs)
+    (λ c κs. search needs)
+    (λ c κs. search needs)
+    (λ c κs. search needs)
+    (λ c κs. search needs)
     returns)

@@ -16,36 +16,6 @@ use borrow.Author.Needs.{needs}
 use Rattle.message.proofs.cue_with.Statement.{statement}
 use Rattle.message.proofs.cue_with.Tie as tie
 
-slice-aggregate-put-i16 : tie.Need-slice-aggregate-put-i16
-slice-aggregate-put-i16 c = search needs
-
-put-i16-requires : tie.Need-put-i16-requires
-put-i16-requires c κs = search needs
-
-slice-aggregate-put-i16-2 : tie.Need-slice-aggregate-put-i16-2
-slice-aggregate-put-i16-2 c = search needs
-
-put-i16-requires-2 : tie.Need-put-i16-requires-2
-put-i16-requires-2 c κs = search needs
-
-slice-aggregate-put-i16-3 : tie.Need-slice-aggregate-put-i16-3
-slice-aggregate-put-i16-3 c = search needs
-
-put-i16-requires-3 : tie.Need-put-i16-requires-3
-put-i16-requires-3 c κs = search needs
-
-slice-aggregate-put-i16-4 : tie.Need-slice-aggregate-put-i16-4
-slice-aggregate-put-i16-4 c = search needs
-
-put-i16-requires-4 : tie.Need-put-i16-requires-4
-put-i16-requires-4 c κs = search needs
-
-slice-aggregate-put-be : tie.Need-slice-aggregate-put-be
-slice-aggregate-put-be c = search needs
-
-put-be-requires : tie.Need-put-be-requires
-put-be-requires c κs = search needs
-
 -- five numbers of two bytes, written one after the other over zeros
 five : (a b d e g : List ℕ) (s1 s2 s3 s4 s5 : List ℕ)
     → length a ≡ 2 → length b ≡ 2 → length d ≡ 2 → length e ≡ 2 → length g ≡ 2
@@ -87,14 +57,14 @@ pub cue-with-spec : {M : Type 1} → statement M
 cue-with-spec =
     tie.close
     (tie.spec
-    slice-aggregate-put-i16
-    put-i16-requires
-    slice-aggregate-put-i16-2
-    put-i16-requires-2
-    slice-aggregate-put-i16-3
-    put-i16-requires-3
-    slice-aggregate-put-i16-4
-    put-i16-requires-4
-    slice-aggregate-put-be
-    put-be-requires
+    (λ c. search needs)
+    (λ c κs. search needs)
+    (λ c. search needs)
+    (λ c κs. search needs)
+    (λ c. search needs)
+    (λ c κs. search needs)
+    (λ c. search needs)
+    (λ c κs. search needs)
+    (λ c. search needs)
+    (λ c κs. search needs)
     returns)

@@ -1,57 +1,30 @@
 -- `message::echoes_in` meets its contract: after i turns the test is that of the first i places.
 use borrow.Author.Needs.{needs}
-use mathlib.Core.Path.{_≡_, refl}
-use Prim.Native.Nat.{_-_, _≤_, min}
+use Prim.Native.Nat.{_-_}
 use native.Mathlib.Omega.{arith}
-use lib.ListN.{length, take}
 use Rattle.message.specs.Section.{all}
 use Rattle.message.specs.Entry.{blankEcho}
+use Rattle.message.specs.Message.{echoPlaces}
 use Rattle.message.specs.Question.{echoIn}
-use Rattle.message.proofs.TestLaws.{all-turn, passed-used}
+use Rattle.message.proofs.TestLaws.{Tested, test-start, test-next, test-all}
 use Rattle.message.proofs.echoes_in.Statement.{statement}
 use Rattle.message.proofs.echoes_in.Tie as tie
 
 abbrev Inv-loop : tie.InvT-loop
-Inv-loop count echoes n ok₀ i₀ ok i = (i ≤ n) × (n ≡ min count 7) × (ok ≡ all echoIn (take i echoes))
+Inv-loop count echoes n ok₀ i₀ ok i = Tested (all echoIn) echoes count echoPlaces n ok i
 
 abbrev μ-loop : tie.MeasureT-loop
 μ-loop count echoes n ok₀ i₀ ok i = n - i
 
-used-requires : tie.Need-used-requires Inv-loop μ-loop
-used-requires c κs = tt
-
 loop-holds : tie.Need-loop-holds Inv-loop μ-loop
 unfolding all
-loop-holds c = (omega arith, c .used .ensures, refl)
-
-mul-echo : tie.Need-mul-echo Inv-loop μ-loop
-mul-echo c = omega arith
-
-array-copy-out-echo : tie.Need-array-copy-out-echo Inv-loop μ-loop
-array-copy-out-echo c = omega arith
-
-echo-in-requires : tie.Need-echo-in-requires Inv-loop μ-loop
-echo-in-requires c κs = tt
-
-add-i : tie.Need-add-i Inv-loop μ-loop
-add-i c = omega arith
-
-loop-less : tie.Need-loop-less Inv-loop μ-loop
-loop-less c = omega arith
+loop-holds c = test-start (search needs) (c .used .ensures)
 
 loop-again : tie.Need-loop-again Inv-loop μ-loop
-loop-again c =
-    let a = c .before .before .before .before .before .args in
-    let l = c .before .before .before .loop in
-    let k : length (a .t1) ≡ 7 = search needs in
-    (omega arith, l .inv .1, all-turn echoIn (a .t1) (l .i) blankEcho (l .ok) (c .echo-in .result) (omega arith) (l .inv .2) (c .echo-in .ensures))
+loop-again c = test-next _ blankEcho (c .before .before .before .loop .inv) (omega arith) (c .echo-in .ensures)
 
 returns : tie.Need-returns Inv-loop μ-loop
-returns c =
-    let a = c .before .before .before .args in
-    let l = c .before .loop in
-    let k : length (a .t1) ≡ 7 = search needs in
-    passed-used (all echoIn) (a .t1) (a .count) 7 (c .before .before .used .result) (l .i) (l .ok) k (l .inv .1) (omega arith) (l .inv .2)
+returns c = test-all (c .before .loop .inv) (omega arith)
 
 pub echoes-in-spec : {M : Type 1} → statement M
 echoes-in-spec =
@@ -59,12 +32,12 @@ echoes-in-spec =
     (tie.spec
     Inv-loop
     μ-loop
-    used-requires
+    (λ c κs. tt)
     loop-holds
-    mul-echo
-    array-copy-out-echo
-    echo-in-requires
-    add-i
-    loop-less
+    (λ c. omega arith)
+    (λ c. omega arith)
+    (λ c κs. tt)
+    (λ c. omega arith)
+    (λ c. omega arith)
     loop-again
     returns)

@@ -6,21 +6,6 @@ use mir.Facts.{toZ-ofZ}
 use Rattle.message.proofs.fields.Statement.{statement}
 use Rattle.message.proofs.fields.Tie as tie
 
-read-i16-requires : tie.Need-read-i16-requires
-read-i16-requires c κs = search needs
-
-read-i16-requires-2 : tie.Need-read-i16-requires-2
-read-i16-requires-2 c κs = search needs
-
-read-i16-requires-3 : tie.Need-read-i16-requires-3
-read-i16-requires-3 c κs = search needs
-
-read-i16-requires-4 : tie.Need-read-i16-requires-4
-read-i16-requires-4 c κs = search needs
-
-read-u16-requires : tie.Need-read-u16-requires
-read-u16-requires c κs = search needs
-
 returns : tie.Need-returns
 returns c =
     let upright = c .before .before in
@@ -39,9 +24,9 @@ pub fields-spec : {M : Type 1} → statement M
 fields-spec =
     tie.close
     (tie.spec
-    read-i16-requires
-    read-i16-requires-2
-    read-i16-requires-3
-    read-i16-requires-4
-    read-u16-requires
+    (λ c κs. search needs)
+    (λ c κs. search needs)
+    (λ c κs. search needs)
+    (λ c κs. search needs)
+    (λ c κs. search needs)
     returns)

@@ -9,18 +9,6 @@ use borrow.Author.Needs.{needs}
 use Rattle.message.proofs.in_range.Statement.{statement}
 use Rattle.message.proofs.in_range.Tie as tie
 
-names-in-requires : tie.Need-names-in-requires
-names-in-requires c κs = search needs
-
-cue-in-requires : tie.Need-cue-in-requires
-cue-in-requires c κs = search needs
-
-reports-in-requires : tie.Need-reports-in-requires
-reports-in-requires c κs = search needs
-
-echoes-in-requires : tie.Need-echoes-in-requires
-echoes-in-requires c κs = search needs
-
 returns : tie.Need-returns
 unfolding inRange
 returns c =
@@ -34,4 +22,4 @@ returns c =
 pub in-range-spec : {M : Type 1} → statement M
 in-range-spec =
     tie.close
-    (tie.spec names-in-requires cue-in-requires reports-in-requires echoes-in-requires returns)
+    (tie.spec (λ c κs. search needs) (λ c κs. search needs) (λ c κs. search needs) (λ c κs. search needs) returns)

@@ -7,16 +7,10 @@ use Rattle.message.specs.Cue.{stepsIn}
 use Rattle.message.proofs.offset_in.Statement.{statement}
 use Rattle.message.proofs.offset_in.Tie as tie
 
-read-i16-requires : tie.Need-read-i16-requires
-read-i16-requires c κs = search needs
-
-steps-in-requires : tie.Need-steps-in-requires
-steps-in-requires c κs = search needs
-
 returns : tie.Need-returns
 returns c =
     c .steps-in .ensures
     ∙ ap stepsIn (toZ-ofZ {w = w16} (sfits-of {w = w16} (c .before .read-i16 .ok)) ∙ c .before .read-i16 .ensures)
 
 pub offset-in-spec : {M : Type 1} → statement M
-offset-in-spec = tie.close (tie.spec read-i16-requires steps-in-requires returns)
+offset-in-spec = tie.close (tie.spec (λ c κs. search needs) (λ c κs. search needs) returns)

@@ -11,13 +11,17 @@ use Rattle.numbers.proofs.of_i16.Statement.{statement}
 use Rattle.numbers.proofs.of_i16.Tie as tie
 
 at-least : (c : tie.Then1) → (n : ℕ) × (c .before .args .z ≡ pos n) × (n < 32768)
-at-least c = not-below (c .before .args .z) (c .before .fits .z) (c .if1 .taken)
+at-least c =
+    let s = c .before in
+    not-below (s .args .z) (s .fits .z) (c .if1 .taken)
 
 read : (c : tie.Then1) → toZ w16 (ofZ w16 (c .before .args .z)) ≡ pos (at-least c .0)
 read c = toZ-ofZ (c .before .fits .z) ∙ at-least c .1
 
 negative : (c : tie.Else1) → (n : ℕ) × (c .before .args .z ≡ negsuc n) × (n < 32768)
-negative c = below (c .before .args .z) (c .before .fits .z) (c .if1 .left)
+negative c =
+    let s = c .before in
+    below (s .args .z) (s .fits .z) (c .if1 .left)
 
 less : (c : tie.Else1) → negsuc 0 -ℤ toZ w16 (ofZ w16 (c .before .args .z)) ≡ pos (negative c .0)
 less c = ap (λ (y : ℤ). negsuc 0 -ℤ y) (toZ-ofZ (c .before .fits .z) ∙ negative c .1) ∙ minus-neg (negative c .0)

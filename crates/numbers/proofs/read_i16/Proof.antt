@@ -7,14 +7,8 @@ use Rattle.numbers.specs.Signed.{signed}
 use Rattle.numbers.proofs.read_i16.Statement.{statement}
 use Rattle.numbers.proofs.read_i16.Tie as tie
 
-read-u16-requires : tie.Need-read-u16-requires
-read-u16-requires c κs = search needs
-
-to-i16-requires : tie.Need-to-i16-requires
-to-i16-requires c κs = search needs
-
 returns : tie.Need-returns
 returns c = toZ-ofZ {w = w16} (sfits-of {w = w16} (c .to-i16 .ok)) ∙ c .to-i16 .ensures ∙ ap signed (c .before .read-u16 .ensures)
 
 pub read-i16-spec : {M : Type 1} → statement M
-read-i16-spec = tie.close (tie.spec read-u16-requires to-i16-requires returns)
+read-i16-spec = tie.close (tie.spec (λ c κs. search needs) (λ c κs. search needs) returns)

@@ -11,15 +11,6 @@ use Rattle.numbers.proofs.SignedLaws.{minus-pos}
 use Rattle.numbers.proofs.to_i16.Statement.{statement}
 use Rattle.numbers.proofs.to_i16.Tie as tie
 
-cast-result : tie.Need-cast-result
-cast-result c = search needs
-
-sub-result : tie.Need-sub-result
-sub-result c = search needs
-
-cast-result-2 : tie.Need-cast-result-2
-cast-result-2 c = search needs
-
 -- what is subtracted
 bits : (c : tie.Else1) → toZ w16 (65535 - c .before .args .v) ≡ pos (65535 - c .before .args .v)
 bits c = toZ-pos w16 (omega arith)
@@ -38,4 +29,4 @@ returns-2 c =
 
 pub to-i16-spec : {M : Type 1} → statement M
 to-i16-spec =
-    tie.close (tie.spec cast-result sub-result cast-result-2 sub-result-2 returns returns-2)
+    tie.close (tie.spec (λ c. search needs) (λ c. search needs) (λ c. search needs) sub-result-2 returns returns-2)

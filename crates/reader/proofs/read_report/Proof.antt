@@ -11,22 +11,19 @@ use borrow.Author.Needs.{needs}
 use Rattle.reader.proofs.read_report.Statement.{statement}
 use Rattle.reader.proofs.read_report.Tie as tie
 
-add-read-number : tie.Need-add-read-number
-add-read-number c = search needs
-
-read-number-requires : tie.Need-read-number-requires
-read-number-requires c κs = search needs
-
-shared-slice-read-t6 : tie.Need-shared-slice-read-t6
-shared-slice-read-t6 c = search needs
-
 returns : tie.Need-returns
 returns c =
-    let a = c .before .before .before .args in
+    let n = c .before in
+    let a = n .before .before .args in
     let s : List ℕ = a .s .now in
-    let number = c .before .read-number .ensures ∙ ap (λ (l : List ℕ). value (take 1 l)) (sym (drop-drop 1 (a .at) s)) in
+    let number = n .read-number .ensures ∙ ap (λ (l : List ℕ). value (take (a .w) l)) (sym (drop-drop 1 (a .at) s)) in
     λ i. record { source = asHost (sym (head-at s (a .at)) i); last = asNumber (number i) }
 
 pub read-report-spec : {M : Type 1} → statement M
 read-report-spec =
-    tie.close (tie.spec add-read-number read-number-requires shared-slice-read-t6 returns)
+    tie.close
+    (tie.spec
+    (λ c. search needs)
+    (λ c κs. search needs)
+    (λ c. search needs)
+    returns)

@@ -4,11 +4,8 @@ use borrow.Author.Needs.{needs}
 use Rattle.reader.proofs.refused.Statement.{statement}
 use Rattle.reader.proofs.refused.Tie as tie
 
-blank-requires : tie.Need-blank-requires
-blank-requires c κs = search needs
-
 returns : tie.Need-returns
 returns c = λ i. record { verdict = Refused (c .before .args .k); message = c .blank .ensures i }
 
 pub refused-spec : {M : Type 1} → statement M
-refused-spec = tie.close (tie.spec blank-requires returns)
+refused-spec = tie.close (tie.spec (λ c κs. search needs) returns)

@@ -18,37 +18,26 @@ abbrev μ-loop : tie.MeasureT-loop
 μ-loop a b ok₀ i₀ ok i = length a - i
 
 returns : tie.Need-returns Inv-loop μ-loop
-returns c = sym (other-length (c .before .args .a .now) (c .before .args .b .now) (c .if1 .taken))
+returns c = sym (other-length _ _ (c .if1 .taken))
 
 loop-holds : tie.Need-loop-holds Inv-loop μ-loop
 unfolding same
 loop-holds c = (omega arith, c .if1 .left, refl)
 
-shared-slice-read-ok : tie.Need-shared-slice-read-ok Inv-loop μ-loop
-shared-slice-read-ok c = omega arith
-
-shared-slice-read-ok-2 : tie.Need-shared-slice-read-ok-2 Inv-loop μ-loop
-shared-slice-read-ok-2 c = omega arith
-
-add-i : tie.Need-add-i Inv-loop μ-loop
-add-i c = omega arith
-
-loop-less : tie.Need-loop-less Inv-loop μ-loop
-loop-less c = omega arith
-
 loop-again : tie.Need-loop-again Inv-loop μ-loop
 loop-again c =
-    let a = c .before .before .before .before .before .args .a .now in
-    let b = c .before .before .before .before .before .args .b .now in
-    let l = c .before .before .before .loop in
+    let t = c .before .before .before in
+    let s = t .before .before .args in
+    let a = s .a .now in
+    let b = s .b .now in
+    let l = t .loop in
     (omega arith, l .inv .1, ap (λ (t : Bool). t && eqb (getD a (l .i) 0) (getD b (l .i) 0)) (l .inv .2) ∙ sym (same-more a b (l .i) (omega arith) (l .inv .1)))
 
 returns-2 : tie.Need-returns-2 Inv-loop μ-loop
 returns-2 c =
-    let a = c .before .before .before .args .a .now in
-    let b = c .before .before .before .args .b .now in
+    let s = c .before .before .before .args in
     let l = c .before .loop in
-    l .inv .2 ∙ (λ k. same (take-all (l .i) a (omega arith) k) (take-all (l .i) b (omega arith) k))
+    l .inv .2 ∙ (λ k. same (take-all (l .i) (s .a .now) (omega arith) k) (take-all (l .i) (s .b .now) (omega arith) k))
 
 pub same-spec : {M : Type 1} → statement M
 same-spec =
@@ -58,9 +47,9 @@ same-spec =
     μ-loop
     returns
     loop-holds
-    shared-slice-read-ok
-    shared-slice-read-ok-2
-    add-i
-    loop-less
+    (λ c. omega arith)
+    (λ c. omega arith)
+    (λ c. omega arith)
+    (λ c. omega arith)
     loop-again
     returns-2)

@@ -6,36 +6,38 @@ use Rattle.sound.proofs.inside_sound.Tie as tie
 enum-told : tie.Need-enum-told
 enum-told c = search needs
 
-enum-told-2 : tie.Need-enum-told-2
-enum-told-2 c = search needs
+enum-known-slot : tie.Need-enum-known-slot
+enum-known-slot c = search needs
 
 held-sound-requires : tie.Need-held-sound-requires
 held-sound-requires c κs = search needs
 
-enum-known-slot : tie.Need-enum-known-slot
-enum-known-slot c = search needs
+enum-known-slot-2 : tie.Need-enum-known-slot-2
+enum-known-slot-2 c = search needs
 
-waiting-sound-requires : tie.Need-waiting-sound-requires
-waiting-sound-requires c κs = search needs
+request-sound-requires : tie.Need-request-sound-requires
+request-sound-requires c κs = search needs
 
 returns : tie.Need-returns
 returns c = search needs
 
 returns-2 : tie.Need-returns-2
-returns-2 c = rw (c .before .enum-told2 .given .1) (c .held-sound .ensures)
+returns-2 c = rw (c .before .before .slot .given .1) (c .held-sound .ensures)
 
 returns-3 : tie.Need-returns-3
-returns-3 c = rw (c .before .before .before .before .slot .given .1, c .waiting-sound .ensures)
+returns-3 c =
+    let at = c .before .before .before .before .before in
+    rw (at .slot2 .given .1, c .before .request-sound .ensures)
 
 pub inside-sound-spec : {M : Type 1} → statement M
 inside-sound-spec =
     tie.close
     (tie.spec
     enum-told
-    enum-told-2
-    held-sound-requires
     enum-known-slot
-    waiting-sound-requires
+    held-sound-requires
+    enum-known-slot-2
+    request-sound-requires
     returns
     returns-2
     returns-3)

@@ -2,6 +2,7 @@
 use mathlib.Core.Path.{_≡_, refl}
 use Prim.Native.Nat.{_≤_, _-_}
 use native.Mathlib.Omega.{arith}
+use borrow.Author.Needs.{needs}
 use Rattle.end.specs.Sound.{allBelow, namesSound}
 use Rattle.end.proofs.SoundLaws.{all-more}
 use Rattle.sound.proofs.names_sound.Statement.{statement}
@@ -38,7 +39,7 @@ loop-again c = (omega arith, rw (c .before .before .before .loop .inv .1, c .rec
 returns : tie.Need-returns Inv-loop μ-loop
 returns c =
     let e : c .before .loop .n ≡ 64 = omega arith in
-    rw e at (c .before .loop .inv .1)
+    (rw e at (c .before .loop .inv .1), search needs)
 
 pub names-sound-spec : {M : Type 1} → statement M
 names-sound-spec =

@@ -1,13 +1,9 @@
 -- `sound::source_sound` meets its contract: the names have their length, and the tests' equations stand side by side.
-use mathlib.Core.Path.{_≡_}
 use lib.ListN.{length}
 use borrow.Author.Tests.{eq-eqb}
 use borrow.Author.Needs.{needs}
 use Rattle.sound.proofs.source_sound.Statement.{statement}
 use Rattle.sound.proofs.source_sound.Tie as tie
-
-sized-names-requires : tie.Need-sized-names-requires
-sized-names-requires c κs = search needs
 
 span-sound-requires : tie.Need-span-sound-requires
 span-sound-requires c κs = search needs
@@ -26,15 +22,18 @@ names-sound-requires c κs = search needs
 
 returns : tie.Need-returns
 returns c =
-    let s = c .before .before .before .before .before .before .before .before .before .args .s in
-    let long : length (s .names) ≡ 64 = c .before .before .before .before .before .sized-names .ensures .1 in
-    rw (eq-eqb (length (s .names)) 64 long, c .before .before .before .before .span-sound .ensures, c .before .before .before .distance-sound .ensures, c .before .before .heard-sound .ensures, c .before .non-member-sound .ensures, c .names-sound .ensures, c .before .before .before .before .before .sized-names .ensures .0)
+    let others = c .before in
+    let heard = others .before in
+    let far = heard .before in
+    let span = far .before in
+    let names = span .before .before .before .before .args .s .names in
+    rw (eq-eqb (length names) 64 (c .names-sound .ensures .1))
+    (rw (span .span-sound .ensures, far .distance-sound .ensures, heard .heard-sound .ensures, others .non-member-sound .ensures, c .names-sound .ensures .0))
 
 pub source-sound-spec : {M : Type 1} → statement M
 source-sound-spec =
     tie.close
     (tie.spec
-    sized-names-requires
     span-sound-requires
     distance-sound-requires
     heard-sound-requires

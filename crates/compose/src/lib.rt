@@ -1,0 +1,209 @@
+// The messages that an end puts out, as the structs that the layout writes: `aboutName` and `sessionMessage` of the crate end,
+// specs/Messages.antt. They are helpers of the crates above and no calls of the product.
+use end::End;
+use end::Heard;
+use end::Moment;
+use end::Span;
+use message::Counts;
+use message::CueNumber;
+use message::Echo;
+use message::Host;
+use message::Message;
+use message::Name;
+use message::NameEntry;
+use message::Report;
+use message::SESS;
+ghost use mathlib.Core.Path.{_≡_};
+ghost use mathlib.Core.List.{[], _∷_};
+ghost use Prim.Native.Nat.{_+_, _≤_, _<_};
+ghost use lib.ListN.{length, take};
+ghost use Rattle.message.specs.Entry.{blankName, blankReport, blankEcho};
+ghost use Rattle.message.specs.Message.{Small, numberWidth, meaningOf};
+ghost use Rattle.end.specs.Messages.{aboutName, reportOn, echoOn, reportsBelow, echoesBelow, sessionMessage};
+ghost use Rattle.end.specs.Ready.{HeardBy};
+ghost use Rattle.state.specs.Settled.{Settled};
+ghost use Rattle.compose.specs.Entries.{reportsIn, echoesIn, withReport, withEcho};
+
+// Reports in their places, and how many there are.
+pub struct Reports {
+    pub count: usize,
+    pub places: [Report; 8],
+}
+
+// Echoes in their places, and how many there are.
+pub struct Echoes {
+    pub count: usize,
+    pub places: [Echo; 7],
+}
+
+fn no_name() -> NameEntry
+    ensures { λ r. ⌜ r ≡ blankName ⌝ }
+{
+    NameEntry {
+        name: Name {
+            source: Host(0),
+            number: CueNumber(0),
+        },
+        host: Host(0),
+    }
+}
+
+fn no_report() -> Report
+    ensures { λ r. ⌜ r ≡ blankReport ⌝ }
+{
+    Report {
+        source: Host(0),
+        last: CueNumber(0),
+    }
+}
+
+fn no_echo() -> Echo
+    ensures { λ r. ⌜ r ≡ blankEcho ⌝ }
+{
+    Echo {
+        host: Host(0),
+        stamp: 0,
+        held: 0,
+    }
+}
+
+// A message about one name: DATA and REPL with one cue, RQST with none.
+pub fn about_name(
+    kind: u8,
+    t: Moment,
+    name: Name,
+    host: Host,
+    cues: usize,
+    cue: [u8; 24],
+) -> Message
+    requires { ⌜ cues ≤ 1 ⌝ }
+    ensures { λ r. ⌜ meaningOf r ≡ aboutName kind t name host (take cues (cue ∷ [])) ⌝ }
+    ensures { λ r. ⌜ Small (numberWidth (r .kind)) (r .counts) ⌝ }
+{
+    let mut names = [no_name(); 2];
+    names[0] = NameEntry { name, host };
+    let counts = Counts {
+        names: 1,
+        cues,
+        reports: 0,
+        echoes: 0,
+    };
+    let sender = t.me;
+    Message {
+        kind,
+        sender,
+        stamp: t.clock,
+        counts,
+        names,
+        cue,
+        reports: [no_report(); 8],
+        echoes: [no_echo(); 7],
+    }
+}
+
+// With the report of a source that has a first.
+fn with_report(all: Reports, h: Host, span: Span) -> Reports
+    requires { ⌜ all .count < 8 ⌝ }
+    ensures { λ r. ⌜ r ≡ withReport all (reportOn h span) ⌝ }
+{
+    match span {
+        Span::Closed => all,
+        Span::Open(_, last) => {
+            let n = all.count;
+            let mut places = all.places;
+            places[n] = Report { source: h, last };
+            Reports {
+                count: n + 1,
+                places,
+            }
+        }
+    }
+}
+
+// All firsts' sources, by rising host.
+fn all_reports(e: End) -> Reports
+    ensures { λ r. ⌜ r ≡ reportsIn (reportsBelow e 8) ⌝ }
+{
+    let mut all = Reports {
+        count: 0,
+        places: [no_report(); 8],
+    };
+    let mut h: u8 = 0;
+    while h < 8 {
+        let span = state::span_of(e, Host(h));
+        all = with_report(all, Host(h), span);
+        h += 1;
+    }
+    all
+}
+
+// With the echo of a host that was heard.
+fn with_echo(all: Echoes, h: Host, clock: u64, heard: Heard) -> Echoes
+    requires { ⌜ all .count + length (echoOn h clock heard) ≤ 7 ⌝ }
+    requires { ⌜ HeardBy clock heard ⌝ }
+    ensures { λ r. ⌜ r ≡ withEcho all (echoOn h clock heard) ⌝ }
+{
+    match heard {
+        Heard::Never => all,
+        Heard::At(stamp, when) => {
+            let n = all.count;
+            let mut places = all.places;
+            places[n] = Echo {
+                host: h,
+                stamp,
+                held: clock - when,
+            };
+            Echoes {
+                count: n + 1,
+                places,
+            }
+        }
+    }
+}
+
+// All heard stamps, by rising host: at most seven, since none is heard from oneself.
+fn all_echoes(e: End) -> Echoes
+    requires { ⌜ Settled e ⌝ }
+    ensures { λ r. ⌜ r ≡ echoesIn (echoesBelow e 8) ⌝ }
+{
+    let mut all = Echoes {
+        count: 0,
+        places: [no_echo(); 7],
+    };
+    let mut h: u8 = 0;
+    while h < 8 {
+        let heard = state::heard_of(e, Host(h));
+        all = with_echo(all, Host(h), e.clock, heard);
+        h += 1;
+    }
+    all
+}
+
+// SESS.
+pub fn session_message(e: End) -> Message
+    requires { ⌜ Settled e ⌝ }
+    ensures { λ r. ⌜ meaningOf r ≡ sessionMessage e ⌝ }
+    ensures { λ r. ⌜ Small (numberWidth (r .kind)) (r .counts) ⌝ }
+{
+    let reports = all_reports(e);
+    let echoes = all_echoes(e);
+    let counts = Counts {
+        names: 0,
+        cues: 0,
+        reports: reports.count,
+        echoes: echoes.count,
+    };
+    let said = reports.places;
+    let heard = echoes.places;
+    let sender = e.host;
+    Message {
+        kind: SESS,
+        sender,
+        stamp: e.clock,
+        counts,
+        names: [no_name(); 2],
+        cue: [0; 24],
+        reports: said,
+        echoes: heard,
+    }
+}

@@ -1,0 +1,18 @@
+-- `decide::decide_repair` meets its contract: one test.
+use Rattle.end.specs.Decide.{decideRepair}
+use borrow.Author.Needs.{needs}
+use Rattle.decide.proofs.decide_repair.Statement.{statement}
+use Rattle.decide.proofs.decide_repair.Tie as tie
+
+is-held-requires : tie.Need-is-held-requires
+is-held-requires c κs = search needs
+
+choose-requires : tie.Need-choose-requires
+choose-requires c κs = search needs
+
+returns : tie.Need-returns
+unfolding decideRepair
+returns c = cc
+
+pub decide-repair-spec : {M : Type 1} → statement M
+decide-repair-spec = tie.close (tie.spec is-held-requires choose-requires returns)

@@ -1,0 +1,16 @@
+-- `decide::open_source` meets its contract: each step is its callee's.
+use borrow.Author.Needs.{needs}
+use Rattle.decide.proofs.open_source.Statement.{statement}
+use Rattle.decide.proofs.open_source.Tie as tie
+
+with-span-requires : tie.Need-with-span-requires
+with-span-requires c κs = search needs
+
+hold-cue-requires : tie.Need-hold-cue-requires
+hold-cue-requires c κs = search needs
+
+returns : tie.Need-returns
+returns c = rw (c .hold-cue .ensures, c .before .with-span .ensures)
+
+pub open-source-spec : {M : Type 1} → statement M
+open-source-spec = tie.close (tie.spec with-span-requires hold-cue-requires returns)

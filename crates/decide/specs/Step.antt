@@ -1,0 +1,20 @@
+-- A message about a name as a step on the name's source: what it asks for, and what it gives.
+use Prim.Native.Nat.{ℕ}
+use mathlib.Core.List.{List}
+use Rattle.end.specs.declared.Source.{Source}
+use Rattle.end.specs.declared.Moment.{Moment}
+use Rattle.end.specs.declared.Word.{Word}
+use Rattle.end.specs.Answer.{Did, answerOf}
+use Rattle.end.specs.Ready.{Ranges, Numbered}
+use Rattle.end.specs.Decide.{number, decide, apply, effectOf}
+use Rattle.state.specs.declared.Change.{Change}
+
+-- the distances to the source and to the requester in range, and the number and the draws that the questions let through
+pub record Heeded (t : Moment) (w : Word) (d draws : ℕ) : Type 0 where
+  pub source : Ranges t d
+  pub requester : Ranges t (w .distance)
+  pub numbered : Numbered (number w) draws
+
+-- what is decided is done, and answered
+abbrev pub stepped : Moment → List ℕ → Word → Source → Change
+stepped t us w s = record { answer = answerOf (Did (effectOf w (decide t w s))); source = apply t us w (decide t w s) s }

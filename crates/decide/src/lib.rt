@@ -1,0 +1,241 @@
+// What a member decides on a message about a name, and what the decision does to the name's source: each function is one definition of
+// the crate end, specs/Decide.antt. Of the source, `decide` is given first and last and the name's record alone, so that no source is
+// copied. They are helpers of the crates above and no calls of the product: each asks in its `requires` for what soundness and the
+// questions give.
+use end::Answer;
+use end::Decision;
+use end::Draw;
+use end::Moment;
+use end::Reason;
+use end::Record;
+use end::Reply;
+use end::Says;
+use end::Slot;
+use end::Source;
+use end::Span;
+use end::Word;
+use state::Change;
+ghost use mathlib.Core.Path.{_≡_};
+ghost use mathlib.Core.Bool.{cond};
+ghost use Prim.Native.Nat.{_<_};
+ghost use lib.ListN.{length};
+ghost use Rattle.end.specs.Answer.{Did, answerOf};
+ghost use Rattle.end.specs.Ready.{Ranges, Numbered};
+ghost use Rattle.end.specs.Records.{isClosed};
+ghost use Rattle.end.specs.Round.{nextRound};
+ghost use Rattle.end.specs.Names.{setRound, hold};
+ghost use Rattle.end.specs.Decide.{number, unless, decideData, reached, decideReply, decideRound, decideRequest, decideRepair, decideAs, risen, opened, apply, effectOf};
+ghost use Rattle.decide.specs.Step.{Heeded, stepped};
+
+// ---- what is decided
+
+fn is_closed(span: Span) -> bool
+    ensures { λ r. ⌜ r ≡ isClosed span ⌝ }
+{
+    match span {
+        Span::Closed => true,
+        Span::Open(_, _) => false,
+    }
+}
+
+// One of two decisions.
+fn choose(test: bool, yes: Decision, otherwise: Decision) -> Decision
+    ensures { λ r. ⌜ r ≡ cond test yes otherwise ⌝ }
+{
+    if test { yes } else { otherwise }
+}
+
+// Ignored for this reason where it holds.
+fn unless(holds: bool, why: Reason, otherwise: Decision) -> Decision
+    ensures { λ r. ⌜ r ≡ unless holds why otherwise ⌝ }
+{
+    choose(holds, Decision::Ignores(why), otherwise)
+}
+
+// DATA.
+fn decide_data(w: Word, r: Record, span: Span) -> Decision
+    ensures { λ d. ⌜ d ≡ decideData w r span ⌝ }
+{
+    let n = w.name.number;
+    let slot = r.slot;
+    let missing = unless(state::is_held(slot), Reason::AlreadyHeld, Decision::Takes);
+    let open = unless(records::is_below(span, n), Reason::BelowFirst, missing);
+    choose(is_closed(span), Decision::Opens, open)
+}
+
+// The first line of RQST and REPL.
+fn reached(t: Moment, w: Word, span: Span, otherwise: Decision) -> Decision
+    ensures { λ d. ⌜ d ≡ reached t w span otherwise ⌝ }
+{
+    let n = w.name.number;
+    let own = w.name.source.0 == t.me.0;
+    let known = unless(
+        own & records::is_above(span, n),
+        Reason::OwnAboveLast,
+        otherwise,
+    );
+    let open = unless(records::is_below(span, n), Reason::BelowFirst, known);
+    unless(is_closed(span), Reason::NotOpen, open)
+}
+
+// RQST of a held cue.
+fn decide_reply(t: Moment, reply: Reply, quiet: u64) -> Decision
+    ensures { λ d. ⌜ d ≡ decideReply t reply quiet ⌝ }
+{
+    let free = unless(t.clock < quiet, Reason::ReplyQuiet, Decision::Replies);
+    unless(!state::is_no(reply), Reason::ReplyWaiting, free)
+}
+
+// RQST of a cue not held, up to last.
+fn decide_round(t: Moment, slot: Slot) -> Decision
+    ensures { λ d. ⌜ d ≡ decideRound t slot ⌝ }
+{
+    match slot {
+        Slot::Empty => Decision::Ignores(Reason::RequestQuiet),
+        Slot::Held(_) => Decision::Ignores(Reason::RequestQuiet),
+        Slot::Waiting(q) => unless(
+            t.clock <= q.quiet,
+            Reason::RequestQuiet,
+            Decision::BacksOff(q.round),
+        ),
+    }
+}
+
+// RQST, past its first line.
+fn decide_request(t: Moment, w: Word, r: Record, span: Span) -> Decision
+    ensures { λ d. ⌜ d ≡ decideRequest t w r span ⌝ }
+{
+    let slot = r.slot;
+    let reply = state::reply_in(slot);
+    let held = decide_reply(t, reply, r.hush);
+    let asked = decide_round(t, slot);
+    let missing = choose(
+        records::is_above(span, w.name.number),
+        Decision::Learns,
+        asked,
+    );
+    choose(state::is_held(slot), held, missing)
+}
+
+// REPL, past its first line.
+fn decide_repair(r: Record) -> Decision
+    ensures { λ d. ⌜ d ≡ decideRepair r ⌝ }
+{
+    let slot = r.slot;
+    choose(state::is_held(slot), Decision::Hushes, Decision::Repairs)
+}
+
+// What a member decides on a message about a name, of which it has this record in a source with this first and last.
+pub fn decide(t: Moment, w: Word, r: Record, span: Span) -> Decision
+    ensures { λ d. ⌜ d ≡ decideAs (w .says) t w r span ⌝ }
+{
+    let says = w.says;
+    match says {
+        Says::Data => decide_data(w, r, span),
+        Says::Rqst => {
+            let asked = decide_request(t, w, r, span);
+            reached(t, w, span, asked)
+        }
+        Says::Repl => {
+            let repaired = decide_repair(r);
+            reached(t, w, span, repaired)
+        }
+    }
+}
+
+// ---- what is done
+
+// The first cue of a source.
+fn open_source(w: Word, s: Source) -> Source
+    requires { ⌜ number w < 64 ⌝ }
+    ensures { λ r. ⌜ r ≡ hold (number w) (w .cue) (opened w s) ⌝ }
+{
+    let n = w.name.number;
+    let cue = w.cue;
+    let open = state::with_span(s, Span::Open(n, n));
+    records::hold_cue(open, n, cue)
+}
+
+// A later cue of an open source: the numbers between are asked for, and it is held.
+fn take_cue(t: Moment, draws: &[Draw], w: Word, s: Source) -> Source
+    requires { ⌜ Ranges t (s .distance) ⌝ }
+    requires { ⌜ Numbered (number w) (length (now draws)) ⌝ }
+    ensures { λ r. ⌜ r ≡ hold (number w) (w .cue) (risen t (now (draws .entry)) w s) ⌝ }
+{
+    let n = w.name.number;
+    let cue = w.cue;
+    let higher = records::rise_to(s, t, draws, n);
+    records::hold_cue(higher, n, cue)
+}
+
+// The numbers up to this one are asked for, this one in round 2.
+fn learn(t: Moment, draws: &[Draw], w: Word, s: Source) -> Source
+    requires { ⌜ Ranges t (s .distance) ⌝ }
+    requires { ⌜ Numbered (number w) (length (now draws)) ⌝ }
+    ensures { λ r. ⌜ r ≡ setRound t (now (draws .entry)) (number w) 2 (risen t (now (draws .entry)) w s) ⌝ }
+{
+    let n = w.name.number;
+    let higher = records::rise_to(s, t, draws, n);
+    records::set_round(higher, t, draws, n, 2)
+}
+
+// The round after k, which waits.
+fn back_off(t: Moment, draws: &[Draw], w: Word, k: u8, s: Source) -> Source
+    requires { ⌜ Ranges t (s .distance) ⌝ }
+    requires { ⌜ Numbered (number w) (length (now draws)) ⌝ }
+    ensures { λ r. ⌜ r ≡ setRound t (now (draws .entry)) (number w) (nextRound k) s ⌝ }
+{
+    let next = timing::next_round(k);
+    records::set_round(s, t, draws, w.name.number, next)
+}
+
+// What the decision does.
+fn apply(t: Moment, draws: &[Draw], w: Word, d: Decision, s: Source) -> Source
+    requires { ⌜ Heeded t w (s .distance) (length (now draws)) ⌝ }
+    ensures { λ r. ⌜ r ≡ apply t (now (draws .entry)) w d s ⌝ }
+{
+    let n = w.name.number;
+    match d {
+        Decision::Ignores(_) => s,
+        Decision::Opens => open_source(w, s),
+        Decision::Takes => take_cue(t, draws, w, s),
+        Decision::Repairs => {
+            let taken = take_cue(t, draws, w, s);
+            records::quiet_reply(taken, t, n, w.distance)
+        }
+        Decision::Hushes => records::quiet_reply(s, t, n, w.distance),
+        Decision::Replies => records::set_reply(s, t, draws, n, w.distance, w.requester),
+        Decision::Learns => learn(t, draws, w, s),
+        Decision::BacksOff(k) => back_off(t, draws, w, k, s),
+    }
+}
+
+// What the decision answers.
+fn answer_of(w: Word, d: Decision) -> Answer
+    ensures { λ r. ⌜ r ≡ answerOf (Did (effectOf w d)) ⌝ }
+{
+    let name = w.name;
+    match d {
+        Decision::Ignores(_) => Answer::Ignored,
+        Decision::Opens => Answer::Got(name),
+        Decision::Takes => Answer::Got(name),
+        Decision::Repairs => Answer::Got(name),
+        Decision::Hushes => Answer::Done,
+        Decision::Replies => Answer::Done,
+        Decision::Learns => Answer::Done,
+        Decision::BacksOff(_) => Answer::Done,
+    }
+}
+
+// A message about a name, on the name's source: what is decided is done, and answered.
+pub fn step(t: Moment, draws: &[Draw], w: Word, s: Source) -> Change
+    requires { ⌜ Heeded t w (s .distance) (length (now draws)) ⌝ }
+    ensures { λ r. ⌜ r ≡ stepped t (now (draws .entry)) w s ⌝ }
+{
+    let known = records::record_at(s, w.name.number);
+    let span = s.span;
+    let d = decide(t, w, known, span);
+    let answer = answer_of(w, d);
+    let source = apply(t, draws, w, d, s);
+    Change { answer, source }
+}

@@ -1,0 +1,132 @@
+// The wait that Fire sends next: each function is one definition of the crate end, specs/Fire.antt. The numbers first..last of
+// each source are gone through once, by rising source and number, so that ties go to the lower source and the lower number.
+use end::Earliest;
+use end::End;
+use end::Reply;
+use end::Slot;
+use end::Source;
+use end::Span;
+use end::Wait;
+use message::CueNumber;
+use message::Host;
+use message::Name;
+ghost use mathlib.Core.Path.{_≡_};
+ghost use mathlib.Core.Bool.{cond};
+ghost use Prim.Native.Nat.{_+_, _≤_};
+ghost use lib.Dec.{leb};
+ghost use Rattle.end.specs.Records.{start, width};
+ghost use Rattle.end.specs.Ready.{LastIn};
+ghost use Rattle.end.specs.Fire.{before, earlier, offered, earliestName, earliest};
+ghost use Rattle.state.specs.Settled.{Settled};
+
+// A wait comes before another if it is due earlier, or at the same time and is a request where the other is a reply.
+fn is_before(w: Wait, v: Wait) -> bool
+    ensures { λ r. ⌜ r ≡ before w v ⌝ }
+{
+    (w.due < v.due) | ((w.due == v.due) & (!w.reply & v.reply))
+}
+
+// The earlier of the earliest so far and a wait.
+fn earlier_of(best: Earliest, w: Wait) -> Earliest
+    ensures { λ r. ⌜ r ≡ earlier best w ⌝ }
+{
+    match best {
+        Earliest::NoWait => Earliest::First(w),
+        Earliest::First(v) => {
+            if is_before(w, v) {
+                Earliest::First(w)
+            } else {
+                Earliest::First(v)
+            }
+        }
+    }
+}
+
+// A wait joins the comparison once it is due.
+fn if_due(name: Name, clock: u64, due: u64, reply: bool, best: Earliest) -> Earliest
+    ensures { λ r. ⌜ r ≡ cond (leb due clock) (earlier best (record { due = due; reply = reply; name = name })) best ⌝ }
+{
+    if due <= clock {
+        earlier_of(best, Wait { due, reply, name })
+    } else {
+        best
+    }
+}
+
+// What a record has waiting: its request, or the reply of a held cue.
+fn offer(name: Name, clock: u64, slot: Slot, best: Earliest) -> Earliest
+    ensures { λ r. ⌜ r ≡ offered name clock slot best ⌝ }
+{
+    match slot {
+        Slot::Empty => best,
+        Slot::Waiting(q) => if_due(name, clock, q.due, false, best),
+        Slot::Held(reply) => match reply {
+            Reply::No => best,
+            Reply::Due(due, _) => if_due(name, clock, due, true, best),
+        },
+    }
+}
+
+// The first of the numbers first..last, and how many they are.
+fn start_of(span: Span) -> u64
+    ensures { λ r. ⌜ r ≡ start span ⌝ }
+{
+    match span {
+        Span::Closed => 0,
+        Span::Open(first, _) => first.0 as u64,
+    }
+}
+
+fn width_of(span: Span) -> u64
+    requires { ⌜ LastIn span ⌝ }
+    ensures { λ r. ⌜ r ≡ width span ⌝ }
+    ensures { λ r. ⌜ start span + r ≤ 64 ⌝ }
+{
+    match span {
+        Span::Closed => 0,
+        Span::Open(first, last) => last.0 as u64 + 1 - first.0 as u64,
+    }
+}
+
+// The earliest wait of one source.
+fn earliest_name(h: Host, clock: u64, s: Source, best: Earliest) -> Earliest
+    requires { ⌜ LastIn (s .span) ⌝ }
+    ensures { λ r. ⌜ r ≡ earliestName h clock s best (width (s .span)) ⌝ }
+{
+    let span = s.span;
+    let from = start_of(span);
+    let count = width_of(span);
+    let mut out = best;
+    let mut i = 0;
+    while i < count {
+        let k = (from + i) as u8;
+        let n = CueNumber(k);
+        let at = records::place(n);
+        let r = s.names[at];
+        let slot = r.slot;
+        let name = Name {
+            source: h,
+            number: n,
+        };
+        out = offer(name, clock, slot, out);
+        i += 1;
+    }
+    out
+}
+
+// The earliest wait of an end. By constant places: a variable one would copy the whole end first.
+pub fn earliest_wait(e: End) -> Earliest
+    requires { ⌜ Settled e ⌝ }
+    ensures { λ r. ⌜ r ≡ earliest e 8 ⌝ }
+{
+    let none = Earliest::NoWait;
+    let b0 = earliest_name(Host(0), e.clock, e.sources[0], none);
+    let b1 = earliest_name(Host(1), e.clock, e.sources[1], b0);
+    let b2 = earliest_name(Host(2), e.clock, e.sources[2], b1);
+    let b3 = earliest_name(Host(3), e.clock, e.sources[3], b2);
+    let b4 = earliest_name(Host(4), e.clock, e.sources[4], b3);
+    let b5 = earliest_name(Host(5), e.clock, e.sources[5], b4);
+    let b6 = earliest_name(Host(6), e.clock, e.sources[6], b5);
+    let b7 = earliest_name(Host(7), e.clock, e.sources[7], b6);
+    b7
+}

@@ -1,0 +1,119 @@
+-- What is known of a message that was read, and of bytes that an end puts out.
+use mathlib.Core.Path.{_≡_, refl, sym, ap, _∙_}
+use mathlib.Core.Bool.{Bool, true, false, _&&_, _||_}
+use mathlib.Core.List.{List, [], _∷_}
+use mathlib.Core.Option.{some}
+use Prim.Native.Nat.{ℕ, _<_}
+use native.Mathlib.Omega.{arith}
+use lib.ListN.{length, getD}
+use lib.Dec.{eqb}
+use borrow.Author.Tests.{eqb-true, eq-eqb, ltb-true}
+use Rattle.message.specs.Section.{all}
+use Rattle.message.specs.Cue.{cueIn}
+use Rattle.message.specs.Entry.{blankName}
+use Rattle.message.specs.Message.{DATA, numberWidth, Meaning, meaningFrom, meaningWith, bytesOf, bytesWith, countsOf}
+use Rattle.message.specs.Question.{ask, firstNo, meaningQuestions, kindHasCounts, inRange, hostsFit, hostIn, numberIn, ticksIn, nameIn, reportIn, hostFits, sameHost, readRefusal}
+use Rattle.message.specs.declared.NameEntry.{NameEntry}
+use Rattle.message.specs.declared.Counts.{Counts}
+use Rattle.message.specs.declared.Host.{Host}
+use Rattle.message.proofs.QuestionLaws.{and-both, all-passed, counted as counted-row}
+use Rattle.roundtrip.proofs.ThereAndBack.{Fits}
+use Rattle.roundtrip.proofs.RoundTrip.{accepted, accepts, read-back, meaning-accepted}
+use Rattle.end.specs.Book.{readAs, source, number}
+use Rattle.end.proofs.Tools.{byCond, clash′}
+
+-- bytes that are read are accepted, and the message is their meaning
+pub read-is : (x : List ℕ) (m : Meaning) → readAs x ≡ some m → (readRefusal x ≡ 0) × (meaningFrom x ≡ m)
+unfolding readAs
+read-is x m =
+    byCond (λ o. o ≡ some m → (readRefusal x ≡ 0) × (meaningFrom x ≡ m)) (eqb (readRefusal x) 0)
+    (λ t p. (eqb-true (readRefusal x) 0 t, cc))
+    (λ t p. let z : _≡_ {A = ℕ} 0 1 = cc in absurd (omega arith))
+
+pub reads : (x : List ℕ) → readRefusal x ≡ 0 → readAs x ≡ some (meaningFrom x)
+unfolding readAs
+reads x h = rw (eq-eqb (readRefusal x) 0 h)
+
+-- the kind is the first byte
+kind-first : (x : List ℕ) → meaningFrom x .kind ≡ getD x 0 0
+unfolding meaningWith
+kind-first x = refl
+
+first-kind : (y : Meaning) → getD (bytesOf y) 0 0 ≡ y .kind
+unfolding bytesWith
+first-kind y = refl
+
+pub written-kind : (y m : Meaning) → readAs (bytesOf y) ≡ some m → m .kind ≡ y .kind
+written-kind y m p = ap (λ (z : Meaning). z .kind) (sym (read-is (bytesOf y) m p .1)) ∙ kind-first (bytesOf y) ∙ first-kind y
+
+-- the bytes of a message that fits are read as that message
+pub written-back : (y m : Meaning) → Fits (numberWidth (y .kind)) y → readAs (bytesOf y) ≡ some m → y ≡ m
+written-back y m f p = sym (read-back y f) ∙ read-is (bytesOf y) m p .1
+
+-- and they are read, if it has its kind's counts and passes questions 10 and 11
+pub written-reads : (y : Meaning) → Fits (numberWidth (y .kind)) y → kindHasCounts (y .kind) (countsOf y) ≡ true → firstNo (meaningQuestions y) ≡ 0 → readAs (bytesOf y) ≡ some y
+written-reads y f k q =
+    reads (bytesOf y) (accepts (bytesOf y) (meaning-accepted y f k q)) ∙ ap some (read-back y f)
+
+-- ---- what questions 9, 10 and 11 say of its name
+
+-- the name in a message that was read is in range
+pub record InRange (m : Meaning) : Type 0 where
+  pub source : source m < 8
+  pub number : number m < 64
+
+-- the first of a list that passes a test, or what passes it beside
+all-first : {A : Type 0} (p : A → Bool) (l : List A) (d : A) → all p l ≡ true → p d ≡ true → p (getD l 0 d) ≡ true
+unfolding all
+all-first p [] d h k = k
+all-first p (a ∷ l) d h k = and-both (p a) (all p l) h .0
+
+-- a DATA has one name, whose host is its source and its sender
+data-counts : (c : Counts) → kindHasCounts DATA c ≡ true → c .names ≡ 1
+data-counts c h = counted-row DATA c h .names
+
+sender-source : (sender : Host) (l : List NameEntry) → length l ≡ 1 → all (hostFits DATA sender) l ≡ true → sender .0 ≡ getD l 0 blankName .name .source .0
+unfolding all
+sender-source sender [] n h = absurd (omega arith)
+sender-source sender (a ∷ l) n h =
+    let both : sameHost (a .host) (a .name .source) && sameHost (a .host) sender ≡ true = and-both (hostFits DATA sender a) (all (hostFits DATA sender) l) h .0 in
+    let parts = and-both (sameHost (a .host) (a .name .source)) _ both in
+    sym (eqb-true (a .host .0) (sender .0) (parts .1)) ∙ eqb-true (a .host .0) (a .name .source .0) (parts .0)
+
+module _ (x : List ℕ) (m : Meaning) (p : readAs x ≡ some m) where
+  questions : firstNo (meaningQuestions m) ≡ 0
+  questions = ap (λ (y : Meaning). firstNo (meaningQuestions y)) (sym (read-is x m p .1)) ∙ accepted x (read-is x m p .0) .rest
+
+  pub in-range : InRange m
+  unfolding inRange
+  in-range =
+      let a = all-passed (inRange m) 10 (ask (hostsFit m) 11 ∷ []) (omega arith) questions .0 in
+      let b = and-both (ticksIn (m .stamp)) _ (and-both (hostIn (m .sender)) _ a .1) .1 in
+      let name = all-first nameIn (m .names) blankName (and-both (all nameIn (m .names)) _ b .0) refl in
+      let n = getD (m .names) 0 blankName in
+      let rest = and-both (hostIn (n .name .source)) _ name in
+      record { source = ltb-true (source m) 8 (rest .0); number = ltb-true (number m) 64 (and-both (numberIn (n .name .number)) _ (rest .1) .0) }
+
+  pub reports-in : all reportIn (m .reports) ≡ true
+  unfolding inRange
+  reports-in =
+      let a = all-passed (inRange m) 10 (ask (hostsFit m) 11 ∷ []) (omega arith) questions .0 in
+      let b = and-both (ticksIn (m .stamp)) _ (and-both (hostIn (m .sender)) _ a .1) .1 in
+      let c = and-both (all cueIn (m .cues)) _ (and-both (all nameIn (m .names)) _ b .1) .1 in
+      and-both (all reportIn (m .reports)) _ c .0
+
+  counted : kindHasCounts (m .kind) (countsOf m) ≡ true
+  counted =
+      let back = read-is x m p .1 in
+      (λ i. kindHasCounts ((ap (λ (y : Meaning). y .kind) (sym back) ∙ kind-first x) i) (countsOf (sym back i))) ∙ accepted x (read-is x m p .0) .counts
+
+  -- the source of an original is its sender
+  pub original-source : eqb (m .kind) DATA ≡ true → m .sender .0 ≡ source m
+  unfolding hostsFit
+  original-source k =
+      let kind : m .kind ≡ DATA = eqb-true (m .kind) DATA k in
+      let one : length (m .names) ≡ 1 = data-counts (countsOf m) (ap (λ (k : ℕ). kindHasCounts k (countsOf m)) (sym kind) ∙ counted) in
+      let h = all-passed (hostsFit m) 11 [] (omega arith) (all-passed (inRange m) 10 (ask (hostsFit m) 11 ∷ []) (omega arith) questions .1) .0 in
+      let fits = and-both (all (hostFits (m .kind) (m .sender)) (m .names)) _ h .0 in
+      sender-source (m .sender) (m .names) one
+      (ap (λ (k : ℕ). all (hostFits k (m .sender)) (m .names)) (sym kind) ∙ fits)

@@ -1,0 +1,73 @@
+-- Why a message about a name is ignored: document 02, P3, each reason that lies in the name's source as a test, and their order. A message
+-- is ignored for the first of them that holds, and only if one does.
+use mathlib.Core.Path.{_≡_}
+use Prim.Native.Nat.{ℕ}
+use mathlib.Core.Bool.{Bool, true, false, cond, not, _&&_}
+use mathlib.Core.List.{List, [], _∷_}
+use mathlib.Core.Option.{Option, none, some}
+use lib.Dec.{ltb, leb}
+use Rattle.message.specs.Question.{sameHost}
+use Rattle.end.specs.declared.Slot.{Slot}
+use Rattle.end.specs.declared.Slot.the-variants.{Empty, Held, Waiting}
+use Rattle.end.specs.declared.Record.{Record}
+use Rattle.end.specs.declared.Span.{Span}
+use Rattle.end.specs.declared.Span.the-variants.{Closed}
+use Rattle.end.specs.declared.Moment.{Moment}
+use Rattle.end.specs.declared.Says.{Says}
+use Rattle.end.specs.declared.Says.the-variants.{Data, Rqst, Repl}
+use Rattle.end.specs.declared.Word.{Word}
+use Rattle.end.specs.declared.Reason.{Reason}
+use Rattle.end.specs.declared.Reason.the-variants.{NotOpen, BelowFirst, OwnAboveLast, AlreadyHeld, ReplyWaiting, ReplyQuiet, RequestQuiet}
+use Rattle.end.specs.declared.Decision.{Decision}
+use Rattle.end.specs.declared.Decision.the-variants.{Ignores, Opens, Takes, Repairs, Hushes, Replies, Learns, BacksOff}
+use Rattle.end.specs.Records.{isClosed, isBelow, isAbove, isHeld, isNo, replyIn}
+use Rattle.end.specs.Decide.{number, decideAs}
+
+abbrev pub isData : Says → Bool
+isData Data = true
+isData Rqst = false
+isData Repl = false
+
+abbrev pub isRequest : Says → Bool
+isRequest Data = false
+isRequest Rqst = true
+isRequest Repl = false
+
+-- the quiet time of the request is not over; in a sound state a name up to last that is not held has one
+abbrev pub isQuiet : ℕ → Slot → Bool
+isQuiet clock Empty = true
+isQuiet clock (Held reply) = true
+isQuiet clock (Waiting q) = leb clock (q .quiet)
+
+-- "source not open (RQST, REPL); below first (DATA, RQST, REPL); own number above last (RQST, REPL); already held (DATA); reply waiting,
+-- then reply-quiet (RQST of a held cue); request quiet (RQST of a cue not held, up to last)"
+abbrev pub holds : Says → Moment → Word → Record → Span → Reason → Bool
+holds says t w r x NotOpen = not (isData says) && isClosed x
+holds says t w r x BelowFirst = isBelow x (number w)
+holds says t w r x OwnAboveLast = not (isData says) && (sameHost (w .name .source) (t .me) && isAbove x (number w))
+holds says t w r x AlreadyHeld = isData says && isHeld (r .slot)
+holds says t w r x ReplyWaiting = isRequest says && (isHeld (r .slot) && not (isNo (replyIn (r .slot))))
+holds says t w r x ReplyQuiet = isRequest says && (isHeld (r .slot) && ltb (t .clock) (r .hush))
+holds says t w r x RequestQuiet = isRequest says && (not (isHeld (r .slot)) && (not (isAbove x (number w)) && isQuiet (t .clock) (r .slot)))
+
+abbrev pub reasons : List Reason
+reasons = NotOpen ∷ BelowFirst ∷ OwnAboveLast ∷ AlreadyHeld ∷ ReplyWaiting ∷ ReplyQuiet ∷ RequestQuiet ∷ []
+
+abbrev pub firstThat : (Reason → Bool) → List Reason → Option Reason
+firstThat f [] = none
+firstThat f (why ∷ l) = cond (f why) (some why) (firstThat f l)
+
+abbrev pub reasonOf : Decision → Option Reason
+reasonOf (Ignores why) = some why
+reasonOf Opens = none
+reasonOf Takes = none
+reasonOf Repairs = none
+reasonOf Hushes = none
+reasonOf Replies = none
+reasonOf Learns = none
+reasonOf (BacksOff k) = none
+
+-- In a sound state a closed source holds nothing.
+abbrev pub IgnoredForTheFirstReason : Type 0
+IgnoredForTheFirstReason = (t : Moment) (w : Word) (r : Record) (x : Span) → (x ≡ Closed → isHeld (r .slot) ≡ false)
+    → reasonOf (decideAs (w .says) t w r x) ≡ firstThat (holds (w .says) t w r x) reasons

@@ -1,0 +1,317 @@
+-- The statements of specs/BackOff.antt: rounds and due times, what is heard in a quiet time; then from an opening, through lists of
+-- calls: rounds, who set the request that waits, its quiet time, and the end of repeated Fire.
+use mathlib.Core.Path.{_≡_, refl, sym, ap, _∙_, subst}
+use mathlib.Core.Bool.{Bool, true, false, _&&_}
+use mathlib.Core.List.{List, [], _∷_}
+use mathlib.Core.Logic.{_⊎_, inl, inr, ⊎-elim}
+use Prim.Native.Nat.{ℕ, _+_, _*_, _≤_, _<_, zero, suc}
+use native.Mathlib.Nat.{mul-le-mul}
+use native.Mathlib.Omega.{arith}
+use lib.ListN.{getD, length}
+use lib.Seq.{set-getD}
+use lib.Dec.{eqb, leb}
+use borrow.Author.Tests.{ltb-true, leb-true, eqb-true, eqb-false, eq-eqb}
+use Rattle.message.specs.declared.Host.{Host}
+use Rattle.message.specs.Entry.{asHost, asNumber}
+use Rattle.message.specs.Message.{DATA, RQST, Meaning, meaningFrom}
+use Rattle.message.specs.Question.{sameHost, readRefusal, hostIn, ask}
+use Rattle.message.proofs.QuestionLaws.{and-both, all-passed}
+use Rattle.end.specs.declared.Params.{Params}
+use Rattle.end.specs.declared.Request.{Request}
+use Rattle.end.specs.declared.Slot.{Slot}
+use Rattle.end.specs.declared.Slot.the-variants.{Empty, Held, Waiting}
+use Rattle.end.specs.declared.Record.{Record}
+use Rattle.end.specs.declared.Span.{Span}
+use Rattle.end.specs.declared.Span.the-variants.{Closed, Open}
+use Rattle.end.specs.declared.Source.{Source}
+use Rattle.end.specs.declared.End.{End}
+use Rattle.end.specs.declared.Moment.{Moment}
+use Rattle.end.specs.declared.Says.the-variants.{Rqst}
+use Rattle.end.specs.declared.Decision.{Decision}
+use Rattle.end.specs.declared.Decision.the-variants.{Ignores, Opens, Takes, Repairs, Hushes, Replies, Learns, BacksOff}
+use Rattle.end.specs.State.{distanceTo, momentOf, withClock, noSource, sourceAt, isMember, withSources}
+use Rattle.end.specs.Records.{isHeld, within, isAbove, recordAt}
+use Rattle.end.specs.Round.{Drawn, factor, share, requestAt, nextRound}
+use Rattle.end.specs.Answer.{Result, Ignored, Step, give, done}
+use Rattle.end.specs.Sound.{soundOf, allOf, paramsTests}
+use Rattle.end.specs.Decide.{decide, apply, effectOf, stepBy, stepAt}
+use Rattle.end.specs.Arrival.{messageName, wordOf, messageStep, arrivalOf}
+use Rattle.end.specs.Event.{Action, eventOf, Arrival, actOf, stepOf, questionOf, Fire}
+use Rattle.end.specs.Opening.{openingOf, constrainedTests, openRefusal, endFor}
+use Rattle.end.proofs.Bounds.{share-most, factor-least}
+use Rattle.end.proofs.Facts.{facts, unheard-at}
+use Rattle.end.proofs.Grounds.{isRequest, Grounds, grounds}
+use Rattle.end.proofs.Readings.{reads, in-range}
+use Rattle.end.proofs.RecordLaws.{at-outside}
+use Rattle.end.proofs.SoundLaws.{nth}
+use Rattle.end.proofs.Tools.{byCond, byTest, clash, clash′}
+use Rattle.invariants.proofs.Questions.{Passed, passes}
+use Rattle.invariants.proofs.Stays.{opens-sound, stays-sound}
+use Rattle.guarantees.specs.Calls.{momentAt, OneCall, after, afterAll}
+use Rattle.guarantees.specs.Waits.{waitIn, waitAt}
+use Rattle.guarantees.specs.Records.{slotOf, clearing, MayBecome, HeardAs}
+use Rattle.guarantees.specs.Arrivals.{hear}
+use Rattle.guarantees.specs.Fires.{OpenedFiringEnds, OpenedC3BelowC1}
+use Rattle.guarantees.specs.BackOff.{RoundsRise, SetNow, SetOrKept, Hearing, heardAll, OncePerQuiet, AlwaysDue, QuietIgnores, RoundsThrough, SetIn, DrawsAreBytes, CuesAreArrays, AlwaysSet, QuietBeforeDue, OneRoundPerQuiet}
+use Rattle.guarantees.proofs.Names.{sound-waits, waits-inside, waiting-not, far}
+use Rattle.guarantees.proofs.Messages.{learns, learns-above}
+use Rattle.guarantees.proofs.Arrivals.{call-cases, member-not-crashed, held-stays, slots-as-heard}
+use Rattle.guarantees.proofs.Slots.{acts-may, slots-may-become, host-and-params-stay}
+use Rattle.guarantees.proofs.Fires.{due-means-out, firing-ends}
+
+-- one call, from a round up to 16
+pub round-step : (e : End) (a : Action) (clock room : ℕ) (draws : List ℕ) (h n : ℕ) (q p : Request) → q .round ≤ 16 → h < 8
+    → slotOf e h n ≡ Waiting q → slotOf (eventOf e a clock room draws .left) h n ≡ Waiting p → (q .round ≤ p .round) × (p .round ≤ q .round + 1) × (p .round ≤ 16)
+round-step e a clock room draws h n q p most hh before after =
+    let step : MayBecome (clearing a) (momentAt e clock) draws (distanceTo e (asHost h)) n (Waiting q) (Waiting p) = rw (before, after) at (slots-may-become e a clock room draws h n hh) in
+    ⊎-elim (λ same. let k = ap (λ (r : Request). r .round) same in (omega arith, omega arith, omega arith))
+    (λ next. let k : p .round ≡ nextRound (q .round) = ap (λ (r : Request). r .round) (next .1) in (omega arith, omega arith, omega arith))
+    step
+
+pub rounds-rise : RoundsRise
+rounds-rise e a clock room draws h n q p sound hh before after =
+    round-step e a clock room draws h n q p (sound-waits e sound h n hh q before .most) hh before after
+
+-- ---- a request that is set
+
+set-now : (e : End) (clock : ℕ) (draws : List ℕ) (h n : ℕ) (p : Request) (k : ℕ) → soundOf e ≡ true → Drawn draws → 1 ≤ k → k ≤ 16
+    → p ≡ requestAt (momentAt e clock) draws (distanceTo e (asHost h)) n k → SetNow e clock draws h n p
+set-now e clock draws h n p k sound bytes least most is =
+    let t = momentAt e clock in
+    let d = distanceTo e (asHost h) in
+    let round : p .round ≡ k = ap (λ (r : Request). r .round) is in
+    let due = ap (λ (r : Request). r .due) is in
+    let most-drawn : share (factor k * e .params .c2 * d) (getD draws n 0) ≤ factor k * e .params .c2 * d = share-most (factor k * e .params .c2 * d) (getD draws n 0) (bytes n) in
+    let both : factor k * (e .params .c1 + e .params .c2) * d ≡ factor k * e .params .c1 * d + factor k * e .params .c2 * d = omega arith in
+    record {
+      sound = sound;
+      least = omega arith;
+      most = omega arith;
+      is = is ∙ ap (requestAt t draws d n) (sym round);
+      not-before = rw round (omega arith);
+      not-after = rw round (omega arith);
+    }
+
+set-step : (e : End) (emptied : Bool) (clock : ℕ) (draws : List ℕ) (h n : ℕ) (p : Request) → soundOf e ≡ true → Drawn draws → (x : Slot)
+    → MayBecome emptied (momentAt e clock) draws (distanceTo e (asHost h)) n x (Waiting p) → (x ≡ Waiting p) ⊎ SetNow e clock draws h n p
+set-step e emptied clock draws h n p sound bytes Empty s = inr (set-now e clock draws h n p (s .0) sound bytes (s .1) (omega (arith, s .2)) (s .3))
+set-step e emptied clock draws h n p sound bytes (Held reply) s = absurd s
+set-step e emptied clock draws h n p sound bytes (Waiting q) (inl same) = inl (ap Waiting (sym same))
+set-step e emptied clock draws h n p sound bytes (Waiting q) (inr next) = inr (set-now e clock draws h n p (nextRound (q .round)) sound bytes (omega arith) (omega arith) (next .1))
+
+pub set-or-kept : SetOrKept
+set-or-kept e a clock room draws h n p bytes hh =
+    call-cases (λ (r : Result). slotOf (r .left) h n ≡ Waiting p → (slotOf e h n ≡ Waiting p) ⊎ SetNow e clock draws h n p) e a clock room draws
+    (λ k now. inl now)
+    (λ z now. inl now)
+    (λ z c now. set-step e (clearing a) clock draws h n p (z .sound) bytes (slotOf e h n)
+    (subst (MayBecome (clearing a) (momentAt e clock) draws (distanceTo e (asHost h)) n (slotOf e h n)) now (acts-may e a clock draws z .1 h hh n .slot)))
+
+-- ---- a quiet time
+
+-- a held cue stays through all that arrives
+held-through : (xs : List Hearing) (e : End) (h n : ℕ) → h < 8 → isHeld (slotOf e h n) ≡ true → isHeld (slotOf (heardAll e xs) h n) ≡ true
+held-through [] e h n hh p = p
+held-through (x ∷ xs) e h n hh p =
+    held-through xs (hear e (x .bytes) (x .clock) (x .room) (x .draws) .left) h n hh (held-stays e (x .bytes) (x .clock) (x .room) (x .draws) h n hh p .0)
+
+-- one arrival up to quiet-until
+quiet-one : (t : Moment) (us : List ℕ) (d n : ℕ) (a b : Bool) (q : Request) (y : Slot) → t .clock ≤ q .quiet → HeardAs t us d n a b (Waiting q) y → (y ≡ Waiting q) ⊎ (isHeld y ≡ true)
+quiet-one t us d n a b q Empty l h = absurd h
+quiet-one t us d n a b q (Held reply) l h = inr refl
+quiet-one t us d n a b q (Waiting p) l (inl same) = inl (ap Waiting same)
+quiet-one t us d n a b q (Waiting p) l (inr next) = let late = next .1 in absurd (omega arith)
+
+pub once-per-quiet : OncePerQuiet
+once-per-quiet e h n q hh p [] by = inl p
+once-per-quiet e h n q hh p (x ∷ xs) by =
+    let now = hear e (x .bytes) (x .clock) (x .room) (x .draws) .left in
+    let t = momentAt e (x .clock) in
+    let d = distanceTo e (asHost h) in
+    ⊎-elim (λ same. once-per-quiet now h n q hh same xs (by .1))
+    (λ held. inr (held-through xs now h n hh held))
+    (quiet-one t (x .draws) d n _ _ q (slotOf now h n) (by .0) (rw p at (slots-as-heard e (x .bytes) (x .clock) (x .room) (x .draws) h n hh)))
+
+-- ---- always a due time
+pub always-due : AlwaysDue
+unfolding waitAt waitIn
+always-due e h n q sound hh p = (
+  sound-waits e sound h n hh q p .due,
+  λ clock room draws f l. due-means-out e clock room draws f (record { due = q .due; reply = false; name = record { source = asHost h; number = asNumber n } })
+      (record { source = hh; waits = rw p; due = l }),
+)
+
+-- ---- what is Ignored in a quiet time
+
+-- a step that is Ignored and changes nothing
+abbrev Ignores-all : End → Step → Type 0
+Ignores-all e step = step ≡ give Ignored e
+
+inside-not-above : (x : Span) (n : ℕ) → within x n ≡ true → isAbove x n ≡ true → ⊥
+inside-not-above Closed n w h = clash′ w
+inside-not-above (Open first last) n w h =
+    omega (arith, leb-true n (last .0) (and-both (leb (first .0) n) (leb n (last .0)) w .1), ltb-true (last .0) n h)
+
+module _ (us : List ℕ) (m : Meaning) (e : End) (q : Request) (waiting : recordAt (sourceAt e (messageName m .source)) (messageName m .number .0) .slot ≡ Waiting q)
+    (quiet : e .clock ≤ q .quiet) where
+  -- every decision but to ignore it has grounds that do not hold here
+  decided : (d : Decision) → (learns d ≡ true → isAbove (sourceAt e (messageName m .source) .span) (messageName m .number .0) ≡ true)
+      → Grounds (momentOf e) (wordOf Rqst m e) (recordAt (sourceAt e (messageName m .source)) (messageName m .number .0)) (sourceAt e (messageName m .source) .span) d
+      → Ignores-all e (stepBy (momentOf e) us (wordOf Rqst m e) e d)
+  unfolding Grounds apply effectOf
+  decided (Ignores why) above g = ap (λ (l : List Source). give Ignored (withSources e l)) (set-getD (e .sources) (messageName m .source .0) noSource)
+  decided Opens above g = clash (ap isRequest (g .0))
+  decided Takes above g = clash (ap isRequest (g .0))
+  decided Repairs above g = clash (ap isRequest (g .0))
+  decided Hushes above g = clash (ap isRequest (g .0))
+  decided Replies above g = clash (sym (g .1 .held) ∙ ap isHeld waiting)
+  decided Learns above g =
+      let s = sourceAt e (messageName m .source) in
+      absurd (inside-not-above (s .span) (messageName m .number .0) (waits-inside s (messageName m .number .0) q waiting) (above refl))
+  decided (BacksOff k) above g =
+      let z : Waiting q ≡ Waiting (g .1 .request) = sym waiting ∙ g .1 .waits in
+      let same : q ≡ g .1 .request = cc in
+      absurd (omega (arith, ap (λ (r : Request). r .quiet) same, g .1 .over, quiet))
+
+  message-ignored : m .kind ≡ RQST → Ignores-all e (arrivalOf us m e)
+  unfolding arrivalOf messageStep stepAt
+  message-ignored kind =
+      let w = wordOf Rqst m e in
+      let s = sourceAt e (messageName m .source) in
+      let r = recordAt s (messageName m .number .0) in
+      byCond (Ignores-all e) (sameHost (m .sender) (e .host)) (λ _. refl)
+      (λ _. byCond (Ignores-all e) (eqb (m .kind) DATA) (λ t. let k = eqb-true (m .kind) DATA t in absurd (omega arith))
+      (λ _. byCond (Ignores-all e) (eqb (m .kind) RQST)
+      (λ _. decided (decide (momentOf e) w s) (learns-above (momentOf e) w r (s .span)) (grounds (momentOf e) w r (s .span)))
+      (λ t. absurd (eqb-false (m .kind) RQST t kind))))
+
+pub quiet-ignores : QuietIgnores
+unfolding eventOf stepOf actOf readRefusal
+quiet-ignores e bytes clock room draws q asked kind p l =
+    let m = meaningFrom bytes in
+    let s = sourceAt e (messageName m .source) in
+    let z : Passed e (Arrival bytes) clock = passes e (Arrival bytes) clock room (length draws) asked in
+    let fits = in-range bytes m (reads bytes (z .own)) in
+    let f = facts e (z .sound) in
+    let member : isMember (e .status) ≡ true = byTest (isMember (e .status)) (λ t. t)
+    (λ t. clash′ (sym (ap (λ (x : Span). within x (messageName m .number .0)) (f .aside t (messageName m .source .0) (fits .source))) ∙ waits-inside s (messageName m .number .0) q p)) in
+    let step = message-ignored draws m (withClock e clock) q p l kind in
+    rw (eq-eqb (questionOf e (Arrival bytes) clock room (length draws)) 0 asked, member-not-crashed (e .status) member, member) (ap done step)
+
+-- ---- an opening
+
+pub opened-c3-below-c1 : OpenedC3BelowC1
+unfolding openingOf openRefusal
+opened-c3-below-c1 h p = go (openRefusal h p) refl
+  where
+    go : (k : ℕ) → openRefusal h p ≡ k → endFor k h p .params .c3 < endFor k h p .params .c1
+    go zero q =
+        let last = ask (allOf (paramsTests p) && allOf (constrainedTests p)) 13 ∷ [] in
+        let twelve = all-passed (hostIn h) 12 last (omega arith) q in
+        let thirteen = all-passed (allOf (paramsTests p) && allOf (constrainedTests p)) 13 [] (omega arith) (twelve .1) in
+        ltb-true (p .c3) (p .c1) (nth (constrainedTests p) 0 (and-both (allOf (paramsTests p)) _ (thirteen .0) .1))
+    go (suc k) q = omega arith
+
+-- a fresh end has nothing of any name
+opened-empty : (me : Host) (p : Params) (h n : ℕ) → h < 8 → slotOf (openingOf me p .end) h n ≡ Empty
+unfolding openingOf
+opened-empty me p h n hh = go (openRefusal me p)
+  where
+    go : (k : ℕ) → slotOf (endFor k me p) h n ≡ Empty
+    go zero = ap (λ (r : Record). r .slot) (at-outside (sourceAt (endFor zero me p) (asHost h)) n (rw (unheard-at (me .0) h hh .0)))
+    go (suc k) = ap (λ (r : Record). r .slot) (at-outside (sourceAt (endFor (suc k) me p) (asHost h)) n (rw (unheard-at 0 h hh .0)))
+
+-- ---- calls one after the other
+
+same-waiting : (x : Slot) (q p : Request) → x ≡ Waiting q → x ≡ Waiting p → q ≡ p
+same-waiting x q p a b = let z : Waiting q ≡ Waiting p = sym a ∙ b in cc
+
+pub rounds-through : RoundsThrough
+rounds-through [] e h n q p hh most before through now =
+    let k = ap (λ (r : Request). r .round) (same-waiting (slotOf e h n) q p before now) in
+    (omega arith, omega arith, omega arith)
+rounds-through (c ∷ cs) e h n q p hh most before through now =
+    let next = through .0 .0 in
+    let one = round-step e (c .action) (c .clock) (c .room) (c .draws) h n q next most hh before (through .0 .1) in
+    let rest = rounds-through cs (after e c) h n next p hh (one .2) (through .0 .1) (through .1) now in
+    (omega (arith, one .0, rest .0), omega (arith, one .1, rest .1), rest .2)
+
+-- a request that waits after the calls waited before them, or one of them set it
+set-in : (cs : List OneCall) (e : End) (h n : ℕ) (p : Request) → DrawsAreBytes cs → h < 8 → slotOf (afterAll e cs) h n ≡ Waiting p → (slotOf e h n ≡ Waiting p) ⊎ SetIn h n p e cs
+set-in [] e h n p bytes hh now = inl now
+set-in (c ∷ cs) e h n p bytes hh now =
+    ⊎-elim (λ here. ⊎-elim (λ kept. inl kept) (λ set. inr (inl (set, here))) (set-or-kept e (c .action) (c .clock) (c .room) (c .draws) h n p (bytes .0) hh here))
+    (λ later. inr (inr later))
+    (set-in cs (after e c) h n p (bytes .1) hh now)
+
+pub always-set : AlwaysSet
+always-set me params cs h n p bytes hh now =
+    ⊎-elim (λ here. waiting-not (slotOf (openingOf me params .end) h n) p (opened-empty me params h n hh) here)
+    (λ set. set) (set-in cs (openingOf me params .end) h n p bytes hh now)
+
+-- ---- what stays
+
+kept-through : (cs : List OneCall) (e : End) → (afterAll e cs .host ≡ e .host) × (afterAll e cs .params ≡ e .params)
+kept-through [] e = (refl, refl)
+kept-through (c ∷ cs) e =
+    let rest = kept-through cs (after e c) in
+    let one = host-and-params-stay e (c .action) (c .clock) (c .room) (c .draws) in
+    (rest .0 ∙ one .0, rest .1 ∙ one .1)
+
+-- ---- a request's quiet time ends before it is due
+
+less-product : (f a b d : ℕ) → 1 ≤ f → a < b → 1 ≤ d → f * a * d < f * b * d
+less-product f a b d hf l hd =
+    let more : f * (a + 1) * d ≤ f * b * d = mul-le-mul (mul-le-mul {n₁ = f} {n₂ = f} (omega arith) (omega arith)) (omega arith) in
+    let one : 1 * 1 ≤ f * d = mul-le-mul hf hd in
+    let sum : f * (a + 1) * d ≡ f * a * d + f * d = omega arith in
+    omega arith
+
+set-quiet : (e : End) (clock : ℕ) (draws : List ℕ) (h n : ℕ) (q : Request) → h < 8 → e .params .c3 < e .params .c1 → sameHost (asHost h) (e .host) ≡ false → SetNow e clock draws h n q → q .quiet < q .due
+set-quiet e clock draws h n q hh l other s =
+    let quiet : q .quiet ≡ clock + factor (q .round) * e .params .c3 * distanceTo e (asHost h) = ap (λ (r : Request). r .quiet) (s .is) in
+    let less = less-product (factor (q .round)) (e .params .c3) (e .params .c1) (distanceTo e (asHost h)) (factor-least (q .round)) l (far e (s .sound) h hh other) in
+    let due = s .not-before in
+    omega arith
+
+set-in-quiet : (cs : List OneCall) (e : End) (h n : ℕ) (q : Request) → h < 8 → e .params .c3 < e .params .c1 → sameHost (asHost h) (e .host) ≡ false → SetIn h n q e cs → q .quiet < q .due
+set-in-quiet [] e h n q hh l other s = absurd s
+set-in-quiet (c ∷ cs) e h n q hh l other (inl s) = set-quiet e (c .clock) (c .draws) h n q hh l other (s .0)
+set-in-quiet (c ∷ cs) e h n q hh l other (inr s) =
+    let kept = host-and-params-stay e (c .action) (c .clock) (c .room) (c .draws) in
+    set-in-quiet cs (after e c) h n q hh (rw (kept .1) l) (ap (sameHost (asHost h)) (kept .0) ∙ other) s
+
+-- sound stays sound
+sound-through : (cs : List OneCall) (e : End) → DrawsAreBytes cs → CuesAreArrays cs → soundOf e ≡ true → soundOf (afterAll e cs) ≡ true
+sound-through [] e bytes cues s = s
+sound-through (c ∷ cs) e bytes cues s =
+    sound-through cs (after e c) (bytes .1) (cues .1) (stays-sound e (c .action) (c .clock) (c .room) (c .draws) (bytes .0) (cues .0) s)
+
+pub quiet-before-due : QuietBeforeDue
+quiet-before-due me params cs h n q bytes cues hh now =
+    let fresh = openingOf me params .end in
+    let sound = sound-through cs fresh bytes cues (opens-sound me params) in
+    let other = sound-waits (afterAll fresh cs) sound h n hh q now .other in
+    set-in-quiet cs fresh h n q hh (opened-c3-below-c1 me params) (ap (sameHost (asHost h)) (sym (kept-through cs fresh .0)) ∙ other) (always-set me params cs h n q bytes hh now)
+
+-- one call up to quiet-until
+quiet-call : (e : End) (c : OneCall) (h n : ℕ) (q p : Request) → h < 8 → slotOf e h n ≡ Waiting q → q .quiet < q .due → c .clock ≤ q .quiet → slotOf (after e c) h n ≡ Waiting p → p ≡ q
+quiet-call e c h n q p hh before l by now =
+    let step : MayBecome (clearing (c .action)) (momentAt e (c .clock)) (c .draws) (distanceTo e (asHost h)) n (Waiting q) (Waiting p) =
+    rw (before, now) at (slots-may-become e (c .action) (c .clock) (c .room) (c .draws) h n hh) in
+    ⊎-elim (λ same. same) (λ next. ⊎-elim (λ late. absurd (omega arith)) (λ due. absurd (omega arith)) (next .0)) step
+
+pub one-round-per-quiet : OneRoundPerQuiet
+one-round-per-quiet [] e h n q hh before l through by = before
+one-round-per-quiet (c ∷ cs) e h n q hh before l through by =
+    let same = quiet-call e c h n q (through .0 .0) hh before l (by .0) (through .0 .1) in
+    one-round-per-quiet cs (after e c) h n q hh (through .0 .1 ∙ ap Waiting same) l (through .1) (by .1)
+
+-- ---- Fire, after any calls
+pub opened-firing-ends : OpenedFiringEnds
+opened-firing-ends me p before clock room calls out =
+    let fresh = openingOf me p .end in
+    let below = opened-c3-below-c1 me p in
+    let least : 1 ≤ fresh .params .c1 = omega arith in
+    let ends = firing-ends (afterAll fresh before) clock room calls (rw (kept-through before fresh .1) least) out in
+    omega (arith, ends .0, ends .1)

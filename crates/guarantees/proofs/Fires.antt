@@ -1,0 +1,334 @@
+-- What goes out by Fire is about the earliest wait that is due, and Nothing means that none is due. Each Fire that puts something out
+-- leaves one wait less that is due: a fired request is due again only later, a fired reply is gone, and no other name has changed.
+use mathlib.Core.Path.{_≡_, refl, sym, ap, _∙_, subst}
+use mathlib.Core.Bool.{Bool, true, false, cond}
+use mathlib.Core.List.{List, [], _∷_}
+use mathlib.Core.Option.{some, Option, none}
+use Prim.Native.Nat.{ℕ, _+_, _*_, _≤_, _<_, zero, suc}
+use native.Mathlib.Nat.{mul-le-mul}
+use native.Mathlib.Omega.{arith}
+use lib.ListN.{length}
+use lib.Seq.{getD-set-same}
+use lib.Dec.{leb}
+use borrow.Author.Tests.{eq-eqb, le-leb, lt-leb}
+use Rattle.numbers.proofs.Cases.{by-order}
+use Rattle.message.specs.declared.Host.{Host}
+use Rattle.message.specs.declared.Name.{Name}
+use Rattle.message.specs.Entry.{asHost, asNumber}
+use Rattle.message.specs.Message.{RQST, REPL, Meaning, bytesOf}
+use Rattle.message.specs.Question.{sameHost}
+use Rattle.end.specs.declared.Request.{Request}
+use Rattle.end.specs.declared.Reply.the-variants.{No, Due}
+use Rattle.end.specs.declared.Slot.{Slot}
+use Rattle.end.specs.declared.Slot.the-variants.{Empty, Held, Waiting}
+use Rattle.end.specs.declared.Record.{Record}
+use Rattle.end.specs.declared.Source.{Source}
+use Rattle.end.specs.declared.End.{End}
+use Rattle.end.specs.declared.Moment.{Moment}
+use Rattle.end.specs.declared.Wait.{Wait}
+use Rattle.end.specs.declared.Earliest.{Earliest}
+use Rattle.end.specs.declared.Earliest.the-variants.{NoWait, First}
+use Rattle.end.specs.State.{sourceAt, isMember, momentOf, withClock, noSource, distanceTo, withSource}
+use Rattle.end.specs.Records.{recordAt, withRecord}
+use Rattle.end.specs.Round.{factor, requestAt, nextRound}
+use Rattle.end.specs.Answer.{Effect, Out, Ignored, Nothing, Step, give, Refused, Did, Result, done}
+use Rattle.end.specs.Messages.{requestMessage, repairMessage}
+use Rattle.end.specs.Sound.{soundOf}
+use Rattle.end.specs.Arrival.{messageName, messageHost}
+use Rattle.end.specs.Fire.{earliest, fireAt, fired, fireOf}
+use Rattle.end.specs.Event.{Else, Fire, actOf, stepOf, questionOf, eventOf}
+use Rattle.end.proofs.Bounds.{factor-least}
+use Rattle.end.proofs.Facts.{within-small}
+use Rattle.end.proofs.RecordLaws.{read-same, store-elim}
+use Rattle.end.proofs.Tools.{byCond, clash, set-elim}
+use Rattle.invariants.proofs.Ends.{clock-kept}
+use Rattle.invariants.proofs.Facts.{last-in, SoundState, facts}
+use Rattle.invariants.proofs.Outputs.{Written, request-written, repair-written}
+use Rattle.invariants.proofs.Questions.{Passed}
+use Rattle.guarantees.specs.Waits.{waitIn, waitAt, IsDue, IsEarliest, dueCount, dueWaits, sumBelow}
+use Rattle.guarantees.specs.Fires.{fire, FireTaken, TellsOf, OutIsEarliest, NothingMeansNone, NoneMeansNothing, DueMeansOut, OneLessDue, AllOut, FiringEnds}
+use Rattle.guarantees.proofs.Names.{sound-waits, far}
+use Rattle.guarantees.proofs.Arrivals.{call-cases, member-not-crashed}
+use Rattle.guarantees.proofs.Choice.{choice-is-earliest, no-choice-none-due, due-inside}
+use Rattle.guarantees.proofs.Slots.{host-and-params-stay}
+
+-- ---- the step
+
+-- what stands under a name that has a wait, a request or a reply
+pub by-wait {κ} : {P : Type κ} (name : Name) (x : Slot) (w : Wait) → waitIn name x ≡ some w
+    → ((q : Request) → x ≡ Waiting q → w .reply ≡ false → P)
+    → ((requester : Host) → x ≡ Held (Due (w .due) requester) → w .reply ≡ true → P)
+    → P
+unfolding waitIn
+by-wait name Empty w h f g = absurd (let z : _≡_ {A = ℕ} 0 1 = cc in omega arith)
+by-wait name (Waiting q) w h f g =
+    let same : _≡_ {A = Wait} (record { due = q .due; reply = false; name = name }) w = cc in
+    f q refl (ap (λ (z : Wait). z .reply) (sym same))
+by-wait name (Held No) w h f g = absurd (let z : _≡_ {A = ℕ} 0 1 = cc in omega arith)
+by-wait name (Held (Due due k)) w h f g =
+    let same : _≡_ {A = Wait} (record { due = due; reply = true; name = name }) w = cc in
+    g k (ap (λ (z : Wait). Held (Due (z .due) k)) same) (ap (λ (z : Wait). z .reply) (sym same))
+
+-- a step that puts out a message about a wait; that of a sound end is read as it was written
+pub record Tells (e : End) (w : Wait) (step : Step) : Type 0 where
+  pub message : Meaning
+  pub out : step .effect ≡ Out (bytesOf message)
+  pub written : SoundState e → Written message
+  pub kind : message .kind ≡ cond (w .reply) REPL RQST
+  pub name : messageName message ≡ w .name
+  pub sender : message .sender ≡ e .host
+  pub stamp : message .stamp ≡ e .clock
+  pub clock : step .left .clock ≡ e .clock
+  pub requester : w .reply ≡ true → recordAt (sourceAt e (w .name .source)) (w .name .number .0) .slot ≡ Held (Due (w .due) (messageHost message))
+
+fire-tells : (us : List ℕ) (e : End) (w : Wait) (x : Slot) → recordAt (sourceAt e (w .name .source)) (w .name .number .0) .slot ≡ x → waitIn (w .name) x ≡ some w
+    → Tells e w (fireAt us (w .name) e x)
+unfolding fireAt
+fire-tells us e w x slot h =
+    by-wait (w .name) x w h
+    (λ q p k. rw p (record {
+      message = requestMessage (momentOf e) (w .name);
+      out = refl;
+      written = λ f. request-written e f (w .name) q (slot ∙ p);
+      kind = ap (λ (t : Bool). cond t REPL RQST) (sym k);
+      name = refl;
+      sender = refl;
+      stamp = refl;
+      clock = refl;
+      requester = λ t. clash (sym t ∙ k);
+    }))
+    (λ j p k. rw p (record {
+      message = repairMessage (momentOf e) (w .name) j (recordAt (sourceAt e (w .name .source)) (w .name .number .0) .cue);
+      out = refl;
+      written = λ f. repair-written e f (w .name) (w .due) j (slot ∙ p);
+      kind = ap (λ (t : Bool). cond t REPL RQST) (sym k);
+      name = refl;
+      sender = refl;
+      stamp = refl;
+      clock = refl;
+      requester = λ _. slot ∙ p;
+    }))
+
+-- either nothing is due and Nothing comes, or the earliest goes out
+fire-cases : (P : Step → Type 0) (us : List ℕ) (e : End)
+    → (((w : Wait) → IsDue e w → ⊥) → P (give Nothing e))
+    → ((w : Wait) → IsEarliest e w → Tells e w (fired us e (First w)) → P (fired us e (First w)))
+    → P (fireOf us e)
+unfolding fired waitAt
+fire-cases P us e nothing goes = go (earliest e 8) refl
+  where
+    go : (x : Earliest) → earliest e 8 ≡ x → P (fired us e x)
+    go NoWait p = nothing (no-choice-none-due e p)
+    go (First w) p = let first = choice-is-earliest e w p in goes w first (fire-tells us e w _ refl (first .due .waits))
+
+-- ---- the call
+
+-- a call of Fire is refused, Ignored, or what Fire does on the end with its clock set
+fire-call : (P : Result → Type 0) (e : End) (clock room : ℕ) (draws : List ℕ)
+    → ((k : ℕ) → P (record { outcome = Refused k; left = e }))
+    → ((x : End) → P (record { outcome = Did Ignored; left = x }))
+    → (Passed e (Else Fire) clock → P (done (fireOf draws (withClock e clock))))
+    → P (fire e clock room draws)
+unfolding actOf
+fire-call P e clock room draws refused ignored acts = call-cases P e (Else Fire) clock room draws refused (λ z. ignored e)
+    (λ z c. byCond (λ s. P (done s)) (isMember (e .status)) (λ m. acts z) (λ m. ignored (withClock e clock)))
+
+-- a step's effect, of what the call did
+did : (a b : Effect) → Did a ≡ Did b → a ≡ b
+did a b p = cc
+
+-- what is read of a message that is read as it was written
+read-tells : (e : End) (clock : ℕ) (w : Wait) (step : Step) (bytes : List ℕ) (t : Tells (withClock e clock) w step) → Written (t .message) → bytesOf (t .message) ≡ bytes → TellsOf e clock w bytes
+read-tells e clock w step bytes t is same = subst (TellsOf e clock w) same (record {
+  accepted = is .accepted;
+  kind = ap (λ (m : Meaning). m .kind) (is .back) ∙ t .kind;
+  name = ap (λ (m : Meaning). messageName m) (is .back) ∙ t .name;
+  sender = ap (λ (m : Meaning). m .sender) (is .back) ∙ t .sender;
+  stamp = ap (λ (m : Meaning). m .stamp) (is .back) ∙ t .stamp;
+  requester = λ r. t .requester r ∙ ap (λ (m : Meaning). Held (Due (w .due) (messageHost m))) (sym (is .back));
+})
+
+-- a call of Fire that puts something out
+pub record Goes (e : End) (clock : ℕ) (draws bytes : List ℕ) (r : Result) : Type 0 where
+  pub before : soundOf e ≡ true
+  pub sound : SoundState (withClock e clock)
+  pub wait : Wait
+  pub first : IsEarliest (withClock e clock) wait
+  pub tells : Tells (withClock e clock) wait (fired draws (withClock e clock) (First wait))
+  pub is : bytesOf (tells .message) ≡ bytes
+  pub left : r .left ≡ fired draws (withClock e clock) (First wait) .left
+
+pub goes : (e : End) (clock room : ℕ) (draws bytes : List ℕ) → fire e clock room draws .outcome ≡ Did (Out bytes) → Goes e clock draws bytes (fire e clock room draws)
+goes e clock room draws bytes =
+    fire-call (λ r. r .outcome ≡ Did (Out bytes) → Goes e clock draws bytes r) e clock room draws
+    (λ k h. absurd (let z : _≡_ {A = ℕ} 0 1 = cc in omega arith)) (λ x h. absurd (let z : _≡_ {A = ℕ} 0 1 = cc in omega arith))
+    (λ z. fire-cases (λ s. Did (s .effect) ≡ Did (Out bytes) → Goes e clock draws bytes (done s)) draws (withClock e clock)
+    (λ free h. absurd (let z : _≡_ {A = ℕ} 0 1 = cc in omega arith))
+    (λ w first t h.
+    let same : Out (bytesOf (t .message)) ≡ Out bytes = sym (t .out) ∙ did _ (Out bytes) h in
+    record { before = z .sound; sound = clock-kept e clock (facts e (z .sound)) (z .later) (z .ticks); wait = w; first = first; tells = t; is = cc; left = refl }))
+
+pub out-is-earliest : OutIsEarliest
+out-is-earliest e clock room draws bytes h =
+    let g = goes e clock room draws bytes h in
+    (g .wait, g .first, read-tells e clock (g .wait) _ bytes (g .tells) (g .tells .written (g .sound)) (g .is))
+
+pub nothing-means-none : NothingMeansNone
+nothing-means-none e clock room draws =
+    let late = withClock e clock in
+    fire-call (λ r. r .outcome ≡ Did Nothing → (w : Wait) → IsDue late w → ⊥) e clock room draws
+    (λ k h. absurd (let z : _≡_ {A = ℕ} 0 1 = cc in omega arith)) (λ x h. absurd (let z : _≡_ {A = ℕ} 0 1 = cc in omega arith))
+    (λ z. fire-cases (λ s. Did (s .effect) ≡ Did Nothing → (w : Wait) → IsDue late w → ⊥) draws late
+    (λ free h. free)
+    (λ w first t h.
+    let same : Out (bytesOf (t .message)) ≡ Nothing = sym (t .out) ∙ did _ Nothing h in
+    absurd (let z : _≡_ {A = ℕ} 0 1 = cc in omega arith)))
+
+fire-is : (e : End) (clock room : ℕ) (draws : List ℕ) → FireTaken e clock room draws → fire e clock room draws ≡ done (fireOf draws (withClock e clock))
+unfolding eventOf stepOf actOf
+fire-is e clock room draws f =
+    rw (eq-eqb (questionOf e (Else Fire) clock room (length draws)) 0 (f .unrefused), member-not-crashed (e .status) (f .member), f .member)
+
+pub none-means-nothing : NoneMeansNothing
+none-means-nothing e clock room draws f free =
+    let late = withClock e clock in
+    fire-is e clock room draws f ∙ fire-cases (λ s. done s ≡ record { outcome = Did Nothing; left = late }) draws late
+    (λ _. refl)
+    (λ w first t. absurd (free w (first .due)))
+
+pub due-means-out : DueMeansOut
+due-means-out e clock room draws f w d =
+    let late = withClock e clock in
+    let goes = fire-cases (λ s. (bytes : List ℕ) × (s .effect ≡ Out bytes)) draws late
+    (λ free. absurd (free w d))
+    (λ w first t. (bytesOf (t .message), t .out)) in
+    (goes .0, ap (λ (r : Result). r .outcome) (fire-is e clock room draws f) ∙ ap Did (goes .1))
+
+-- ---- sums over the numbers below k: two that agree everywhere, or everywhere but at one place
+
+sum-same : (f g : ℕ → ℕ) (k : ℕ) → ((i : ℕ) → i < k → g i ≡ f i) → sumBelow g k ≡ sumBelow f k
+unfolding sumBelow
+sum-same f g zero h = refl
+sum-same f g (suc k) h = omega (arith, sum-same f g k (λ i l. h i (omega arith)), h k (omega arith))
+
+-- one is less by one at i
+sum-less : (f g : ℕ → ℕ) (k i : ℕ) → i < k → ((j : ℕ) → j < k → (j ≡ i → ⊥) → g j ≡ f j) → g i + 1 ≡ f i → sumBelow g k + 1 ≡ sumBelow f k
+unfolding sumBelow
+sum-less f g zero i l h e = absurd (omega arith)
+sum-less f g (suc k) i l h e = by-order i k
+    (λ below. omega (arith, sum-less f g k i below (λ j m d. h j (omega arith) d) e, h k (omega arith) (λ d. omega arith)))
+    (λ above.
+    let last : i ≡ k = omega arith in
+    omega (arith, sum-same f g k (λ j m. h j (omega arith) (λ d. omega arith)), ap g last, ap f last))
+
+sum-most : (f : ℕ → ℕ) (m k : ℕ) → ((i : ℕ) → f i ≤ m) → sumBelow f k ≤ k * m
+unfolding sumBelow
+sum-most f m zero h = omega arith
+sum-most f m (suc k) h =
+    let more : suc k * m ≡ k * m + m = omega arith in
+    omega (arith, sum-most f m k h, h k)
+
+-- ---- one record of an end changed
+
+-- a name from its two numbers
+abbrev nameAt : ℕ → ℕ → Name
+nameAt h n = record { source = asHost h; number = asNumber n }
+
+-- the end with another record under a name
+abbrev withNamed : End → Name → Record → End
+withNamed e name r = withSource e (name .source) (withRecord (sourceAt e (name .source)) (name .number .0) r)
+
+-- what is due under the names of an end that waits under one
+module _ (e : End) (f : SoundState e) (w : Wait) (due : IsDue e w) where
+  pub number-small : w .name .number .0 < 64
+  number-small =
+      let x = sourceAt e (w .name .source) .span in
+      within-small x (w .name .number .0) (last-in (sameHost (w .name .source) (e .host)) (e .next) x (f .each (w .name .source .0) (due .source) .span)) (due-inside e w due)
+
+  waits-there : (r : Record) → waitAt (withNamed e (w .name) r) (w .name) ≡ waitIn (w .name) (r .slot)
+  unfolding waitAt
+  waits-there r =
+      let name = w .name in
+      let s = sourceAt e (name .source) in
+      ap (λ (y : Source). waitIn name (recordAt y (name .number .0) .slot))
+      (getD-set-same (e .sources) (name .source .0) (withRecord s (name .number .0) r) noSource (omega (arith, f .sources, due .source)))
+      ∙ ap (λ (y : Record). waitIn name (y .slot))
+      (read-same s (name .number .0) r (due-inside e w due) (omega (arith, f .each (name .source .0) (due .source) .names, number-small)))
+
+waits-elsewhere : (e : End) (name : Name) (r : Record) (h n : ℕ) → (h ≡ name .source .0 → n ≡ name .number .0 → ⊥) → waitAt (withNamed e name r) (nameAt h n) ≡ waitAt e (nameAt h n)
+unfolding waitAt
+waits-elsewhere e name r h n apart =
+    let s = sourceAt e (name .source) in
+    set-elim (λ (y : Source). waitIn (nameAt h n) (recordAt y n .slot) ≡ waitAt e (nameAt h n)) (e .sources) (name .source .0) h (withRecord s (name .number .0) r) noSource
+    (λ i. store-elim (λ (y : Record). waitIn (nameAt h n) (y .slot) ≡ waitAt e (nameAt h n)) s (name .number .0) r n
+    (λ j. absurd (apart i j))
+    (ap (λ k. waitIn (nameAt h n) (recordAt (sourceAt e (asHost k)) n .slot)) (sym i)))
+    refl
+
+-- where a wait was due and now none is, one less is due
+one-less : (e : End) → SoundState e → (w : Wait) → IsDue e w → (r : Record) → dueCount (e .clock) (waitIn (w .name) (r .slot)) ≡ 0 → dueWaits (withNamed e (w .name) r) + 1 ≡ dueWaits e
+unfolding dueWaits dueCount
+one-less e f w due r is =
+    let name = w .name in
+    let was : dueCount (e .clock) (waitAt e name) ≡ 1 = rw (due .waits, le-leb (w .due) (e .clock) (due .due)) in
+    let now : dueCount (e .clock) (waitAt (withNamed e name r) name) ≡ 0 = ap (dueCount (e .clock)) (waits-there e f w due r) ∙ is in
+    sum-less _ _ 8 (name .source .0) (due .source)
+    (λ h hh d. sum-same _ _ 64 (λ n l. ap (dueCount (e .clock)) (waits-elsewhere e name r h n (λ p q. d p))))
+    (sum-less _ _ 64 (name .number .0) (number-small e f w due)
+    (λ n l d. ap (dueCount (e .clock)) (waits-elsewhere e name r (name .source .0) n (λ p q. d q)))
+    (omega (arith, was, now)))
+
+-- ---- what Fire leaves under the name
+
+-- a request that is set is due after its clock, where C1 and the distance are 1 or more
+set-later : (t : Moment) (us : List ℕ) (d n k : ℕ) → 1 ≤ t .params .c1 → 1 ≤ d → t .clock < requestAt t us d n k .due
+set-later t us d n k hc hd =
+    let wait : 1 * 1 * 1 ≤ factor k * t .params .c1 * d = mul-le-mul (mul-le-mul (factor-least k) hc) hd in
+    omega arith
+
+fired-less : (us : List ℕ) (e : End) → SoundState e → (w : Wait) → IsDue e w → 1 ≤ e .params .c1
+    → ((q : Request) → recordAt (sourceAt e (w .name .source)) (w .name .number .0) .slot ≡ Waiting q → 1 ≤ distanceTo e (w .name .source))
+    → dueWaits (fired us e (First w) .left) + 1 ≡ dueWaits e
+unfolding fired waitAt fireAt dueCount waitIn
+fired-less us e f w due c1 distance = go _ refl (due .waits)
+  where
+    go : (x : Slot) → recordAt (sourceAt e (w .name .source)) (w .name .number .0) .slot ≡ x → waitIn (w .name) x ≡ some w → dueWaits (fireAt us (w .name) e x .left) + 1 ≡ dueWaits e
+    go x p h = by-wait (w .name) x w h
+        (λ q i k.
+        let later = set-later (momentOf e) us (distanceTo e (w .name .source)) (w .name .number .0) (nextRound (q .round)) c1 (distance q (p ∙ i)) in
+        rw i (one-less e f w due _ (ap (λ (t : Bool). cond t 1 0) (lt-leb _ (e .clock) later))))
+        (λ j i k. rw i (one-less e f w due _ (rw (p ∙ i))))
+
+-- ---- the call
+
+pub one-less-due : OneLessDue
+one-less-due e clock room draws bytes c1 h =
+    let g = goes e clock room draws bytes h in
+    let sound = g .before in
+    let name = g .wait .name in
+    let hs = g .first .due .source in
+    ap (λ (x : End). dueWaits x + 1) (g .left)
+    ∙ fired-less draws (withClock e clock) (g .sound) (g .wait) (g .first .due) c1
+    (λ q p. far e sound (name .source .0) hs (sound-waits e sound (name .source .0) (name .number .0) hs q p .other))
+
+all-less : (e : End) (clock room : ℕ) (calls : List (List ℕ)) → 1 ≤ e .params .c1 → AllOut clock room e calls → length calls ≤ dueWaits (withClock e clock)
+all-less e clock room [] c1 h = omega arith
+all-less e clock room (draws ∷ more) c1 h =
+    let left = fire e clock room draws .left in
+    let kept = host-and-params-stay e (Else Fire) clock room draws .1 in
+    let less : dueWaits left + 1 ≡ dueWaits (withClock e clock) = one-less-due e clock room draws (h .0 .0) c1 (h .0 .1) in
+    let rest : length more ≤ dueWaits (withClock left clock) = all-less left clock room more (rw kept c1) (h .1) in
+    let g = goes e clock room draws (h .0 .0) (h .0 .1) in
+    let late : left .clock ≡ clock = ap (λ (x : End). x .clock) (g .left) ∙ g .tells .clock in
+    let same : dueWaits (withClock left clock) ≡ dueWaits left = ap (λ (k : ℕ). dueWaits (withClock left k)) (sym late) in
+    omega arith
+
+count-most : (clock : ℕ) (o : Option Wait) → dueCount clock o ≤ 1
+unfolding dueCount
+count-most clock none = omega arith
+count-most clock (some w) = byCond (λ k. k ≤ 1) (leb (w .due) clock) (λ _. omega arith) (λ _. omega arith)
+
+pub firing-ends : FiringEnds
+unfolding dueWaits
+firing-ends e clock room calls c1 h =
+    (all-less e clock room calls c1 h, sum-most _ 64 8 (λ s. sum-most _ 1 64 (λ n. count-most clock _)))

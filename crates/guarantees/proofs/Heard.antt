@@ -1,0 +1,206 @@
+-- What a message does to one record, change by change.
+use mathlib.Core.Path.{_≡_, refl, sym, ap, _∙_, subst}
+use mathlib.Core.Bool.{Bool, true, false, cond, _&&_, _||_}
+use mathlib.Core.List.{List}
+use mathlib.Core.Logic.{_⊎_, inl, inr}
+use Prim.Native.Nat.{ℕ, _≤_}
+use lib.Dec.{eqb}
+use borrow.Author.Tests.{eq-eqb}
+use Rattle.message.specs.declared.Host.{Host}
+use Rattle.message.specs.Message.{DATA, RQST, REPL, Meaning}
+use Rattle.end.specs.declared.Request.{Request}
+use Rattle.end.specs.declared.Reply.{Reply}
+use Rattle.end.specs.declared.Reply.the-variants.{No, Due}
+use Rattle.end.specs.declared.Slot.{Slot}
+use Rattle.end.specs.declared.Slot.the-variants.{Empty, Held, Waiting}
+use Rattle.end.specs.declared.Record.{Record}
+use Rattle.end.specs.declared.Source.{Source}
+use Rattle.end.specs.declared.Moment.{Moment}
+use Rattle.end.specs.State.{blankRecord}
+use Rattle.end.specs.Records.{isHeld, isNo, replyIn, withReply}
+use Rattle.end.specs.Round.{requestAt, nextRound, replyDue, quietAfterReply}
+use Rattle.end.specs.Names.{asking, holding, replying, quieted}
+use Rattle.end.specs.Arrival.{messageName, messageHost, messageCue}
+use Rattle.end.proofs.Grounds.{Free, Late}
+use Rattle.end.proofs.Tools.{clash, clash′}
+use Rattle.guarantees.specs.Records.{HeardAs, ReplyAs}
+use Rattle.guarantees.specs.Arrivals.{isAbout, risen, hasName, touches}
+
+pub or-first : (a b : Bool) → a ≡ true → a || b ≡ true
+or-first a b h = ap (λ (t : Bool). t || b) h
+
+pub or-second : (a b : Bool) → b ≡ true → a || b ≡ true
+or-second true b h = refl
+or-second false b h = h
+
+-- the message is a DATA or a REPL of this name
+abbrev pub carriedBy : Meaning → ℕ → ℕ → Bool
+carriedBy m h j = isAbout DATA m h j || isAbout REPL m h j
+
+-- what a message makes of a record r under source h and number j: `to` has the distances before, of which d is the source's, and
+-- `touched` is whether the message may change it
+pub record Heard (t : Moment) (us : List ℕ) (m : Meaning) (to : Host → ℕ) (d h j : ℕ) (touched : Bool) (r p : Record) : Type 0 where
+  pub same : touched ≡ false → p ≡ r
+  pub held : isHeld (r .slot) ≡ true → (isHeld (p .slot) ≡ true) × (p .cue ≡ r .cue)
+  pub slots : HeardAs t us d j (carriedBy m h j) (isAbout RQST m h j) (r .slot) (p .slot)
+  pub carries : isHeld (r .slot) ≡ false → isHeld (p .slot) ≡ true → p .cue ≡ messageCue m
+  pub reply : ReplyAs t us (to (m .sender)) (m .sender) j (isAbout RQST m h j) (isAbout REPL m h j) (r .slot) (r .hush) (replyIn (r .slot)) (replyIn (p .slot))
+  pub quiet : (p .hush ≡ r .hush) ⊎ ((isAbout REPL m h j ≡ true) × (p .hush ≡ quietAfterReply t (to (messageHost m))))
+
+-- a held cue with another reply is a held cue
+replied-held : (reply : Reply) (x : Slot) → isHeld (withReply reply x) ≡ isHeld x
+replied-held reply Empty = refl
+replied-held reply (Held was) = refl
+replied-held reply (Waiting q) = refl
+
+module _ (t : Moment) (us : List ℕ) (m : Meaning) (to : Host → ℕ) (d h j : ℕ) where
+  -- ---- slots
+  stays : (a b : Bool) (x : Slot) → HeardAs t us d j a b x x
+  stays a b Empty = tt
+  stays a b (Held reply) = tt
+  stays a b (Waiting q) = inl refl
+
+  replied : (a b : Bool) (reply : Reply) (x : Slot) → HeardAs t us d j a b x (withReply reply x)
+  replied a b reply Empty = tt
+  replied a b reply (Held was) = tt
+  replied a b reply (Waiting q) = inl refl
+
+  takes : (a b : Bool) (x : Slot) → isHeld x ≡ false → a ≡ true → HeardAs t us d j a b x (Held No)
+  takes a b Empty free c = (c, refl)
+  takes a b (Held reply) free c = tt
+  takes a b (Waiting q) free c = (c, refl)
+
+  -- then its reply goes
+  quiets : (a b : Bool) (x y : Slot) → HeardAs t us d j a b x y → HeardAs t us d j a b x (withReply No y)
+  quiets a b x Empty h = h
+  quiets a b Empty (Held reply) h = (h .0, refl)
+  quiets a b (Held was) (Held reply) h = tt
+  quiets a b (Waiting q) (Held reply) h = (h .0, refl)
+  quiets a b x (Waiting q) h = h
+
+  -- ---- replies
+  abbrev Replies : Slot → ℕ → Reply → Reply → Type 0
+  Replies = ReplyAs t us (to (m .sender)) (m .sender) j (isAbout RQST m h j) (isAbout REPL m h j)
+
+  reply-stays : (x : Slot) (u : ℕ) (reply : Reply) → Replies x u reply reply
+  reply-stays x u No = tt
+  reply-stays x u (Due due k) = (refl, refl)
+
+  reply-none : (x : Slot) (u : ℕ) → isHeld x ≡ false → Replies x u (replyIn x) No
+  reply-none Empty u free = tt
+  reply-none (Held reply) u free = clash free
+  reply-none (Waiting q) u free = tt
+
+  reply-goes : (x : Slot) (u : ℕ) (reply : Reply) → isAbout REPL m h j ≡ true → (y : Slot) → Replies x u reply (replyIn (withReply No y))
+  reply-goes x u No about Empty = tt
+  reply-goes x u No about (Held reply) = tt
+  reply-goes x u No about (Waiting q) = tt
+  reply-goes x u (Due due k) about Empty = about
+  reply-goes x u (Due due k) about (Held reply) = about
+  reply-goes x u (Due due k) about (Waiting q) = about
+
+  reply-begins : (x : Slot) (u : ℕ) (k : Host) → k ≡ m .sender → isHeld x ≡ true → isNo (replyIn x) ≡ true → u ≤ t .clock → isAbout RQST m h j ≡ true
+      → Replies x u (replyIn x) (replyIn (withReply (Due (replyDue t us (to k) j) k) x))
+  reply-begins Empty u k who held free over about = clash′ held
+  reply-begins (Held No) u k who held free over about = (about, refl, over, ap (λ (i : Host). replyDue t us (to i) j) who, who)
+  reply-begins (Held (Due due i)) u k who held free over about = clash′ free
+  reply-begins (Waiting q) u k who held free over about = clash′ held
+
+  -- ---- records
+  pub heard-none : (touched : Bool) (r : Record) → Heard t us m to d h j touched r r
+  heard-none touched r = record {
+    same = λ _. refl;
+    held = λ p. (p, refl);
+    slots = stays _ _ (r .slot);
+    carries = λ f p. clash (sym p ∙ f);
+    reply = reply-stays (r .slot) (r .hush) (replyIn (r .slot));
+    quiet = inl refl;
+  }
+
+  module _ (touched : Bool) (it : touched ≡ true) where
+    changed : {P : Type 0} → touched ≡ false → P
+    changed f = clash (sym it ∙ f)
+
+    -- a new request, in round 2 if it was heard for the name and in round 1 otherwise
+    pub heard-asked : (r : Record) → r ≡ blankRecord → (p : Record) → p .hush ≡ 0 → (q : Request) → q ≡ requestAt t us d j (cond (isAbout RQST m h j) 2 1)
+        → Heard t us m to d h j touched r (asking p q)
+    heard-asked r was p hush q is = subst (λ (z : Record). Heard t us m to d h j touched z (asking p q)) (sym was)
+        (record { same = changed; held = λ k. clash′ k; slots = is; carries = λ _ k. clash′ k; reply = tt; quiet = inl hush })
+
+    -- the next round
+    pub heard-next : (r : Record) (k : ℕ) → Late t r k → isAbout RQST m h j ≡ true → Heard t us m to d h j touched r (asking r (requestAt t us d j (nextRound k)))
+    heard-next r k late about =
+        let x = late .waits in record {
+          same = changed;
+          held = λ p. clash′ (ap isHeld (sym x) ∙ p);
+          slots = subst (λ (z : Slot). HeardAs t us d j (carriedBy m h j) (isAbout RQST m h j) z (Waiting (requestAt t us d j (nextRound k)))) (sym x)
+              (inr (about, late .over, ap (λ (i : ℕ). requestAt t us d j (nextRound i)) (late .round)));
+          carries = λ _ p. clash′ p;
+          reply = reply-none (r .slot) (r .hush) (ap isHeld x);
+          quiet = inl refl;
+        }
+
+    -- its cue, where it was not held, whatever else was heard before
+    pub heard-cue : (r p : Record) → Heard t us m to d h j touched r p → isHeld (r .slot) ≡ false → carriedBy m h j ≡ true → Heard t us m to d h j touched r (holding p (messageCue m))
+    heard-cue r p q free carried = record {
+      same = changed;
+      held = λ k. clash (sym k ∙ free);
+      slots = takes _ _ (r .slot) free carried;
+      carries = λ _ _. refl;
+      reply = reply-none (r .slot) (r .hush) free;
+      quiet = q .quiet;
+    }
+
+    -- its reply goes by a repair, whatever else was heard before
+    pub heard-quieted : (r p : Record) → Heard t us m to d h j touched r p → isAbout REPL m h j ≡ true → (k : Host) → k ≡ messageHost m
+        → Heard t us m to d h j touched r (quieted p (quietAfterReply t (to k)))
+    heard-quieted r p q about k who = record {
+      same = changed;
+      held = λ l. (replied-held No (p .slot) ∙ q .held l .0, q .held l .1);
+      slots = quiets _ _ (r .slot) (p .slot) (q .slots);
+      carries = λ f l. q .carries f (sym (replied-held No (p .slot)) ∙ l);
+      reply = reply-goes (r .slot) (r .hush) (replyIn (r .slot)) about (p .slot);
+      quiet = inr (about, ap (λ (i : Host). quietAfterReply t (to i)) who);
+    }
+
+    -- a reply begins to wait
+    pub heard-reply : (r : Record) (k : Host) → k ≡ m .sender → Free t r → isAbout RQST m h j ≡ true → Heard t us m to d h j touched r (replying r (replyDue t us (to k) j) k)
+    heard-reply r k who free about =
+        let now = Due (replyDue t us (to k) j) k in record {
+          same = changed;
+          held = λ p. (replied-held now (r .slot) ∙ p, refl);
+          slots = replied _ _ now (r .slot);
+          carries = λ f p. clash (sym p ∙ replied-held now (r .slot) ∙ f);
+          reply = reply-begins (r .slot) (r .hush) k who (free .held) (free .none) (free .over) about;
+          quiet = inl refl;
+        }
+
+-- ---- the tests
+
+pub is-about : (kind : ℕ) (m : Meaning) → eqb (m .kind) kind ≡ true → isAbout kind m (messageName m .source .0) (messageName m .number .0) ≡ true
+unfolding isAbout
+is-about kind m t = λ i. t i && (eq-eqb (messageName m .source .0) (messageName m .source .0) refl i && eq-eqb (messageName m .number .0) (messageName m .number .0) refl i)
+
+-- a message of another kind, or about another number
+pub not-kind : (kind : ℕ) (m : Meaning) (h j : ℕ) → eqb (m .kind) kind ≡ false → isAbout kind m h j ≡ false
+unfolding isAbout
+not-kind kind m h j t = ap (λ (a : Bool). a && (eqb (messageName m .source .0) h && eqb (messageName m .number .0) j)) t
+
+pub not-number : (kind : ℕ) (m : Meaning) (h j : ℕ) → eqb (messageName m .number .0) j ≡ false → isAbout kind m h j ≡ false
+unfolding isAbout
+not-number kind m h j t = ap (λ (a : Bool). eqb (m .kind) kind && (eqb (messageName m .source .0) h && a)) t ∙ no-and (eqb (m .kind) kind) (eqb (messageName m .source .0) h)
+  where
+    no-and : (a b : Bool) → a && (b && false) ≡ false
+    no-and true true = refl
+    no-and true false = refl
+    no-and false b = refl
+
+module _ (m : Meaning) (named : hasName m ≡ true) (s : Source) where
+  -- the named number, and those up to it
+  pub touches-it : touches m (messageName m .source .0) (s .span) (messageName m .number .0) ≡ true
+  unfolding touches
+  touches-it = rw (named, eq-eqb (messageName m .source .0) (messageName m .source .0) refl, eq-eqb (messageName m .number .0) (messageName m .number .0) refl)
+
+  pub touches-risen : (j : ℕ) → risen (s .span) (messageName m .number .0) j ≡ true → touches m (messageName m .source .0) (s .span) j ≡ true
+  unfolding touches
+  touches-risen j t = rw (named, eq-eqb (messageName m .source .0) (messageName m .source .0) refl) (or-second (eqb (messageName m .number .0) j) _ t)

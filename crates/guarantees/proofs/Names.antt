@@ -1,0 +1,106 @@
+-- What a sound state says of one name: where a request waits, the source is another, its distance is 1 or more, and the number is in
+-- first..last; the own next number lies outside.
+use mathlib.Core.Path.{_≡_, refl, sym, ap, _∙_}
+use mathlib.Core.Bool.{Bool, true, false, not, _&&_}
+use Prim.Native.Nat.{ℕ, _+_, _≤_, _<_}
+use native.Mathlib.Omega.{arith}
+use lib.ListN.{getD}
+use lib.Dec.{leb, eqb}
+use borrow.Author.Tests.{leb-true, ltb-true, eqb-true, eqb-false, eq-eqb, not-true, le-leb, lt-leb}
+use Rattle.numbers.proofs.Cases.{by-order}
+use Rattle.message.specs.Entry.{asHost}
+use Rattle.message.specs.Question.{sameHost}
+use Rattle.message.proofs.QuestionLaws.{and-both}
+use Rattle.end.specs.declared.Request.{Request}
+use Rattle.end.specs.declared.Slot.{Slot}
+use Rattle.end.specs.declared.Slot.the-variants.{Empty, Waiting}
+use Rattle.end.specs.declared.Record.{Record}
+use Rattle.end.specs.declared.Span.{Span}
+use Rattle.end.specs.declared.Span.the-variants.{Closed, Open}
+use Rattle.end.specs.declared.Source.{Source}
+use Rattle.end.specs.declared.End.{End}
+use Rattle.end.specs.State.{noSource, blankRecord, sourceAt, distanceTo}
+use Rattle.end.specs.Records.{within, isAbove, recordAt}
+use Rattle.end.specs.Sound.{timeLimit, allOf, spanTests, requestTests, insideSound, distanceSound, soundOf}
+use Rattle.end.specs.Event.{extended}
+use Rattle.end.proofs.RecordLaws.{Ordered, within-in, within-below, within-above, above-outside, at-outside}
+use Rattle.end.proofs.SoundLaws.{nth}
+use Rattle.end.proofs.Tools.{byTest}
+use Rattle.invariants.proofs.Facts.{facts}
+use Rattle.guarantees.specs.Records.{slotOf}
+
+-- a slot is one thing
+pub waiting-not : {P : Type 0} (x : Slot) (q : Request) → x ≡ Empty → x ≡ Waiting q → P
+waiting-not x q p h = let z : Empty ≡ Waiting q = sym p ∙ h in absurd (let w : _≡_ {A = ℕ} 0 1 = cc in omega arith)
+
+-- what waits lies in first..last
+pub waits-inside : (s : Source) (n : ℕ) (q : Request) → recordAt s n .slot ≡ Waiting q → within (s .span) n ≡ true
+waits-inside s n q p = byTest (within (s .span) n) (λ t. t) (λ t. waiting-not (recordAt s n .slot) q (ap (λ (r : Record). r .slot) (at-outside s n t)) p)
+
+-- of the numbers above last an end has nothing
+pub above-blank : (s : Source) (j : ℕ) → isAbove (s .span) j ≡ true → recordAt s j ≡ blankRecord
+above-blank s j h = at-outside s j (above-outside (s .span) j h)
+
+abbrev pub source-of : End → ℕ → Source
+source-of e h = getD (e .sources) h noSource
+
+-- what is known of a request that waits
+pub record Waits (e : End) (h n : ℕ) (q : Request) : Type 0 where
+  pub other : sameHost (asHost h) (e .host) ≡ false
+  pub most : q .round ≤ 16
+  pub due : q .due < timeLimit
+
+pub sound-waits : (e : End) → soundOf e ≡ true → (h n : ℕ) → h < 8 → (q : Request) → slotOf e h n ≡ Waiting q → Waits e h n q
+sound-waits e sound h n hh q p =
+    let s = sourceAt e (asHost h) in
+    let sounds = sym (ap (insideSound (e .host) (asHost h) (recordAt s n)) p) ∙ facts e sound .each h hh .inside n (waits-inside s n q p) in
+    let both = and-both (not (sameHost (asHost h) (e .host))) _ sounds in
+    let tests = and-both (allOf (requestTests q)) _ (both .1) .0 in
+    record {
+      other = not-true (sameHost (asHost h) (e .host)) (both .0);
+      most = leb-true (q .round) 16 (nth (requestTests q) 1 tests);
+      due = ltb-true (q .due) timeLimit (nth (requestTests q) 2 tests);
+    }
+
+-- the distance to another host is 1 or more
+pub far : (e : End) → soundOf e ≡ true → (h : ℕ) → h < 8 → sameHost (asHost h) (e .host) ≡ false → 1 ≤ distanceTo e (asHost h)
+far e sound h hh other =
+    let d = distanceTo e (asHost h) in
+    let between = sym (ap (λ (t : Bool). distanceSound t d) other) ∙ facts e sound .each h hh .distance in
+    leb-true 1 d (and-both (leb 1 d) (leb d 1000) between .0)
+
+-- ---- the own next number
+
+-- a span whose last, if any, is next−1
+abbrev pub Ends : ℕ → Span → Type 0
+Ends next Closed = Unit {0}
+Ends next (Open first last) = last .0 + 1 ≡ next
+
+pub own-ends : (e : End) → soundOf e ≡ true → Ends (e .next) (sourceAt e (e .host) .span) × Ordered (sourceAt e (e .host) .span)
+own-ends e sound =
+    let me = e .host in
+    let x = sourceAt e me .span in
+    let f = facts e sound in
+    go x (sym (ap (λ (t : Bool). allOf (spanTests t (e .next) x)) (eq-eqb (me .0) (me .0) refl)) ∙ f .each (me .0) (f .host) .span)
+  where
+    go : (x : Span) → allOf (spanTests true (e .next) x) ≡ true → Ends (e .next) x × Ordered x
+    go Closed t = (tt, tt)
+    go (Open first last) t =
+        let tests = spanTests true (e .next) (Open first last) in
+        (eqb-true (last .0 + 1) (e .next) (nth tests 2 t), leb-true (first .0) (last .0) (nth tests 0 t))
+
+pub next-outside : (next : ℕ) (x : Span) → Ends next x → within x next ≡ false
+next-outside next Closed t = refl
+next-outside next (Open first last) t = within-above (first .0) (last .0) next (omega arith)
+
+pub next-inside : (next : ℕ) (x : Span) → Ends next x → Ordered x → within (extended next x) next ≡ true
+next-inside next Closed t o = within-in next next next (omega arith) (omega arith)
+next-inside next (Open first last) t o = within-in (first .0) next next (omega arith) (omega arith)
+
+-- a span extended to the next number, or opened at a number, has one number more
+pub extended-within : (next : ℕ) (x : Span) → Ends next x → (j : ℕ) → eqb j next ≡ false → within (extended next x) j ≡ within x j
+extended-within next Closed t j d = by-order j next (λ l. within-below next next j l)
+    (λ l. let apart : j ≡ next → ⊥ = eqb-false j next d in within-above next next j (omega (arith, apart)))
+extended-within next (Open first last) t j d = ap (λ (b : Bool). leb (first .0) j && b) (by-order j next
+    (λ l. le-leb j next (omega arith) ∙ sym (le-leb j (last .0) (omega arith)))
+    (λ l. let apart : j ≡ next → ⊥ = eqb-false j next d in lt-leb j next (omega (arith, apart)) ∙ sym (lt-leb j (last .0) (omega arith))))

@@ -1,0 +1,143 @@
+-- Whatever bytes arrive: what they cannot change, and what they can, as statements; proofs/Arrivals.antt proves each. The state and
+-- the bytes are any: an unsound state and bytes that are no message are refused, and then nothing changes.
+use mathlib.Core.Path.{_≡_}
+use mathlib.Core.Bool.{Bool, true, false, cond, not, _&&_, _||_}
+use mathlib.Core.List.{List, [], _∷_}
+use mathlib.Core.Logic.{_⊎_}
+use Prim.Native.Nat.{ℕ, _≤_, _<_}
+use lib.Dec.{leb, eqb}
+use Rattle.message.specs.declared.Report.{Report}
+use Rattle.message.specs.Entry.{asHost}
+use Rattle.message.specs.Message.{DATA, RQST, REPL, Meaning, meaningFrom}
+use Rattle.end.specs.declared.Span.{Span}
+use Rattle.end.specs.declared.Span.the-variants.{Closed, Open}
+use Rattle.end.specs.declared.End.{End}
+use Rattle.end.specs.State.{sourceAt, distanceTo}
+use Rattle.end.specs.Records.{isAbove, isHeld, replyIn}
+use Rattle.end.specs.Round.{quietAfterReply}
+use Rattle.end.specs.Answer.{Refused, Result, bufferOf}
+use Rattle.end.specs.Arrival.{messageName, messageHost, messageCue}
+use Rattle.end.specs.Event.{Action, Arrival, eventOf}
+use Rattle.guarantees.specs.Calls.{momentAt}
+use Rattle.guarantees.specs.Records.{recordOf, slotOf, HeardAs, ReplyAs}
+
+-- a call with bytes that arrive
+abbrev pub hear : End → List ℕ → ℕ → ℕ → List ℕ → Result
+hear e bytes clock room draws = eventOf e (Arrival bytes) clock room draws
+
+-- A refused call, of any event, changes nothing at all, neither the end nor the output.
+abbrev pub RefusedChangesNothing : Type 0
+RefusedChangesNothing = (e : End) (a : Action) (clock room : ℕ) (draws : List ℕ) (k : ℕ) → eventOf e a clock room draws .outcome ≡ Refused k
+    → (eventOf e a clock room draws .left ≡ e) × ((out : List ℕ) → bufferOf (eventOf e a clock room draws .outcome) out ≡ out)
+
+-- host, parameters, status and next own number are the same
+pub record SameEnd (e left : End) : Type 0 where
+  pub host : left .host ≡ e .host
+  pub params : left .params ≡ e .params
+  pub status : left .status ≡ e .status
+  pub next : left .next ≡ e .next
+
+-- Whatever arrives, host, parameters, status and next own number stay.
+abbrev pub ArrivalKeepsStatusAndNext : Type 0
+ArrivalKeepsStatusAndNext = (e : End) (bytes : List ℕ) (clock room : ℕ) (draws : List ℕ) → SameEnd e (hear e bytes clock room draws .left)
+
+-- Whatever arrives, a held cue stays held, and stays the same.
+abbrev pub HeldStays : Type 0
+HeldStays = (e : End) (bytes : List ℕ) (clock room : ℕ) (draws : List ℕ) (h n : ℕ) → h < 8 → isHeld (slotOf e h n) ≡ true
+    → (isHeld (slotOf (hear e bytes clock room draws .left) h n) ≡ true) × (recordOf (hear e bytes clock room draws .left) h n .cue ≡ recordOf e h n .cue)
+
+-- ---- which names a message can change
+
+-- the message has this kind and this name
+unfoldable pub isAbout : ℕ → Meaning → ℕ → ℕ → Bool
+isAbout kind m h n = eqb (m .kind) kind && (eqb (messageName m .source .0) h && eqb (messageName m .number .0) n)
+
+-- j lies above the last of a source, and is at most n: one of the numbers that a rise to n asks for
+abbrev pub risen : Span → ℕ → ℕ → Bool
+risen span n j = isAbove span j && leb j n
+
+-- a report of source h asks for j
+unfoldable pub reportedUp : List Report → ℕ → Span → ℕ → Bool
+reportedUp [] h span j = false
+reportedUp (r ∷ rs) h span j = (eqb (r .source .0) h && risen span (r .last .0) j) || reportedUp rs h span j
+
+-- a message of one of the three kinds with a name
+abbrev pub hasName : Meaning → Bool
+hasName m = eqb (m .kind) DATA || (eqb (m .kind) RQST || eqb (m .kind) REPL)
+
+-- Which names of a source h, whose first and last are `span`, a message may at most change. DATA, RQST and REPL: of the source that they
+-- name, the named number and those from last + 1 up to it. SESS: of each source that is reported, those from last + 1 up to the reported.
+unfoldable pub touches : Meaning → ℕ → Span → ℕ → Bool
+touches m h span j =
+    cond (hasName m)
+    (eqb (messageName m .source .0) h && (eqb (messageName m .number .0) j || risen span (messageName m .number .0) j))
+    (reportedUp (m .reports) h span j)
+
+-- Every other record stays exactly as it was, with its cue, request, reply and quiet time.
+abbrev pub UntouchedStays : Type 0
+UntouchedStays = (e : End) (bytes : List ℕ) (clock room : ℕ) (draws : List ℕ) (h n : ℕ) → h < 8
+    → touches (meaningFrom bytes) h (sourceAt e (asHost h) .span) n ≡ false → recordOf (hear e bytes clock room draws .left) h n ≡ recordOf e h n
+
+-- So DATA, RQST and REPL leave every record of every source but the one that they name.
+abbrev pub OtherSourcesStay : Type 0
+OtherSourcesStay = (e : End) (bytes : List ℕ) (clock room : ℕ) (draws : List ℕ) (h n : ℕ) → h < 8
+    → hasName (meaningFrom bytes) ≡ true → eqb (messageName (meaningFrom bytes) .source .0) h ≡ false
+    → recordOf (hear e bytes clock room draws .left) h n ≡ recordOf e h n
+
+-- ---- what becomes of requests and replies
+
+-- A slot changes only as `HeardAs` says.
+abbrev pub SlotsAsHeard : Type 0
+SlotsAsHeard = (e : End) (bytes : List ℕ) (clock room : ℕ) (draws : List ℕ) (h n : ℕ) → h < 8
+    → HeardAs (momentAt e clock) draws (distanceTo e (asHost h)) n
+    (isAbout DATA (meaningFrom bytes) h n || isAbout REPL (meaningFrom bytes) h n) (isAbout RQST (meaningFrom bytes) h n)
+    (slotOf e h n) (slotOf (hear e bytes clock room draws .left) h n)
+
+-- A cue that was not held and is held after an arrival is the one that the message carries.
+abbrev pub HeldIsCarried : Type 0
+HeldIsCarried = (e : End) (bytes : List ℕ) (clock room : ℕ) (draws : List ℕ) (h n : ℕ) → h < 8 → isHeld (slotOf e h n) ≡ false
+    → isHeld (slotOf (hear e bytes clock room draws .left) h n) ≡ true
+    → recordOf (hear e bytes clock room draws .left) h n .cue ≡ messageCue (meaningFrom bytes)
+
+-- A waiting reply changes only as `ReplyAs` says.
+abbrev pub RepliesAsHeard : Type 0
+RepliesAsHeard = (e : End) (bytes : List ℕ) (clock room : ℕ) (draws : List ℕ) (h n : ℕ) → h < 8
+    → ReplyAs (momentAt e clock) draws (distanceTo e (meaningFrom bytes .sender)) (meaningFrom bytes .sender) n
+    (isAbout RQST (meaningFrom bytes) h n) (isAbout REPL (meaningFrom bytes) h n) (slotOf e h n) (recordOf e h n .hush)
+    (replyIn (slotOf e h n)) (replyIn (slotOf (hear e bytes clock room draws .left) h n))
+
+-- A reply-quiet time stays or, by a REPL of its name, is D3×d after the clock, where d is the distance to the host that the REPL names,
+-- the requester.
+abbrev pub ReplyQuietStays : Type 0
+ReplyQuietStays = (e : End) (bytes : List ℕ) (clock room : ℕ) (draws : List ℕ) (h n : ℕ) → h < 8
+    → (recordOf (hear e bytes clock room draws .left) h n .hush ≡ recordOf e h n .hush)
+    ⊎ ((isAbout REPL (meaningFrom bytes) h n ≡ true)
+    × (recordOf (hear e bytes clock room draws .left) h n .hush ≡ quietAfterReply (momentAt e clock) (distanceTo e (messageHost (meaningFrom bytes)))))
+
+-- ---- what becomes of first and last, distances and heard stamps
+
+-- From first and last of a source before to those after; `opens` is whether the message is a DATA of this source.
+abbrev pub SpanAs : Bool → Span → Span → Type 0
+SpanAs opens Closed Closed = Unit {0}
+SpanAs opens Closed (Open first last) = opens ≡ true
+SpanAs opens (Open first last) Closed = ⊥
+SpanAs opens (Open first last) (Open first′ last′) = (first′ ≡ first) × (last .0 ≤ last′ .0)
+
+-- a DATA of source h
+unfoldable pub isDataOf : Meaning → ℕ → Bool
+isDataOf m h = eqb (m .kind) DATA && eqb (messageName m .source .0) h
+
+-- Whatever arrives, a DATA of a source alone gives it a first. First then stays, and last never falls.
+abbrev pub SpansAsHeard : Type 0
+SpansAsHeard = (e : End) (bytes : List ℕ) (clock room : ℕ) (draws : List ℕ) (h : ℕ) → h < 8
+    → SpanAs (isDataOf (meaningFrom bytes) h) (sourceAt e (asHost h) .span) (sourceAt (hear e bytes clock room draws .left) (asHost h) .span)
+
+-- a message of host h with no name: a SESS, if it is accepted
+unfoldable pub isSessionOf : Meaning → ℕ → Bool
+isSessionOf m h = not (hasName m) && eqb (m .sender .0) h
+
+-- Distance and heard stamp of a host stay, unless a SESS of that host arrives.
+abbrev pub DistancesStay : Type 0
+DistancesStay = (e : End) (bytes : List ℕ) (clock room : ℕ) (draws : List ℕ) (h : ℕ) → h < 8 → isSessionOf (meaningFrom bytes) h ≡ false
+    → (distanceTo (hear e bytes clock room draws .left) (asHost h) ≡ distanceTo e (asHost h))
+    × (sourceAt (hear e bytes clock room draws .left) (asHost h) .heard ≡ sourceAt e (asHost h) .heard)

@@ -1,0 +1,76 @@
+-- What an end has of a name before and after a call, and what a call may make of it.
+use mathlib.Core.Path.{_≡_}
+use mathlib.Core.Bool.{Bool, true, false, cond}
+use mathlib.Core.List.{List}
+use mathlib.Core.Logic.{_⊎_}
+use Prim.Native.Nat.{ℕ, _≤_, _<_}
+use Rattle.message.specs.declared.Host.{Host}
+use Rattle.message.specs.Entry.{asHost}
+use Rattle.end.specs.declared.Slot.{Slot}
+use Rattle.end.specs.declared.Slot.the-variants.{Empty, Held, Waiting}
+use Rattle.end.specs.declared.Reply.{Reply}
+use Rattle.end.specs.declared.Reply.the-variants.{No, Due}
+use Rattle.end.specs.declared.Record.{Record}
+use Rattle.end.specs.declared.End.{End}
+use Rattle.end.specs.declared.Moment.{Moment}
+use Rattle.end.specs.State.{sourceAt}
+use Rattle.end.specs.Records.{recordAt, isHeld}
+use Rattle.end.specs.Round.{requestAt, nextRound, replyDue}
+use Rattle.end.specs.Event.{Action, Moves, Send, Arrival, Else, clears}
+
+-- the record under source h and number n, any number: outside first..last it is blank
+abbrev pub recordOf : End → ℕ → ℕ → Record
+recordOf e h n = recordAt (sourceAt e (asHost h)) n
+
+abbrev pub slotOf : End → ℕ → ℕ → Slot
+slotOf e h n = recordOf e h n .slot
+
+-- Leave or Crash, which clear every name
+abbrev pub clearing : Action → Bool
+clearing (Moves m) = clears m
+clearing (Send cue) = false
+clearing (Arrival bytes) = false
+clearing (Else o) = false
+
+-- From the slot before to the slot after, by any call, with its moment, its draws and the distance d to the source before it; `emptied` is
+-- whether the event is Leave or Crash. These alone empty a slot; Send, DATA and REPL may hold a cue in it, and then no reply waits. A
+-- request is new in round 1 or 2, and one that waits stays as it is or, once its quiet-until is past or it is due, gets its next round,
+-- timed by this call. A held cue never gives way to a request.
+abbrev pub MayBecome : Bool → Moment → List ℕ → ℕ → ℕ → Slot → Slot → Type 0
+MayBecome emptied t us d n Empty Empty = Unit {0}
+MayBecome emptied t us d n Empty (Held reply) = reply ≡ No
+MayBecome emptied t us d n Empty (Waiting q) = (k : ℕ) × (1 ≤ k) × (k ≤ 2) × (q ≡ requestAt t us d n k)
+MayBecome emptied t us d n (Held reply) Empty = emptied ≡ true
+MayBecome emptied t us d n (Held reply) (Held now) = Unit {0}
+MayBecome emptied t us d n (Held reply) (Waiting q) = ⊥
+MayBecome emptied t us d n (Waiting q) Empty = emptied ≡ true
+MayBecome emptied t us d n (Waiting q) (Held reply) = reply ≡ No
+MayBecome emptied t us d n (Waiting q) (Waiting p) =
+    (p ≡ q) ⊎ (((q .quiet < t .clock) ⊎ (q .due ≤ t .clock)) × (p ≡ requestAt t us d n (nextRound (q .round))))
+
+-- The same by bytes that arrive, which can do less: `carried` is whether the message is a DATA or REPL of this very name, `asked`
+-- whether it is a RQST of this very name. Nothing is emptied; only the name's own cue is held; a new request is in round 2 if the message
+-- is a RQST of this very name, and in round 1 otherwise; only a RQST of this very name after its quiet-until sets the next round. What
+-- becomes of the reply beside a cue that stays held, `ReplyAs` says.
+abbrev pub HeardAs : Moment → List ℕ → ℕ → ℕ → Bool → Bool → Slot → Slot → Type 0
+HeardAs t us d n carried asked Empty Empty = Unit {0}
+HeardAs t us d n carried asked Empty (Held reply) = (carried ≡ true) × (reply ≡ No)
+HeardAs t us d n carried asked Empty (Waiting q) = q ≡ requestAt t us d n (cond asked 2 1)
+HeardAs t us d n carried asked (Held reply) Empty = ⊥
+HeardAs t us d n carried asked (Held reply) (Held now) = Unit {0}
+HeardAs t us d n carried asked (Held reply) (Waiting q) = ⊥
+HeardAs t us d n carried asked (Waiting q) Empty = ⊥
+HeardAs t us d n carried asked (Waiting q) (Held reply) = (carried ≡ true) × (reply ≡ No)
+HeardAs t us d n carried asked (Waiting q) (Waiting p) =
+    (p ≡ q) ⊎ ((asked ≡ true) × (q .quiet < t .clock) × (p ≡ requestAt t us d n (nextRound (q .round))))
+
+-- From the waiting reply before to the one after, by bytes that arrive, under a name whose slot and reply-quiet were these: `asked` and
+-- `repaired` are whether the message is a RQST or a REPL of this very name, d is the distance to its sender. A reply begins to wait only
+-- by a RQST of its name, for a held cue and not before its reply-quiet, due as the rules have it, with the sender as requester. One that
+-- waits stays the very same or, by a REPL of its name, goes.
+abbrev pub ReplyAs : Moment → List ℕ → ℕ → Host → ℕ → Bool → Bool → Slot → ℕ → Reply → Reply → Type 0
+ReplyAs t us d sender n asked repaired slot quiet No No = Unit {0}
+ReplyAs t us d sender n asked repaired slot quiet No (Due due requester) =
+    (asked ≡ true) × (isHeld slot ≡ true) × (quiet ≤ t .clock) × (due ≡ replyDue t us d n) × (requester ≡ sender)
+ReplyAs t us d sender n asked repaired slot quiet (Due due requester) No = repaired ≡ true
+ReplyAs t us d sender n asked repaired slot quiet (Due due requester) (Due due′ requester′) = (due′ ≡ due) × (requester′ ≡ requester)

@@ -1,2 +1,0 @@
-pub mod IncomingLaws
-pub mod ArrivingLaws

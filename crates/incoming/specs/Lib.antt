@@ -1,2 +1,0 @@
-pub mod Got
-pub mod Hearing

@@ -1,0 +1,98 @@
+-- Clocks of one call: the statements of specs/Clocks.antt but those about lists.
+use mathlib.Core.Path.{_≡_, refl, sym, ap, _∙_}
+use Prim.Native.Nat.{ℕ, _≤_}
+use native.Mathlib.Omega.{arith}
+use mathlib.Core.List.{List, [], _∷_}
+use lib.ListN.{length}
+use lib.Dec.{eqb}
+use borrow.Author.Tests.{eqb-true, leb-true}
+use Rattle.message.specs.declared.Name.{Name}
+use Rattle.message.specs.declared.Report.{Report as ReportEntry}
+use Rattle.message.specs.Message.{DATA, RQST, REPL, Meaning, meaningFrom}
+use Rattle.message.specs.Question.{sameHost}
+use Rattle.end.specs.declared.Slot.{Slot}
+use Rattle.end.specs.declared.Slot.the-variants.{Empty, Held, Waiting}
+use Rattle.end.specs.declared.Reply.the-variants.{No, Due}
+use Rattle.end.specs.declared.Heard.{Heard}
+use Rattle.end.specs.declared.Heard.the-variants.{At}
+use Rattle.end.specs.declared.Moment.{Moment}
+use Rattle.end.specs.declared.Move.{Move}
+use Rattle.end.specs.declared.End.{End}
+use Rattle.end.specs.declared.Earliest.{Earliest}
+use Rattle.end.specs.declared.Earliest.the-variants.{NoWait, First}
+use Rattle.end.specs.State.{isMember, isCrashed, sourceAt, momentOf, onSource, withClock}
+use Rattle.end.specs.Records.{recordAt}
+use Rattle.end.specs.Sound.{allOf, heardTests}
+use Rattle.end.specs.Answer.{Step, Result}
+use Rattle.end.specs.Decide.{stepAt}
+use Rattle.end.specs.Session.{reportedSource, allReported, sessionOf}
+use Rattle.end.specs.Arrival.{messageStep, arrivalOf}
+use Rattle.end.specs.Fire.{earliest, fireAt, fired}
+use Rattle.end.specs.Event.{Action, Moves, Send, Arrival, Else, Other, Fire, Report, moves, clears, movedEnd, moveOf, otherOf, actOf, stepOf, questionOf, eventOf}
+use Rattle.end.proofs.SoundLaws.{nth}
+use Rattle.end.proofs.Tools.{byCond}
+use Rattle.invariants.specs.Clocks.{ClockNeverFalls, HeardByNow}
+use Rattle.invariants.proofs.Facts.{facts}
+use Rattle.invariants.proofs.Questions.{passes}
+
+-- what a step leaves has the clock of the end
+abbrev Keeps : End → Step → Type 0
+Keeps e r = r .left .clock ≡ e .clock
+
+move-clock : (m : Move) (e : End) → Keeps e (moveOf m e)
+unfolding moveOf movedEnd
+move-clock m e = byCond (Keeps e) (moves m (e .status)) (λ _. byCond (λ (x : End). x .clock ≡ e .clock) (clears m) (λ _. refl) (λ _. refl)) (λ _. refl)
+
+reported-clock : (t : Moment) (us : List ℕ) (rs : List ReportEntry) (e : End) → allReported t us rs e .clock ≡ e .clock
+unfolding allReported
+reported-clock t us [] e = refl
+reported-clock t us (r ∷ rs) e = reported-clock t us rs (onSource e (r .source) (reportedSource t us r))
+
+module _ (us : List ℕ) (e : End) where
+  -- a message about a name changes one source: there is no case
+  message-clock : (m : Meaning) → Keeps e (messageStep us m e)
+  unfolding messageStep stepAt sessionOf
+  message-clock m =
+      byCond (Keeps e) (eqb (m .kind) DATA) (λ _. refl)
+      (λ _. byCond (Keeps e) (eqb (m .kind) RQST) (λ _. refl)
+      (λ _. byCond (Keeps e) (eqb (m .kind) REPL) (λ _. refl)
+      (λ _. reported-clock (momentOf e) us (m .reports) e)))
+
+  fire-clock : (name : Name) (x : Slot) → Keeps e (fireAt us name e x)
+  unfolding fireAt
+  fire-clock name Empty = refl
+  fire-clock name (Waiting q) = refl
+  fire-clock name (Held No) = refl
+  fire-clock name (Held (Due due k)) = refl
+
+  fired-clock : (x : Earliest) → Keeps e (fired us e x)
+  unfolding fired
+  fired-clock NoWait = refl
+  fired-clock (First w) = fire-clock (w .name) (recordAt (sourceAt e (w .name .source)) (w .name .number .0) .slot)
+
+  other-clock : (o : Other) → Keeps e (otherOf us o e)
+  other-clock Fire = fired-clock (earliest e 8)
+  other-clock Report = refl
+
+  act-clock : (a : Action) → Keeps e (actOf us a e)
+  unfolding actOf arrivalOf
+  act-clock (Moves m) = move-clock m e
+  act-clock (Send cue) = byCond (Keeps e) (isMember (e .status)) (λ _. refl) (λ _. refl)
+  act-clock (Arrival x) = byCond (Keeps e) (isMember (e .status))
+      (λ _. byCond (Keeps e) (sameHost (meaningFrom x .sender) (e .host)) (λ _. refl) (λ _. message-clock (meaningFrom x))) (λ _. refl)
+  act-clock (Else o) = byCond (Keeps e) (isMember (e .status)) (λ _. other-clock o) (λ _. refl)
+
+pub clock-never-falls : ClockNeverFalls
+unfolding eventOf stepOf
+clock-never-falls e a clock room draws =
+    byCond (λ (r : Result). e .clock ≤ r .left .clock) (eqb (questionOf e a clock room (length draws)) 0)
+    (λ t.
+    let later : e .clock ≤ clock = passes e a clock room (length draws) (eqb-true _ _ t) .later in
+    byCond (λ (r : Step). e .clock ≤ r .left .clock) (isCrashed (e .status)) (λ _. omega arith) (λ _. omega (arith, later, act-clock draws (withClock e clock) a)))
+    (λ _. omega arith)
+
+pub heard-by-now : HeardByNow
+heard-by-now e t h hh stamp when p =
+    let own = sameHost h (e .host) in
+    let tests = heardTests own (e .clock) (At stamp when) in
+    leb-true when (e .clock) (nth tests 2 (ap (λ (x : Heard). allOf (heardTests own (e .clock) x)) (sym p) ∙ facts e t .each (h .0) hh .heard))

@@ -1,0 +1,14 @@
+pub mod Questions
+pub mod Facts
+pub mod Records
+pub mod Sources
+pub mod Ends
+pub mod Readings
+pub mod Members
+pub mod Moves
+pub mod Stays
+pub mod Clocks
+pub mod Lists
+pub mod Gathered
+pub mod Written
+pub mod Outputs

@@ -1,0 +1,111 @@
+-- What is known of a message that was read: its numbers are in range, its cue has 24 bytes, and its hosts fit its kind.
+use mathlib.Core.Path.{_≡_, refl, sym, ap, _∙_}
+use Prim.Native.Nat.{ℕ, zero, suc, _*_, _≤_, _<_}
+use native.Mathlib.Omega.{arith}
+use mathlib.Core.Bool.{true, false, not, _&&_, _||_}
+use mathlib.Core.List.{List, [], _∷_}
+use mathlib.Core.Logic.{⊎-elim}
+use lib.ListN.{length, getD, drop, length-drop}
+use lib.Seq.{length-take-le}
+use lib.Dec.{eqb}
+use borrow.Author.Tests.{eqb-true, ltb-true, not-true}
+use Rattle.numbers.specs.Number.{valueAfter}
+use Rattle.message.specs.declared.Host.{Host}
+use Rattle.message.specs.declared.NameEntry.{NameEntry}
+use Rattle.message.specs.declared.Counts.{Counts}
+use Rattle.message.specs.Cue.{cueIn}
+use Rattle.message.specs.Section.{all, entries, sectionFrom}
+use Rattle.message.specs.Entry.{cueOf, blankName, blankCue}
+use Rattle.message.specs.Message.{DATA, RQST, numberWidth, Meaning, meaningFrom, meaningWith, countsOf, fromCues}
+use Rattle.message.specs.Question.{ask, kindHasCounts, inRange, hostsFit, hostIn, numberIn, ticksIn, nameIn, reportIn, hostFits, sameHost, readRefusal}
+use Rattle.message.proofs.QuestionLaws.{and-both, all-passed, counted}
+use Rattle.message.proofs.LayoutLaws.{atCues, cues-at, cues-count}
+use Rattle.roundtrip.proofs.RoundTrip.{accepted}
+use Rattle.end.specs.Arrival.{messageName, messageHost, messageCue}
+use Rattle.end.proofs.Tools.{clash′}
+use Rattle.end.proofs.Readings.{reads, in-range, reports-in, original-source}
+
+-- numbers in range
+pub record MessageIn (m : Meaning) : Type 0 where
+  pub sender : m .sender .0 < 8
+  pub stamp : ticksIn (m .stamp) ≡ true
+  pub source : messageName m .source .0 < 8
+  pub number : messageName m .number .0 < 64
+  pub host : messageHost m .0 < 8
+  pub cue : cueIn (messageCue m) ≡ true
+  pub long : length (messageCue m) ≡ 24
+  pub reports : all reportIn (m .reports) ≡ true
+
+-- the first of cues in range is in range, and so is the blank one
+first-in : (l : List (List ℕ)) → all cueIn l ≡ true → cueIn (getD l 0 blankCue) ≡ true
+unfolding all cueIn valueAfter
+first-in [] h = refl
+first-in (a ∷ l) h = and-both (cueIn a) (all cueIn l) h .0
+
+first-host : (l : List NameEntry) → all nameIn l ≡ true → getD l 0 blankName .host .0 < 8
+unfolding all
+first-host [] h = omega arith
+first-host (a ∷ l) h = ltb-true (a .host .0) 8 (and-both (numberIn (a .name .number)) _ (and-both (hostIn (a .name .source)) _ (and-both (nameIn a) (all nameIn l) h .0) .1) .1)
+
+-- the first of the cues that were read has 24 bytes, or there is none
+first-cue : (c : ℕ) (t : List ℕ) → c * 24 ≤ length t → length (getD (entries cueOf 24 c t) 0 blankCue) ≡ 24
+unfolding entries
+first-cue zero t h = refl
+first-cue (suc c) t h = length-take-le 24 t (omega arith)
+
+-- a RQST has one name, whose host is its sender and not the source
+asked-counts : (c : Counts) → kindHasCounts RQST c ≡ true → c .names ≡ 1
+asked-counts c h = counted RQST c h .names
+
+asker : (sender : Host) (l : List NameEntry) → length l ≡ 1 → all (hostFits RQST sender) l ≡ true → sameHost sender (getD l 0 blankName .name .source) ≡ false
+unfolding all
+asker sender [] n h = absurd (omega arith)
+asker sender (a ∷ l) n h =
+    let both : sameHost (a .host) sender && not (sameHost (a .host) (a .name .source)) ≡ true = and-both (hostFits RQST sender a) (all (hostFits RQST sender) l) h .0 in
+    let parts = and-both (sameHost (a .host) sender) (not (sameHost (a .host) (a .name .source))) both in
+    ap (λ (k : ℕ). eqb k (a .name .source .0)) (sym (eqb-true (a .host .0) (sender .0) (parts .0))) ∙ not-true (sameHost (a .host) (a .name .source)) (parts .1)
+
+module _ (x : List ℕ) (h : readRefusal x ≡ 0) where
+  long : length (messageCue (meaningFrom x)) ≡ 24
+  unfolding meaningWith sectionFrom
+  long =
+      let w : ℕ = numberWidth (getD x 0 0) in
+      let c = cues-count w x in
+      let at = ap length (cues-at w x) ∙ length-drop (atCues w x) x in
+      first-cue (getD (fromCues w x) 0 0) (drop 1 (fromCues w x)) (omega (arith, c, at, accepted x h .size, length-drop 1 (fromCues w x)))
+
+  pub message-in : MessageIn (meaningFrom x)
+  unfolding inRange
+  message-in =
+      let m = meaningFrom x in
+      let v = in-range x m (reads x h) in
+      let a = all-passed (inRange m) 10 (ask (hostsFit m) 11 ∷ []) (omega arith) (accepted x h .rest) .0 in
+      let b = and-both (hostIn (m .sender)) _ a in
+      let c = and-both (ticksIn (m .stamp)) _ (b .1) in
+      let d = and-both (all nameIn (m .names)) _ (c .1) in
+      record {
+        sender = ltb-true (m .sender .0) 8 (b .0);
+        stamp = c .0;
+        source = v .source;
+        number = v .number;
+        host = first-host (m .names) (d .0);
+        cue = first-in (m .cues) (and-both (all cueIn (m .cues)) _ (d .1) .0);
+        long = long;
+        reports = reports-in x m (reads x h);
+      }
+
+  -- the source of a DATA is its sender
+  pub data-source : eqb (meaningFrom x .kind) DATA ≡ true → meaningFrom x .sender .0 ≡ messageName (meaningFrom x) .source .0
+  data-source k = original-source x (meaningFrom x) (reads x h) k
+
+  -- the source of a RQST is not
+  pub asked-source : eqb (meaningFrom x .kind) RQST ≡ true → sameHost (meaningFrom x .sender) (messageName (meaningFrom x) .source) ≡ false
+  unfolding meaningWith hostsFit
+  asked-source k =
+      let y = meaningFrom x in
+      let kind : y .kind ≡ RQST = eqb-true (y .kind) RQST k in
+      let one : length (y .names) ≡ 1 = asked-counts (countsOf y) (ap (λ (k : ℕ). kindHasCounts k (countsOf y)) (sym kind) ∙ accepted x h .counts) in
+      let hosts = all-passed (hostsFit y) 11 [] (omega arith) (all-passed (inRange y) 10 (ask (hostsFit y) 11 ∷ []) (omega arith) (accepted x h .rest) .1) .0 in
+      let fits = and-both (all (hostFits (y .kind) (y .sender)) (y .names)) _ hosts .0 in
+      asker (y .sender) (y .names) one
+      (ap (λ (k : ℕ). all (hostFits k (y .sender)) (y .names)) (sym kind) ∙ fits)

@@ -1,0 +1,124 @@
+-- What an event that is taken is given: the questions answered yes, and the reader's message, whose meaning is that of the bytes.
+use mathlib.Core.Path.{_≡_, refl, sym, ap, _∙_}
+use Prim.Native.Nat.{ℕ, _≤_}
+use native.Mathlib.Omega.{arith}
+use mathlib.Core.Bool.{Bool, true, false, cond, not, _&&_, _||_}
+use mathlib.Core.List.{List, [], _∷_}
+use lib.ListN.{length, getD}
+use lib.Dec.{leb, eqb, ltb}
+use borrow.Author.Tests.{eqb-true, leb-true, ltb-true}
+use Rattle.message.specs.declared.Message.{Message}
+use Rattle.message.specs.Cue.{cueIn}
+use Rattle.message.specs.Message.{Meaning, meaningOf, heldAs, meaningWith, meaningFrom, countsOf, sizeFrom}
+use Rattle.message.specs.Question.{ask, firstNo, ticksIn, kindHasCounts, inRange, hostsFit, meaningQuestions, readRefusal, messageFor, readOf}
+use Rattle.message.proofs.QuestionLaws.{all-passed, counts-small, number-of-verdict}
+use Rattle.message.proofs.LayoutLaws.{held-back}
+use Rattle.end.specs.declared.Event.{Event}
+use Rattle.end.specs.declared.Event.the-variants.{Moves, Send, Arrival, Fire, Report}
+use Rattle.end.specs.declared.End.{End}
+use Rattle.end.specs.State.{isMember, withClock}
+use Rattle.end.specs.Sound.{soundOf}
+use Rattle.end.specs.Answer.{Step, give, Ignored}
+use Rattle.end.specs.Arrival.{arrivalOf}
+use Rattle.end.specs.Event.{Action, actionOf, actOf, ifMember, ownQuestions, questionOf}
+use Rattle.state.specs.Settled.{Settled}
+use Rattle.state.proofs.Settled.{settled}
+use Rattle.questions.specs.Read.{ReadAs}
+use Rattle.link.specs.Frame.{readingFor, takes, acted, Passing, OwnGiven, Acting}
+
+-- ---- the reading
+pub read-verdict : (what : Event) (bytes : List ℕ) → ReadAs what (readingFor what bytes .verdict) bytes
+unfolding readOf
+read-verdict (Moves m) bytes = tt
+read-verdict Send bytes = tt
+read-verdict Arrival bytes = number-of-verdict (readRefusal bytes)
+read-verdict Fire bytes = tt
+read-verdict Report bytes = tt
+
+-- the message that is read from accepted bytes
+record Heard (s : List ℕ) (m : Message) : Type 0 where
+  pub passing : Passing m
+  pub means : meaningOf m ≡ meaningFrom s
+
+held-as : (s : List ℕ) → readRefusal s ≡ 0 → Heard s (heldAs (meaningFrom s))
+unfolding readRefusal meaningWith
+held-as s h =
+    let M : Meaning = meaningFrom s in
+    let a8 = all-passed (leb 12 (length s) && eqb (sizeFrom s) (length s)) 8 (ask (kindHasCounts (getD s 0 0) (countsOf M)) 9 ∷ meaningQuestions M) (omega arith) h in
+    let a9 = all-passed (kindHasCounts (getD s 0 0) (countsOf M)) 9 (meaningQuestions M) (omega arith) (a8 .1) in
+    let a10 = all-passed (inRange M) 10 (ask (hostsFit M) 11 ∷ []) (omega arith) (a9 .1) in
+    let back : meaningOf (heldAs M) ≡ M = held-back M (counts-small (getD s 0 0) (countsOf M) (a9 .0) .cues) in
+    record { passing = record { counts-in = a9 .0; ranges-in = ap inRange back ∙ a10 .0 }; means = back }
+
+heard : (s : List ℕ) (m : Message) → m ≡ readOf s .message → readRefusal s ≡ 0 → Heard s m
+unfolding readOf
+heard s m p h = rw (p ∙ ap (λ (k : ℕ). messageFor k (meaningFrom s)) h) (held-as s h)
+
+-- ---- an event's own questions
+module _ (e : End) (clock : ℕ) (cue bytes : List ℕ) (message : Message) where
+  pub own-given : (what : Event) → message ≡ readingFor what bytes .message → firstNo (ownQuestions (actionOf what cue bytes) e) ≡ 0 → takes what (e .status) ≡ true
+      → OwnGiven what (withClock e clock) message
+  unfolding readRefusal
+  own-given (Moves m) p h t = tt
+  own-given Send p h t =
+      let a6 = all-passed (cueIn cue) 6 (ask (not (isMember (e .status)) || ltb (e .next) 64) 7 ∷ []) (omega arith) h in
+      let a7 = all-passed (not (isMember (e .status)) || ltb (e .next) 64) 7 [] (omega arith) (a6 .1) in
+      ltb-true (e .next) 64 (sym (ap (λ (b : Bool). not b || ltb (e .next) 64) t) ∙ a7 .0)
+  own-given Arrival p h t = heard bytes message p h .passing
+  own-given Fire p h t = tt
+  own-given Report p h t = tt
+
+  member-acts : (x : End) (step : Step) → isMember (x .status) ≡ true → ifMember x step ≡ step
+  member-acts x step t = ap (λ (b : Bool). cond b step (give Ignored x)) t
+
+  -- what the rules do where the event is taken, and where it is not
+  pub acts : (us : List ℕ) (what : Event) → message ≡ readingFor what bytes .message → firstNo (ownQuestions (actionOf what cue bytes) e) ≡ 0 → takes what (e .status) ≡ true
+      → actOf us (actionOf what cue bytes) (withClock e clock) ≡ acted us what cue (meaningOf message) (withClock e clock)
+  unfolding actOf readRefusal
+  acts us (Moves m) p h t = refl
+  acts us Send p h t = member-acts (withClock e clock) _ t
+  acts us Arrival p h t = member-acts (withClock e clock) _ t ∙ ap (λ (M : Meaning). arrivalOf us M (withClock e clock)) (sym (heard bytes message p h .means))
+  acts us Fire p h t = member-acts (withClock e clock) _ t
+  acts us Report p h t = member-acts (withClock e clock) _ t
+
+pub rests : (us : List ℕ) (what : Event) (cue bytes : List ℕ) (x : End) → takes what (x .status) ≡ false → actOf us (actionOf what cue bytes) x ≡ give Ignored x
+unfolding actOf
+rests us (Moves m) cue bytes x t = cc
+rests us Send cue bytes x t = rw t
+rests us Arrival cue bytes x t = rw t
+rests us Fire cue bytes x t = rw t
+rests us Report cue bytes x t = rw t
+
+-- ---- the questions
+-- what a call that is not refused has passed
+pub record Passed (e : End) (a : Action) (clock room draws : ℕ) : Type 0 where
+  pub room-in : 128 ≤ room
+  pub draws-in : draws ≡ 64
+  pub settled-then : Settled (withClock e clock)
+  pub own : firstNo (ownQuestions a e) ≡ 0
+
+pub passed : (e : End) (a : Action) (clock room draws : ℕ) → questionOf e a clock room draws ≡ 0 → Passed e a clock room draws
+unfolding questionOf
+passed e a clock room draws h =
+    let own = ownQuestions a e in
+    let q5 = ask (leb (e .clock) clock) 5 ∷ own in
+    let q4 = ask (ticksIn clock) 4 ∷ q5 in
+    let q3 = ask (soundOf e) 3 ∷ q4 in
+    let q2 = ask (eqb draws 64) 2 ∷ q3 in
+    let a1 = all-passed (leb 128 room) 1 q2 (omega arith) h in
+    let a2 = all-passed (eqb draws 64) 2 q3 (omega arith) (a1 .1) in
+    let a3 = all-passed (soundOf e) 3 q4 (omega arith) (a2 .1) in
+    let a4 = all-passed (ticksIn clock) 4 q5 (omega arith) (a3 .1) in
+    let a5 = all-passed (leb (e .clock) clock) 5 own (omega arith) (a4 .1) in
+    record {
+      room-in = leb-true 128 room (a1 .0);
+      draws-in = eqb-true draws 64 (a2 .0);
+      settled-then = settled e clock (a3 .0) (ltb-true clock 281474976710656 (a4 .0)) (leb-true (e .clock) clock (a5 .0));
+      own = a5 .1;
+    }
+
+pub acting : (e : End) (what : Event) (cue bytes : List ℕ) (message : Message) (clock room draws : ℕ) → message ≡ readingFor what bytes .message
+    → questionOf e (actionOf what cue bytes) clock room draws ≡ 0 → takes what (e .status) ≡ true → Acting what (withClock e clock) message draws room
+acting e what cue bytes message clock room draws p h t =
+    let w = passed e (actionOf what cue bytes) clock room draws h in
+    record { settled = w .settled-then; draws = w .draws-in; room = w .room-in; own = own-given e clock cue bytes message what p (w .own) t }

@@ -1,2 +1,0 @@
-pub mod Timed
-pub mod Change

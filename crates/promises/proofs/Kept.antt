@@ -1,0 +1,88 @@
+-- Every promise is kept: one term of the type `Promises`. What is below may be proved in any way; what it proves stands in specs/.
+use Rattle.invariants.proofs.Stays.{opens-sound, stays-sound}
+use Rattle.invariants.proofs.Lists.{ends-stay-sound, never-refused-as-3, clocks-never-fall, never-heard-later}
+use Rattle.invariants.proofs.Clocks.{clock-never-falls, heard-by-now}
+use Rattle.invariants.proofs.Outputs.{goes-out-right}
+use Rattle.guarantees.proofs.Choice.{choice-is-earliest, no-choice-none-due}
+use Rattle.guarantees.proofs.Fires.{out-is-earliest, nothing-means-none, none-means-nothing, due-means-out, one-less-due, firing-ends}
+use Rattle.guarantees.proofs.BackOff.{opened-c3-below-c1, opened-firing-ends, rounds-rise, set-or-kept, quiet-ignores, once-per-quiet, always-due, rounds-through, always-set, quiet-before-due, one-round-per-quiet}
+use Rattle.guarantees.proofs.Slots.{host-and-params-stay, slots-may-become, waits-until-held, held-until-cleared}
+use Rattle.guarantees.proofs.Arrivals.{refused-changes-nothing, arrival-keeps-status-and-next, held-stays, untouched-stays, other-sources-stay, slots-as-heard, held-is-carried, replies-as-heard, reply-quiet-stays, spans-as-heard, distances-stay}
+use Rattle.roundtrip.proofs.RoundTrip.{reads-back, very-bytes, rewritten, at-most-119}
+use Rattle.numbers.proofs.NumberLaws.{value-digits, digits-value}
+use Rattle.numbers.proofs.SignedLaws.{signed-back, two-bytes-back}
+use Rattle.message.proofs.CueLaws.{cue-fields-back}
+use Rattle.end.proofs.Service.Ends.{service}
+use Rattle.end.proofs.Reasons.{ignored-for-the-first-reason}
+use Rattle.cases.proofs.Shown.{service-shown}
+use Rattle.cases.proofs.Cases.{cases-hold, answers-hold, moves-hold, wire-holds, timed-hold, stage-holds, quiet-holds}
+use Rattle.promises.specs.Promises.{Promises}
+
+pub promises : Promises
+promises = record {
+  wire = record {
+    value-digits = value-digits;
+    digits-value = digits-value;
+    signed-back = signed-back;
+    two-bytes-back = two-bytes-back;
+    cue-fields-back = cue-fields-back;
+    reads-back = reads-back;
+    very-bytes = very-bytes;
+    rewritten = rewritten;
+    at-most-119 = at-most-119;
+  };
+  service = record { runs = service; shown = service-shown };
+  states = record {
+    opens-sound = opens-sound;
+    stays-sound = stays-sound;
+    ends-stay-sound = ends-stay-sound;
+    never-refused-as-3 = never-refused-as-3;
+    clock-never-falls = clock-never-falls;
+    clocks-never-fall = clocks-never-fall;
+    heard-by-now = heard-by-now;
+    never-heard-later = never-heard-later;
+    goes-out-right = goes-out-right;
+  };
+  fires = record {
+    choice-is-earliest = choice-is-earliest;
+    no-choice-none-due = no-choice-none-due;
+    out-is-earliest = out-is-earliest;
+    nothing-means-none = nothing-means-none;
+    none-means-nothing = none-means-nothing;
+    due-means-out = due-means-out;
+    opened-c3-below-c1 = opened-c3-below-c1;
+    host-and-params-stay = host-and-params-stay;
+    one-less-due = one-less-due;
+    firing-ends = firing-ends;
+    opened-firing-ends = opened-firing-ends;
+  };
+  arrivals = record {
+    refused-changes-nothing = refused-changes-nothing;
+    arrival-keeps-status-and-next = arrival-keeps-status-and-next;
+    held-stays = held-stays;
+    untouched-stays = untouched-stays;
+    other-sources-stay = other-sources-stay;
+    slots-as-heard = slots-as-heard;
+    held-is-carried = held-is-carried;
+    replies-as-heard = replies-as-heard;
+    reply-quiet-stays = reply-quiet-stays;
+    spans-as-heard = spans-as-heard;
+    distances-stay = distances-stay;
+  };
+  back-off = record {
+    slots-may-become = slots-may-become;
+    waits-until-held = waits-until-held;
+    held-until-cleared = held-until-cleared;
+    rounds-rise = rounds-rise;
+    set-or-kept = set-or-kept;
+    quiet-ignores = quiet-ignores;
+    once-per-quiet = once-per-quiet;
+    always-due = always-due;
+    rounds-through = rounds-through;
+    always-set = always-set;
+    quiet-before-due = quiet-before-due;
+    one-round-per-quiet = one-round-per-quiet;
+  };
+  first-reason = ignored-for-the-first-reason;
+  cases = record { starred = cases-hold; answers = answers-hold; moves = moves-hold; wire = wire-holds; timed = timed-hold; stage = stage-holds; quiet = quiet-holds };
+}

@@ -1,0 +1,66 @@
+-- Whatever bytes arrive: the statements of the crate `guarantees`, Arrivals.
+use mathlib.Core.Path.{_≡_}
+use mathlib.Core.Bool.{Bool, true, false, cond, not, _&&_, _||_}
+use mathlib.Core.List.{List, [], _∷_}
+use mathlib.Core.Logic.{_⊎_}
+use Prim.Native.Nat.{ℕ, _≤_, _<_}
+use lib.Dec.{leb, eqb}
+use Rattle.message.specs.declared.Report.{Report}
+use Rattle.message.specs.Entry.{asHost}
+use Rattle.message.specs.Message.{DATA, RQST, REPL, Meaning, meaningFrom}
+use Rattle.end.specs.declared.Span.{Span}
+use Rattle.end.specs.declared.Span.the-variants.{Closed, Open}
+use Rattle.end.specs.declared.End.{End}
+use Rattle.end.specs.State.{sourceAt, distanceTo}
+use Rattle.end.specs.Records.{isAbove, isHeld, replyIn}
+use Rattle.end.specs.Round.{quietAfterReply}
+use Rattle.end.specs.Answer.{Refused, Result, bufferOf}
+use Rattle.end.specs.Arrival.{messageName, messageHost, messageCue}
+use Rattle.end.specs.Event.{Action, Arrival, eventOf}
+use Rattle.guarantees.specs.Calls.{momentAt}
+use Rattle.guarantees.specs.Records.{recordOf, slotOf, HeardAs, ReplyAs}
+use Rattle.guarantees.specs.Arrivals.{hear, SameEnd, isAbout, risen, reportedUp, hasName, touches, SpanAs, isDataOf, isSessionOf}
+
+pub record ArrivalsKept : Type 0 where
+  -- A refused call, of any event, changes nothing at all, neither the end nor the output.
+  pub refused-changes-nothing : (e : End) (a : Action) (clock room : ℕ) (draws : List ℕ) (k : ℕ) → eventOf e a clock room draws .outcome ≡ Refused k
+      → (eventOf e a clock room draws .left ≡ e) × ((out : List ℕ) → bufferOf (eventOf e a clock room draws .outcome) out ≡ out)
+  -- Whatever arrives, host, parameters, status and next own number stay.
+  pub arrival-keeps-status-and-next : (e : End) (bytes : List ℕ) (clock room : ℕ) (draws : List ℕ) → SameEnd e (hear e bytes clock room draws .left)
+  -- Whatever arrives, a held cue stays held, and stays the same.
+  pub held-stays : (e : End) (bytes : List ℕ) (clock room : ℕ) (draws : List ℕ) (h n : ℕ) → h < 8 → isHeld (slotOf e h n) ≡ true
+      → (isHeld (slotOf (hear e bytes clock room draws .left) h n) ≡ true) × (recordOf (hear e bytes clock room draws .left) h n .cue ≡ recordOf e h n .cue)
+  -- Every other record stays exactly as it was, with its cue, request, reply and quiet time.
+  pub untouched-stays : (e : End) (bytes : List ℕ) (clock room : ℕ) (draws : List ℕ) (h n : ℕ) → h < 8
+      → touches (meaningFrom bytes) h (sourceAt e (asHost h) .span) n ≡ false → recordOf (hear e bytes clock room draws .left) h n ≡ recordOf e h n
+  -- So DATA, RQST and REPL leave every record of every source but the one that they name.
+  pub other-sources-stay : (e : End) (bytes : List ℕ) (clock room : ℕ) (draws : List ℕ) (h n : ℕ) → h < 8
+      → hasName (meaningFrom bytes) ≡ true → eqb (messageName (meaningFrom bytes) .source .0) h ≡ false
+      → recordOf (hear e bytes clock room draws .left) h n ≡ recordOf e h n
+  -- A slot changes only as `HeardAs` says.
+  pub slots-as-heard : (e : End) (bytes : List ℕ) (clock room : ℕ) (draws : List ℕ) (h n : ℕ) → h < 8
+      → HeardAs (momentAt e clock) draws (distanceTo e (asHost h)) n
+      (isAbout DATA (meaningFrom bytes) h n || isAbout REPL (meaningFrom bytes) h n) (isAbout RQST (meaningFrom bytes) h n)
+      (slotOf e h n) (slotOf (hear e bytes clock room draws .left) h n)
+  -- A cue that was not held and is held after an arrival is the one that the message carries.
+  pub held-is-carried : (e : End) (bytes : List ℕ) (clock room : ℕ) (draws : List ℕ) (h n : ℕ) → h < 8 → isHeld (slotOf e h n) ≡ false
+      → isHeld (slotOf (hear e bytes clock room draws .left) h n) ≡ true
+      → recordOf (hear e bytes clock room draws .left) h n .cue ≡ messageCue (meaningFrom bytes)
+  -- A waiting reply changes only as `ReplyAs` says.
+  pub replies-as-heard : (e : End) (bytes : List ℕ) (clock room : ℕ) (draws : List ℕ) (h n : ℕ) → h < 8
+      → ReplyAs (momentAt e clock) draws (distanceTo e (meaningFrom bytes .sender)) (meaningFrom bytes .sender) n
+      (isAbout RQST (meaningFrom bytes) h n) (isAbout REPL (meaningFrom bytes) h n) (slotOf e h n) (recordOf e h n .hush)
+      (replyIn (slotOf e h n)) (replyIn (slotOf (hear e bytes clock room draws .left) h n))
+  -- A reply-quiet time stays or, by a REPL of its name, is D3×d after the clock, where d is the distance to the host that the REPL names,
+  -- the requester.
+  pub reply-quiet-stays : (e : End) (bytes : List ℕ) (clock room : ℕ) (draws : List ℕ) (h n : ℕ) → h < 8
+      → (recordOf (hear e bytes clock room draws .left) h n .hush ≡ recordOf e h n .hush)
+      ⊎ ((isAbout REPL (meaningFrom bytes) h n ≡ true)
+      × (recordOf (hear e bytes clock room draws .left) h n .hush ≡ quietAfterReply (momentAt e clock) (distanceTo e (messageHost (meaningFrom bytes)))))
+  -- Whatever arrives, a DATA of a source alone gives it a first. First then stays, and last never falls.
+  pub spans-as-heard : (e : End) (bytes : List ℕ) (clock room : ℕ) (draws : List ℕ) (h : ℕ) → h < 8
+      → SpanAs (isDataOf (meaningFrom bytes) h) (sourceAt e (asHost h) .span) (sourceAt (hear e bytes clock room draws .left) (asHost h) .span)
+  -- Distance and heard stamp of a host stay, unless a SESS of that host arrives.
+  pub distances-stay : (e : End) (bytes : List ℕ) (clock room : ℕ) (draws : List ℕ) (h : ℕ) → h < 8 → isSessionOf (meaningFrom bytes) h ≡ false
+      → (distanceTo (hear e bytes clock room draws .left) (asHost h) ≡ distanceTo e (asHost h))
+      × (sourceAt (hear e bytes clock room draws .left) (asHost h) .heard ≡ sourceAt e (asHost h) .heard)

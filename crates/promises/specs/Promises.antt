@@ -1,0 +1,58 @@
+-- What the product promises beyond the contracts of its calls, all in one place. A proof reader opens this file first: each part is a
+-- record whose fields are the promises, written out; proofs/Kept.antt is one term of this type. A theorem that is weakened, made
+-- private or taken away below no longer fits here.
+use mathlib.Core.Path.{_≡_}
+use mathlib.Core.Bool.{false}
+use Rattle.end.specs.declared.Record.{Record}
+use Rattle.end.specs.declared.Span.{Span}
+use Rattle.end.specs.declared.Span.the-variants.{Closed}
+use Rattle.end.specs.declared.Moment.{Moment}
+use Rattle.end.specs.declared.Word.{Word}
+use Rattle.end.specs.Records.{isHeld}
+use Rattle.end.specs.Decide.{decideAs}
+use Rattle.end.specs.Reasons.{holds, reasons, firstThat, reasonOf}
+use Rattle.cases.specs.Case.{Hold}
+use Rattle.cases.specs.Rows.{rows}
+use Rattle.cases.specs.Answers.{answerRows}
+use Rattle.cases.specs.Moves.{moveRows}
+use Rattle.cases.specs.Wire.{wireRows}
+use Rattle.cases.specs.Timed.{timedRows}
+use Rattle.cases.specs.Stage.{stageRows}
+use Rattle.cases.specs.Quiet.{quietRows}
+use Rattle.promises.specs.Wire.{WireKept}
+use Rattle.promises.specs.Service.{ServiceKept}
+use Rattle.promises.specs.States.{StatesKept}
+use Rattle.promises.specs.Fires.{FiresKept}
+use Rattle.promises.specs.Arrivals.{ArrivalsKept}
+use Rattle.promises.specs.BackOff.{BackOffKept}
+
+-- document 01's cases and what else is pinned by computed rows: the answers one by one, the 25 moves by status, messages as bytes, times, a run by answers and
+-- buffers, reply-quiet times
+pub record CasesKept : Type 0 where
+  pub starred : Hold rows
+  pub answers : Hold answerRows
+  pub moves : Hold moveRows
+  pub wire : Hold wireRows
+  pub timed : Hold timedRows
+  pub stage : Hold stageRows
+  pub quiet : Hold quietRows
+
+pub record Promises : Type 0 where
+  -- demand 2, the wire: "Each message written reads back as itself, and each accepted message is the very bytes .."
+  pub wire : WireKept
+  -- demand 3: "the list is a run of the reliable multicast service by document 01's book"
+  pub service : ServiceKept
+  -- sound stays sound, clocks never fall, what goes out is right
+  pub states : StatesKept
+  -- Fire sends the earliest due wait, and ends
+  pub fires : FiresKept
+  -- whatever bytes arrive
+  pub arrivals : ArrivalsKept
+  -- a message is ignored for the first of document 02's reasons that holds, and only if one does; in a sound state a closed source
+  -- holds nothing
+  pub first-reason : (t : Moment) (w : Word) (r : Record) (x : Span) → (x ≡ Closed → isHeld (r .slot) ≡ false)
+      → reasonOf (decideAs (w .says) t w r x) ≡ firstThat (holds (w .says) t w r x) reasons
+  -- requests back off, within their bounds
+  pub back-off : BackOffKept
+  -- "Cases (* is proved)"
+  pub cases : CasesKept

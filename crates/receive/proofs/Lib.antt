@@ -1,0 +1,5 @@
+pub mod Arriving
+pub mod Lists
+pub mod Passes
+pub mod Reports
+pub mod Whole

@@ -1,0 +1,20 @@
+-- `receive::hear` meets its contract: the sender's source with its measured distance.
+use Rattle.message.specs.Message.{meaningOf}
+use Rattle.receive.proofs.Passes.{in-range}
+use borrow.Author.Needs.{needs}
+use Rattle.receive.proofs.hear.Statement.{statement}
+use Rattle.receive.proofs.hear.Tie as tie
+
+measure-requires : tie.Need-measure-requires
+measure-requires c κs =
+    let start = c .before in
+    (start .pre .0, in-range (meaningOf (start .args .m)) (start .pre .1) .echoes)
+
+with-heard-requires : tie.Need-with-heard-requires
+with-heard-requires c κs = search needs
+
+returns : tie.Need-returns
+returns c = rw (c .with-heard .ensures, c .before .measure .ensures)
+
+pub hear-spec : {M : Type 1} → statement M
+hear-spec = tie.close (tie.spec measure-requires with-heard-requires returns)

@@ -1,0 +1,28 @@
+-- `receive::requester_in` meets its contract: a REPL has it in its name.
+use borrow.Author.Needs.{needs}
+use Rattle.receive.proofs.requester_in.Statement.{statement}
+use Rattle.receive.proofs.requester_in.Tie as tie
+
+enum-told : tie.Need-enum-told
+enum-told c = search needs
+
+enum-told-2 : tie.Need-enum-told-2
+enum-told-2 c = search needs
+
+enum-told-3 : tie.Need-enum-told-3
+enum-told-3 c = search needs
+
+entry-of-requires : tie.Need-entry-of-requires
+entry-of-requires c κs = search needs
+
+returns : tie.Need-returns
+returns c = search needs
+
+returns-2 : tie.Need-returns-2
+returns-2 c = search needs
+
+returns-3 : tie.Need-returns-3
+returns-3 c = rw (c .before .before .enum-told3 .given .1) (cc)
+
+pub requester-in-spec : {M : Type 1} → statement M
+requester-in-spec = tie.close (tie.spec enum-told enum-told-2 enum-told-3 entry-of-requires returns returns-2 returns-3)

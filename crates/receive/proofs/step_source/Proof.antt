@@ -1,0 +1,64 @@
+-- `receive::step_source` meets its contract: a message of one's own, a message about a name, or a session message.
+use mathlib.Core.Path.{sym, _∙_}
+use Rattle.message.specs.Message.{meaningOf}
+use Rattle.message.proofs.QuestionLaws.{counts-small}
+use Rattle.receive.proofs.Passes.{heeds}
+use Rattle.receive.proofs.Whole.{own-gives, named-gives, session-gives}
+use borrow.Author.Needs.{needs}
+use Rattle.receive.proofs.step_source.Statement.{statement}
+use Rattle.receive.proofs.step_source.Tie as tie
+
+-- ---- the places that the facts stand at: the call, and where a message is about a name
+abbrev call : tie.Else1 → tie.Start
+call c = c .before .before .before .before .before
+
+abbrev named : tie.After-about-name-arg → tie.Then2
+named c = c .before .before
+
+unchanged-requires : tie.Need-unchanged-requires
+unchanged-requires c κs = search needs
+
+returns : tie.Need-returns
+returns c =
+    let a = c .before .before .before .before .before .before .args in
+    own-gives (a .t) (a .draws .now) (a .d) (meaningOf (a .m)) (a .s) (a .out .now) _ (c .before .if1 .taken) (c .unchanged .ensures)
+
+is-named-requires : tie.Need-is-named-requires
+is-named-requires c κs = search needs
+
+word-in-requires : tie.Need-word-in-requires
+word-in-requires c κs = search needs
+
+about-name-requires : tie.Need-about-name-requires
+about-name-requires c κs =
+    let given = call (named c .before .before) .pre in
+    (heeds _ _ _ _ _ _ _ (c .before .word-in .ensures) given, given .passed .room-in)
+
+same-length : tie.Need-same-length
+same-length c = search needs
+
+returns-2 : tie.Need-returns-2
+returns-2 c =
+    let step = c .before .before in
+    let test = named (step .before) in
+    let other = test .before .before in
+    let a = call other .args in
+    named-gives (a .t) (a .draws .now) (a .d) (meaningOf (a .m)) (a .s) (a .out .now) (other .if1 .left) _ _ _
+    (sym (test .before .is-named .ensures) ∙ test .if2 .taken) (step .before .before .word-in .ensures) (step .about-name .ensures .0) (step .about-name .ensures .1)
+
+hear-requires : tie.Need-hear-requires
+hear-requires c κs =
+    let start = call (c .before .before) in
+    (counts-small (start .args .m .kind) (start .args .m .counts) (start .pre .passed .counts-in) .echoes, start .pre .passed .ranges-in)
+
+returns-3 : tie.Need-returns-3
+returns-3 c =
+    let test = c .before in
+    let other = test .before .before in
+    let a = call other .args in
+    session-gives (a .t) (a .draws .now) (a .d) (meaningOf (a .m)) (a .s) (a .out .now) (other .if1 .left) _
+    (sym (test .before .is-named .ensures) ∙ test .if2 .left) (c .hear .ensures)
+
+pub step-source-spec : {M : Type 1} → statement M
+step-source-spec = tie.close (tie.spec unchanged-requires returns is-named-requires word-in-requires about-name-requires same-length returns-2
+    hear-requires returns-3)

@@ -1,0 +1,19 @@
+-- `receive::subject_of` meets its contract: the test says whose source it is.
+use borrow.Author.Needs.{needs}
+use Rattle.receive.proofs.subject_of.Statement.{statement}
+use Rattle.receive.proofs.subject_of.Tie as tie
+
+entry-of-requires : tie.Need-entry-of-requires
+entry-of-requires c κs = search needs
+
+is-named-requires : tie.Need-is-named-requires
+is-named-requires c κs = search needs
+
+returns : tie.Need-returns
+returns c = rw (← c .before .before .is-named .ensures, c .before .if1 .taken) (cc)
+
+returns-2 : tie.Need-returns-2
+returns-2 c = rw (← c .before .before .is-named .ensures, c .before .if1 .left)
+
+pub subject-of-spec : {M : Type 1} → statement M
+subject-of-spec = tie.close (tie.spec entry-of-requires is-named-requires returns returns-2)

@@ -1,0 +1,22 @@
+-- `receive::word_in` meets its contract: each part is its callee's.
+use borrow.Author.Needs.{needs}
+use Rattle.receive.proofs.word_in.Statement.{statement}
+use Rattle.receive.proofs.word_in.Tie as tie
+
+says-in-requires : tie.Need-says-in-requires
+says-in-requires c κs = search needs
+
+entry-of-requires : tie.Need-entry-of-requires
+entry-of-requires c κs = search needs
+
+asker-in-requires : tie.Need-asker-in-requires
+asker-in-requires c κs = search needs
+
+cue-of-requires : tie.Need-cue-of-requires
+cue-of-requires c κs = search needs
+
+returns : tie.Need-returns
+returns c = cc
+
+pub word-in-spec : {M : Type 1} → statement M
+word-in-spec = tie.close (tie.spec says-in-requires entry-of-requires asker-in-requires cue-of-requires returns)

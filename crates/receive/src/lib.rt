@@ -1,0 +1,309 @@
+// What a member, its clock set, does with a message that passed its questions: the definition `arrivalOf` of the crate end,
+// specs/Arrival.antt, with its answer and its output. A message is steps on single sources (specs/Steps.antt): each function here is
+// given the one source that it may change and gives it back, and `arrival` stores it in the one copy of the end, with one way out: each
+// further copy or way out would cost a copy of the whole state. Nothing here refuses, tests the membership or sets the clock: these are
+// the calls' frame, in the crate link. Helpers of the crates above and no calls of the product: each asks in its `requires` for what
+// soundness and the questions give.
+use end::Answer;
+use end::Draw;
+use end::End;
+use end::Heard;
+use end::Moment;
+use end::Says;
+use end::Source;
+use end::Stepped;
+use end::Word;
+use message::CueNumber;
+use message::DATA;
+use message::Echo;
+use message::Host;
+use message::Message;
+use message::Name;
+use message::NameEntry;
+use message::REPL;
+use message::RQST;
+use message::Report;
+use state::Change;
+ghost use mathlib.Core.Path.{_≡_};
+ghost use mathlib.Core.Bool.{true, cond, _||_, _&&_};
+ghost use mathlib.Core.List.{_++_};
+ghost use Prim.Native.Nat.{_+_, _-_, _≤_, _<_};
+ghost use lib.ListN.{length, getD, take, drop};
+ghost use lib.Dec.{leb};
+ghost use Rattle.message.specs.Section.{all};
+ghost use Rattle.message.specs.Entry.{blankName, blankReport};
+ghost use Rattle.message.specs.Message.{meaningOf};
+ghost use Rattle.message.specs.Question.{echoIn, inRange, sameHost};
+ghost use Rattle.end.specs.Round.{halfTrip};
+ghost use Rattle.end.specs.Answer.{Did, answerOf, done, calledOf, bufferOf};
+ghost use Rattle.end.specs.Ready.{Ranges, Numbered};
+ghost use Rattle.end.specs.Decide.{decide, effectOf};
+ghost use Rattle.end.specs.Session.{reportedSource, measured, heardFrom};
+ghost use Rattle.end.specs.Arrival.{messageCue, requesterIn, arrivalOf};
+ghost use Rattle.decide.specs.Step.{Heeded, stepped};
+ghost use Rattle.receive.specs.Steps.{isNamed, saysIn, askerIn, wordIn, subjectOf, effectOn, leftOn, isGot};
+ghost use Rattle.receive.specs.Hearing.{Hearing, HearingOn};
+
+// ---- what a message says
+
+// Whether a message of this kind is about a name.
+fn is_named(kind: u8) -> bool
+    ensures { λ r. ⌜ r ≡ isNamed kind ⌝ }
+{
+    (kind == DATA) | ((kind == RQST) | (kind == REPL))
+}
+
+fn says_in(kind: u8) -> Says
+    ensures { λ r. ⌜ r ≡ saysIn kind ⌝ }
+{
+    if kind == DATA {
+        return Says::Data;
+    }
+    if kind == RQST { Says::Rqst } else { Says::Repl }
+}
+
+// The first name of a message, or a blank where it has none.
+fn entry_of(m: Message) -> NameEntry
+    ensures { λ r. ⌜ r ≡ getD (meaningOf m .names) 0 blankName ⌝ }
+{
+    let count = m.counts.names;
+    if count == 0 {
+        return NameEntry {
+            name: Name {
+                source: Host(0),
+                number: CueNumber(0),
+            },
+            host: Host(0),
+        };
+    }
+    m.names[0]
+}
+
+// The cue of a message, or a blank where it has none.
+fn cue_of(m: Message) -> [u8; 24]
+    ensures { λ r. ⌜ r ≡ messageCue (meaningOf m) ⌝ }
+{
+    let count = m.counts.cues;
+    if count == 0 {
+        return [0; 24];
+    }
+    m.cue
+}
+
+// Who asked, as what the message says has it.
+fn requester_in(says: Says, m: Message) -> Host
+    ensures { λ r. ⌜ r ≡ requesterIn says (meaningOf m) ⌝ }
+{
+    match says {
+        Says::Data => m.sender,
+        Says::Rqst => m.sender,
+        Says::Repl => {
+            let entry = entry_of(m);
+            entry.host
+        }
+    }
+}
+
+fn asker_in(m: Message) -> Host
+    ensures { λ r. ⌜ r ≡ askerIn (meaningOf m) ⌝ }
+{
+    let says = says_in(m.kind);
+    requester_in(says, m)
+}
+
+// The word of a message about a name, with the distance d to who asked.
+fn word_in(m: Message, d: u64) -> Word
+    ensures { λ r. ⌜ r ≡ wordIn (meaningOf m) d ⌝ }
+{
+    let says = says_in(m.kind);
+    let entry = entry_of(m);
+    let name = entry.name;
+    let requester = asker_in(m);
+    let cue = cue_of(m);
+    Word {
+        says,
+        name,
+        requester,
+        distance: d,
+        cue,
+    }
+}
+
+// Whose source a message is about.
+fn subject_of(m: Message) -> Host
+    ensures { λ r. ⌜ r ≡ subjectOf (meaningOf m) ⌝ }
+{
+    let entry = entry_of(m);
+    if is_named(m.kind) {
+        entry.name.source
+    } else {
+        m.sender
+    }
+}
+
+// How many reports of a message are heard.
+fn report_count(me: Host, m: Message) -> usize
+    ensures { λ r. ⌜ r ≡ cond (sameHost (m .sender) me || isNamed (m .kind)) 0 (m .counts .reports) ⌝ }
+{
+    let count = m.counts.reports;
+    let none = (m.sender.0 == me.0) | is_named(m.kind);
+    if none { 0 } else { count }
+}
+
+// ---- SESS
+
+// A report by its place, of eight.
+fn report_at(reports: [Report; 8], i: usize) -> Report
+    requires { ⌜ i < 8 ⌝ }
+    ensures { λ r. ⌜ (r ≡ getD reports i blankReport) × (length reports ≡ 8) ⌝ }
+{
+    reports[i]
+}
+
+// The source of a report: where the report makes its last rise, the new numbers are asked for.
+fn report(t: Moment, draws: &[Draw], r: Report, s: Source) -> Source
+    requires { ⌜ Ranges t (s .distance) ⌝ }
+    requires { ⌜ Numbered (r .last .0) (length (now draws)) ⌝ }
+    ensures { λ x. ⌜ x ≡ reportedSource t (now (draws .entry)) r s ⌝ }
+{
+    let span = s.span;
+    let other = !(r.source.0 == t.me.0);
+    let rises = other & records::is_above(span, r.last);
+    if rises {
+        records::rise_to(s, t, draws, r.last)
+    } else {
+        s
+    }
+}
+
+// The distance after an echo, from what it was: an echo of oneself measures half the round trip.
+fn by_echo(me: Host, clock: u64, x: Echo, d: u64) -> u64
+    requires { ⌜ (x .stamp < 281474976710656) × (x .held < 281474976710656) ⌝ }
+    ensures { λ r. ⌜ r ≡ cond (sameHost (x .host) me && leb (x .stamp + x .held) clock) (halfTrip (clock - (x .stamp + x .held))) d ⌝ }
+{
+    let gone = x.stamp + x.held;
+    if (x.host.0 == me.0) & (gone <= clock) {
+        timing::half_trip(clock - gone)
+    } else {
+        d
+    }
+}
+
+// The distance after all echoes.
+fn measure(me: Host, clock: u64, echoes: [Echo; 7], count: usize, d: u64) -> u64
+    requires { ⌜ (count ≤ 7) × (all echoIn (take count echoes) ≡ true) ⌝ }
+    ensures { λ r. ⌜ r ≡ measured me clock (take count echoes) d ⌝ }
+{
+    let mut out = d;
+    let mut i: usize = 0;
+    while i < count {
+        let x = echoes[i];
+        out = by_echo(me, clock, x, out);
+        i += 1;
+    }
+    out
+}
+
+// The sender's source: it is heard now, and its distance measured.
+fn hear(t: Moment, m: Message, s: Source) -> Source
+    requires { ⌜ m .counts .echoes ≤ 7 ⌝ }
+    requires { ⌜ inRange (meaningOf m) ≡ true ⌝ }
+    ensures { λ r. ⌜ r ≡ heardFrom t (meaningOf m) s ⌝ }
+{
+    let count = m.counts.echoes;
+    let echoes = m.echoes;
+    let d = measure(t.me, t.clock, echoes, count, s.distance);
+    state::with_heard(s, d, Heard::At(m.stamp, t.clock))
+}
+
+// ---- a message about a name
+
+// Whether an answer hands out a cue.
+fn is_got(answer: Answer) -> bool
+    ensures { λ r. ⌜ r ≡ isGot answer ⌝ }
+{
+    match answer {
+        Answer::Refused(_) => false,
+        Answer::Out(_) => false,
+        Answer::Got(_) => true,
+        Answer::Done => false,
+        Answer::Ignored => false,
+        Answer::Nothing => false,
+    }
+}
+
+// Got puts its cue into the first output bytes; every other answer leaves them.
+fn emit(answer: Answer, cue: &[u8; 24], out: &mut [u8])
+    requires { ⌜ 24 ≤ length (now out) ⌝ }
+    ensures { λ _. ⌜ now (out .exit) ≡ cond (isGot answer) (now (cue .entry) ++ drop (length (now (cue .entry))) (now (out .entry))) (now (out .entry)) ⌝ }
+{
+    if is_got(answer) {
+        numbers::put_bytes(out, 0, cue);
+    }
+}
+
+// Its step on the name's source, and the cue of a Got in the output.
+fn about_name(t: Moment, draws: &[Draw], w: Word, s: Source, out: &mut [u8]) -> Change
+    requires { ⌜ Heeded t w (s .distance) (length (now draws)) ⌝ }
+    requires { ⌜ 24 ≤ length (now out) ⌝ }
+    ensures { λ r. ⌜ r ≡ stepped t (now (draws .entry)) w s ⌝ }
+    ensures { λ _. ⌜ now (out .exit) ≡ bufferOf (Did (effectOf w (decide t w s))) (now (out .entry)) ⌝ }
+{
+    let change = decide::step(t, draws, w, s);
+    let answer = change.answer;
+    let cue = w.cue;
+    emit(answer, &cue, out);
+    change
+}
+
+// ---- a message of any kind
+
+// Its step on the source that it is about, with the distance d to who asked. A message of one's own is ignored.
+fn step_source(t: Moment, draws: &[Draw], m: Message, d: u64, s: Source, out: &mut [u8]) -> Change
+    requires { ⌜ HearingOn t (s .distance) d m (length (now draws)) (length (now out)) ⌝ }
+    ensures { λ r. ⌜ r ≡ record { answer = answerOf (Did (effectOn t d (meaningOf m) s)); source = leftOn t (now (draws .entry)) d (meaningOf m) s } ⌝ }
+    ensures { λ _. ⌜ now (out .exit) ≡ bufferOf (Did (effectOn t d (meaningOf m) s)) (now (out .entry)) ⌝ }
+{
+    if m.sender.0 == t.me.0 {
+        return state::unchanged(s);
+    }
+    if is_named(m.kind) {
+        let w = word_in(m, d);
+        return about_name(t, draws, w, s, out);
+    }
+    Change {
+        answer: Answer::Done,
+        source: hear(t, m, s),
+    }
+}
+
+// Arrival: the reports step their sources one by one, and then the message the source that it is about.
+pub fn arrival(e: End, draws: &[Draw], m: Message, out: &mut [u8]) -> Stepped
+    requires { ⌜ Hearing e m (length (now draws)) (length (now out)) ⌝ }
+    ensures { λ r. ⌜ r ≡ calledOf (done (arrivalOf (now (draws .entry)) (meaningOf m) e)) ⌝ }
+    ensures { λ _. ⌜ now (out .exit) ≡ bufferOf (Did (arrivalOf (now (draws .entry)) (meaningOf m) e .effect)) (now (out .entry)) ⌝ }
+{
+    let t = state::moment_of(e);
+    let asker = asker_in(m);
+    let d = state::distance_of(e, asker);
+    let count = report_count(t.me, m);
+    let reports = m.reports;
+    let mut end = e;
+    let mut i: usize = 0;
+    while i < count {
+        let r = report_at(reports, i);
+        let at = r.source.0 as usize;
+        let s = end.sources[at];
+        let s1 = report(t, draws, r, s);
+        end.sources[at] = s1;
+        i += 1;
+    }
+    let subject = subject_of(m);
+    let at = subject.0 as usize;
+    let s = end.sources[at];
+    let change = step_source(t, draws, m, d, s, out);
+    let answer = change.answer;
+    let s1 = change.source;
+    end.sources[at] = s1;
+    Stepped { answer, end }
+}

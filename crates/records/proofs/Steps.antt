@@ -1,0 +1,78 @@
+-- What the equations of a function's calls come to, over plain values: one law for each function. A proof finds the equations that its
+-- law asks for by itself (`search`), so that it counts no positions.
+use mathlib.Core.Path.{_≡_, sym, ap, _∙_}
+use Prim.Native.Nat.{ℕ, _+_, _-_, max}
+use native.Mathlib.Omega.{arith}
+use mathlib.Core.Bool.{Bool, true, false, _&&_}
+use mathlib.Core.List.{List}
+use lib.ListN.{getD}
+use lib.Dec.{ltb, leb}
+use Rattle.message.specs.declared.Host.{Host}
+use Rattle.message.specs.declared.CueNumber.{CueNumber}
+use Rattle.message.specs.Entry.{asNumber}
+use Rattle.end.specs.declared.Request.{Request}
+use Rattle.end.specs.declared.Slot.{Slot}
+use Rattle.end.specs.declared.Reply.the-variants.{No, Due}
+use Rattle.end.specs.declared.Record.{Record}
+use Rattle.end.specs.declared.Span.{Span}
+use Rattle.end.specs.declared.Span.the-variants.{Open}
+use Rattle.end.specs.declared.Source.{Source}
+use Rattle.end.specs.declared.Moment.{Moment}
+use Rattle.end.specs.State.{noRecord, blankRecord}
+use Rattle.end.specs.Records.{within, isBelow, isAbove, place, recordAt, withRecord, withReply}
+use Rattle.end.specs.Round.{requestAt, replyDue, quietAfterReply}
+use Rattle.end.specs.Names.{asking, setRound, setReply, quietReply, requested, rise}
+
+-- ---- first and last, of a span that was matched
+module _ {x : Span} {first last : CueNumber} (n : ℕ) (e : x ≡ Open first last) where
+  pub open-within : leb (first .0) n && leb n (last .0) ≡ within x n
+  open-within = rw e
+
+  pub open-below : ltb n (first .0) ≡ isBelow x n
+  open-below = rw e
+
+  pub open-above : ltb (last .0) n ≡ isAbove x n
+  open-above = rw e
+
+-- ---- the record of a number, by the test whether it is within
+pub at-in : (s : Source) (n : ℕ) {at : ℕ} {inside : Bool} → at ≡ place n → inside ≡ within (s .span) n → inside ≡ true → getD (s .names) at noRecord ≡ recordAt s n
+unfolding recordAt
+at-in s n p w t = rw (p, ← w, t)
+
+pub at-out : (s : Source) (n : ℕ) {r : Record} {inside : Bool} → r ≡ blankRecord → inside ≡ within (s .span) n → inside ≡ false → r ≡ recordAt s n
+unfolding recordAt
+at-out s n r w t = rw (r, ← w, t)
+
+-- ---- one name of a source: its record read, changed and stored
+pub round-set : (t : Moment) (us : List ℕ) (n k : ℕ) (s : Source) {q : Request} {r : Record} {x : Source}
+    → x ≡ withRecord s n (asking r q) → r ≡ recordAt s n → q ≡ requestAt t us (s .distance) n k → x ≡ setRound t us n k s
+round-set t us n k s x r q = rw (x, r, q)
+
+pub reply-set : (t : Moment) (us : List ℕ) (n d : ℕ) (requester : Host) (s : Source) {due : ℕ} {r : Record} {slot : Slot} {x : Source}
+    → x ≡ withRecord s n (record { slot = slot; cue = r .cue; hush = r .hush }) → slot ≡ withReply (Due due requester) (r .slot)
+    → r ≡ recordAt s n → due ≡ replyDue t us d n → x ≡ setReply t us n d requester s
+reply-set t us n d requester s x slot r due = rw (x, slot, r, due)
+
+pub reply-quieted : (t : Moment) (n d : ℕ) (s : Source) {hush : ℕ} {r : Record} {slot : Slot} {x : Source}
+    → x ≡ withRecord s n (record { slot = slot; cue = r .cue; hush = hush }) → slot ≡ withReply No (r .slot)
+    → r ≡ recordAt s n → hush ≡ quietAfterReply t d → x ≡ quietReply t n d s
+reply-quieted t n d s x slot r hush = rw (x, slot, r, hush)
+
+-- ---- last rises
+module _ (t : Moment) (us : List ℕ) (n : ℕ) (s : Source) (first last : CueNumber) where
+  -- the numbers from above last up to n are asked for
+  pub all-asked : {top : CueNumber} {names : List Record} → top .0 ≡ max (last .0) n
+      → names ≡ requested t us (s .distance) (n + 1 - (last .0 + 1)) (last .0 + 1) (s .names)
+      → record { span = Open first top; distance = s .distance; heard = s .heard; names = names } ≡ rise t us n s (Open first last)
+  unfolding rise
+  all-asked top names =
+      let count : n + 1 - (last .0 + 1) ≡ n - last .0 = omega arith in
+      λ i. record {
+        span = Open first (asNumber (top i));
+        distance = s .distance;
+        heard = s .heard;
+        names = (names ∙ ap (λ (k : ℕ). requested t us (s .distance) k (last .0 + 1) (s .names)) count) i;
+      }
+
+  pub rise-open : {x : Source} → x ≡ rise t us n s (Open first last) → s .span ≡ Open first last → x ≡ rise t us n s (s .span)
+  rise-open x e = x ∙ ap (λ (y : Span). rise t us n s y) (sym e)

@@ -1,0 +1,25 @@
+-- `records::rise_to` meets its contract: the span is the one that was matched.
+use Rattle.end.specs.Names.{rise}
+use borrow.Author.Needs.{needs}
+use Rattle.records.proofs.Steps.{rise-open}
+use Rattle.records.proofs.rise_to.Statement.{statement}
+use Rattle.records.proofs.rise_to.Tie as tie
+
+enum-told : tie.Need-enum-told
+enum-told c = search needs
+
+enum-known-span : tie.Need-enum-known-span
+enum-known-span c = search needs
+
+risen-requires : tie.Need-risen-requires
+risen-requires c κs = search needs
+
+returns : tie.Need-returns
+unfolding rise
+returns c = rw (c .enum-told .given .1)
+
+returns-2 : tie.Need-returns-2
+returns-2 c = search rise-open
+
+pub rise-to-spec : {M : Type 1} → statement M
+rise-to-spec = tie.close (tie.spec enum-told enum-known-span risen-requires returns returns-2)

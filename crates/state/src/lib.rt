@@ -1,0 +1,217 @@
+// The parts of an end that the steps read and change, each function one definition of the crate end, specs/State.antt and
+// specs/Records.antt. They are helpers of the crates above and no calls of the product: an index is below its array's length by their
+// `requires`. A field of Source or End that is added later is a line in each setter here.
+use end::Answer;
+use end::End;
+use end::Heard;
+use end::Moment;
+use end::Params;
+use end::Record;
+use end::Reply;
+use end::Slot;
+use end::Source;
+use end::Span;
+use end::Status;
+use message::Host;
+ghost use mathlib.Core.Path.{_≡_};
+ghost use Prim.Native.Nat.{_<_};
+ghost use Rattle.end.specs.State.{sourceAt, distanceTo, momentOf, withSpan, withHeard, withDistance, withNames, withClock, withStatus, isMember, isCrashed};
+ghost use Rattle.end.specs.Records.{isHeld, isNo, replyIn, withReply};
+ghost use Rattle.end.specs.Sound.{allOf, paramsTests};
+ghost use Rattle.end.specs.declared.Answer.the-variants.{Ignored};
+
+// What a step changes: its answer, and the one source that it was given, as the step leaves it.
+pub struct Change {
+    pub answer: Answer,
+    pub source: Source,
+}
+
+pub fn is_member(status: Status) -> bool
+    ensures { λ r. ⌜ r ≡ isMember status ⌝ }
+{
+    match status {
+        Status::Idle => false,
+        Status::Joining => false,
+        Status::Member => true,
+        Status::Leaving => false,
+        Status::Crashed => false,
+    }
+}
+
+pub fn is_crashed(status: Status) -> bool
+    ensures { λ r. ⌜ r ≡ isCrashed status ⌝ }
+{
+    match status {
+        Status::Idle => false,
+        Status::Joining => false,
+        Status::Member => false,
+        Status::Leaving => false,
+        Status::Crashed => true,
+    }
+}
+
+pub fn is_held(slot: Slot) -> bool
+    ensures { λ r. ⌜ r ≡ isHeld slot ⌝ }
+{
+    match slot {
+        Slot::Empty => false,
+        Slot::Held(_) => true,
+        Slot::Waiting(_) => false,
+    }
+}
+
+pub fn is_no(reply: Reply) -> bool
+    ensures { λ r. ⌜ r ≡ isNo reply ⌝ }
+{
+    match reply {
+        Reply::No => true,
+        Reply::Due(_, _) => false,
+    }
+}
+
+// The reply beside a held cue.
+pub fn reply_in(slot: Slot) -> Reply
+    ensures { λ r. ⌜ r ≡ replyIn slot ⌝ }
+{
+    match slot {
+        Slot::Empty => Reply::No,
+        Slot::Held(reply) => reply,
+        Slot::Waiting(_) => Reply::No,
+    }
+}
+
+// The slot of a held cue with this reply; beside anything else there is none.
+pub fn with_reply(reply: Reply, slot: Slot) -> Slot
+    ensures { λ r. ⌜ r ≡ withReply reply slot ⌝ }
+{
+    match slot {
+        Slot::Empty => Slot::Empty,
+        Slot::Held(_) => Slot::Held(reply),
+        Slot::Waiting(q) => Slot::Waiting(q),
+    }
+}
+
+// "Parameters are 0..32 quarters".
+pub fn params_small(p: Params) -> bool
+    ensures { λ r. ⌜ r ≡ allOf (paramsTests p) ⌝ }
+{
+    (p.c1 <= 32) & (p.c2 <= 32) & (p.c3 <= 32) & (p.d1 <= 32) & (p.d2 <= 32) & (p.d3 <= 32)
+}
+
+// The moment of a call on an end whose clock is the call's.
+pub fn moment_of(e: End) -> Moment
+    ensures { λ r. ⌜ r ≡ momentOf e ⌝ }
+{
+    let me = e.host;
+    let params = e.params;
+    Moment {
+        me,
+        params,
+        clock: e.clock,
+    }
+}
+
+pub fn span_of(e: End, h: Host) -> Span
+    requires { ⌜ h .0 < 8 ⌝ }
+    ensures { λ r. ⌜ r ≡ sourceAt e h .span ⌝ }
+{
+    let at = h.0 as usize;
+    let s = e.sources[at];
+    s.span
+}
+
+pub fn heard_of(e: End, h: Host) -> Heard
+    requires { ⌜ h .0 < 8 ⌝ }
+    ensures { λ r. ⌜ r ≡ sourceAt e h .heard ⌝ }
+{
+    let at = h.0 as usize;
+    let s = e.sources[at];
+    s.heard
+}
+
+// By constant places: a variable one would copy the whole end first.
+pub fn distance_of(e: End, h: Host) -> u64
+    requires { ⌜ h .0 < 8 ⌝ }
+    ensures { λ r. ⌜ r ≡ distanceTo e h ⌝ }
+{
+    let at = h.0;
+    match at {
+        0 => e.sources[0].distance,
+        1 => e.sources[1].distance,
+        2 => e.sources[2].distance,
+        3 => e.sources[3].distance,
+        4 => e.sources[4].distance,
+        5 => e.sources[5].distance,
+        6 => e.sources[6].distance,
+        _ => e.sources[7].distance,
+    }
+}
+
+pub fn with_span(s: Source, span: Span) -> Source
+    ensures { λ r. ⌜ r ≡ withSpan s span ⌝ }
+{
+    let heard = s.heard;
+    let names = s.names;
+    Source {
+        span,
+        distance: s.distance,
+        heard,
+        names,
+    }
+}
+
+pub fn with_names(s: Source, names: [Record; 64]) -> Source
+    ensures { λ r. ⌜ r ≡ withNames s names ⌝ }
+{
+    let mut out = s;
+    out.names = names;
+    out
+}
+
+// A host was heard, and the distance to it measured.
+pub fn with_heard(s: Source, distance: u64, heard: Heard) -> Source
+    ensures { λ r. ⌜ r ≡ withHeard (withDistance s distance) heard ⌝ }
+{
+    let span = s.span;
+    let names = s.names;
+    Source {
+        span,
+        distance,
+        heard,
+        names,
+    }
+}
+
+pub fn with_clock(e: End, clock: u64) -> End
+    ensures { λ r. ⌜ r ≡ withClock e clock ⌝ }
+{
+    let mut end = e;
+    end.clock = clock;
+    end
+}
+
+pub fn with_status(e: End, status: Status) -> End
+    ensures { λ r. ⌜ r ≡ withStatus e status ⌝ }
+{
+    let me = e.host;
+    let params = e.params;
+    let sources = e.sources;
+    End {
+        host: me,
+        params,
+        clock: e.clock,
+        status,
+        next: e.next,
+        sources,
+    }
+}
+
+// A step that leaves its source as it was.
+pub fn unchanged(source: Source) -> Change
+    ensures { λ r. ⌜ r ≡ record { answer = Ignored; source = source } ⌝ }
+{
+    Change {
+        answer: Answer::Ignored,
+        source,
+    }
+}

@@ -1,0 +1,26 @@
+-- `wire::show::echoes` is safe and ends: the measure is the number of places that are left. Assumes nothing.
+use native.Mathlib.Omega.{arith}
+use Prim.Native.Nat.{_-_}
+use Rattle.test_codec.proofs.show.echoes.Statement.{statement}
+use Rattle.test_codec.proofs.show.echoes.Tie as tie
+
+abbrev Inv-loop : tie.InvT-loop
+Inv-loop count all i₀ i = Unit
+
+abbrev μ-loop : tie.MeasureT-loop
+μ-loop count all i₀ i = 7 - i
+
+pub echoes-spec : {M : Type 1} → statement M
+echoes-spec =
+    tie.close
+    (tie.spec
+    Inv-loop
+    μ-loop
+    (λ c. tt)
+    (λ c. omega arith)
+    (λ c. omega arith)
+    (λ c κs. tt)
+    (λ c. omega arith)
+    (λ c. omega arith)
+    (λ c. tt)
+    (λ c. tt))

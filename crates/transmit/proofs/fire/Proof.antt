@@ -1,0 +1,115 @@
+-- `transmit::fire` meets its contract: the earliest wait is chosen, goes out, and its source is the definition's.
+use mathlib.Core.Path.{sym, subst}
+use denote.Ref.{now}
+use Rattle.end.specs.declared.Earliest.{Earliest}
+use Rattle.transmit.specs.Fired.{nameOf}
+use Rattle.transmit.proofs.FireLaws.{Named, named, Chosen, asker-host, waited, fire-gives}
+use borrow.Author.Needs.{needs}
+use Rattle.transmit.proofs.fire.Statement.{statement}
+use Rattle.transmit.proofs.fire.Tie as tie
+
+moment-of-requires : tie.Need-moment-of-requires
+moment-of-requires c κs = search needs
+
+earliest-wait-requires : tie.Need-earliest-wait-requires
+earliest-wait-requires c κs = search needs
+
+name-of-requires : tie.Need-name-of-requires
+name-of-requires c κs = search needs
+
+cast-at : tie.Need-cast-at
+cast-at c = search needs
+
+mul-s : tie.Need-mul-s
+mul-s c = search needs
+
+-- the wait that was found has a name that an end keeps
+found : (c : tie.After-earliest-wait) → Named (nameOf (c .earliest-wait .result))
+found c =
+    let start = c .before .before .before .before in
+    subst (λ (w : Earliest). Named (nameOf w)) (sym (c .earliest-wait .ensures)) (named (start .args .e) (start .pre .settled))
+
+name-in : (c : tie.After-name-of) → Named (c .name-of .result)
+name-in c = subst Named (sym (c .name-of .ensures)) (found (c .before))
+
+element-copy-out-s : tie.Need-element-copy-out-s
+element-copy-out-s c = name-in (c .before) .0
+
+record-of-requires : tie.Need-record-of-requires
+record-of-requires c κs = found (c .before .before .before) .1
+
+asker-in-requires : tie.Need-asker-in-requires
+asker-in-requires c κs = search needs
+
+-- what the functions so far have found
+abbrev record-at : tie.After-asker-in → tie.After-record-of
+record-at c = c .before .before
+
+abbrev name-at : tie.After-asker-in → tie.After-name-of
+name-at c = record-at c .before .before .before
+
+abbrev moment-at : tie.After-asker-in → tie.After-moment-of
+moment-at c = name-at c .before .before
+
+abbrev start : tie.After-asker-in → tie.Start
+start c = moment-at c .before .before .before
+
+chosen : (c : tie.After-asker-in)
+    → Chosen (start c .args .e) (moment-at c .moment-of .result) (name-at c .before .earliest-wait .result) (name-at c .name-of .result) (record-at c .record-of .result) (c .asker-in .result)
+chosen c = record {
+  moment = moment-at c .moment-of .ensures;
+  wait = name-at c .before .earliest-wait .ensures;
+  named-so = name-at c .name-of .ensures;
+  kept = record-at c .record-of .ensures;
+  asked-by = c .asker-in .ensures;
+}
+
+distance-of-requires : tie.Need-distance-of-requires
+distance-of-requires c κs = asker-host (chosen c) (start c .pre .settled)
+
+fired-answer-requires : tie.Need-fired-answer-requires
+fired-answer-requires c κs = search needs
+
+fired-source-requires : tie.Need-fired-source-requires
+fired-source-requires c κs =
+    let d = c .before .before .before .before in
+    let asker = d .before in
+    let pre = start asker .pre in
+    waited (chosen asker) (d .distance-of .result) _ (d .distance-of .ensures) (pre .settled) (pre .draws)
+
+mul-s1 : tie.Need-mul-s1
+mul-s1 c = search needs
+
+element-set-from-s1 : tie.Need-element-set-from-s1
+element-set-from-s1 c = name-in (name-at (c .before .before .before .before .before .before)) .0
+
+same-length : tie.Need-same-length
+same-length c = search needs
+
+returns : tie.Need-returns
+returns c =
+    let w = c .before .before .before in
+    let d = w .before .before in
+    let asker = d .before in
+    let a = start asker .args in
+    fire-gives (chosen asker) (now (a .draws)) (now (a .out)) (w .fired-answer .last .1 .1 .1 .1 .0) (d .distance-of .result) (w .fired-answer .result) (c .fired-source .result) (d .distance-of .ensures) (w .fired-answer .ensures) (c .fired-source .ensures)
+
+pub fire-spec : {M : Type 1} → statement M
+fire-spec =
+    tie.close
+    (tie.spec
+    moment-of-requires
+    earliest-wait-requires
+    name-of-requires
+    cast-at
+    mul-s
+    element-copy-out-s
+    record-of-requires
+    asker-in-requires
+    distance-of-requires
+    fired-answer-requires
+    fired-source-requires
+    mul-s1
+    element-set-from-s1
+    same-length
+    returns)

@@ -1,19 +1,24 @@
-// How a host program calls the end: two controllers, a cue from one to the other, and each other event once.
+// How a host program calls the end: two controllers become members, a cue goes from one to the other, and each other event comes once.
+// A call takes an end by value and gives back the end for the next call. Only that one may be used again.
 use end::Answer;
+use end::Draw;
 use end::End;
 use end::Params;
 use end::Stepped;
 use libc::STDOUT_FILENO;
 use message::Host;
+use message::Verdict;
 
-// The draws of a call: a controller takes 64 random bytes.
-const DRAWS: [u8; 64] = [0; 64];
+// The draws of a call. A controller takes 64 new random bytes for each call; here they are 0, so that the output is always the same.
+fn draws() -> [Draw; 64] {
+    [0; 64]
+}
 
 fn print(text: &[u8]) {
     io::write_all(STDOUT_FILENO, text);
 }
 
-// Prints what a call answered, and gives the end that it left: the state for the next call.
+// Prints what a call answered, and gives the end that it left.
 fn said(call: &[u8], s: Stepped) -> End {
     print(call);
     let answer = s.answer;
@@ -28,20 +33,32 @@ fn said(call: &[u8], s: Stepped) -> End {
     s.end
 }
 
-// Opens the end of a host and makes it a member at clock 0.
-fn member(host: Host) -> End {
-    let params = Params {
+fn said_open(verdict: Verdict) {
+    match verdict {
+        Verdict::Accepted => print(b"open: accepted\n"),
+        Verdict::Refused(_) => print(b"open: refused\n"),
+    }
+}
+
+fn params() -> Params {
+    Params {
         c1: 9,
         c2: 8,
         c3: 4,
         d1: 4,
         d2: 4,
         d3: 8,
-    };
+    }
+}
+
+// Opens the end of a host and makes it a member at clock 0. Where the opening is refused the end is a crashed one, which ignores all.
+fn member(host: Host) -> End {
     let mut out = [0u8; 128];
-    let opened = link::open(host, params);
-    let end = said(b"join", link::join(opened.end, 0, &DRAWS, &mut out));
-    said(b"joined", link::joined(end, 0, &DRAWS, &mut out))
+    let opened = link::open(host, params());
+    let verdict = opened.verdict;
+    said_open(verdict);
+    let end = said(b"join", link::join(opened.end, 0, &draws(), &mut out));
+    said(b"joined", link::joined(end, 0, &draws(), &mut out))
 }
 
 // The first 24 output bytes: the cue of an answer Got.
@@ -76,7 +93,7 @@ fn hear(end: End, clock: u64, came: &[u8], len: usize) -> End {
         return end;
     }
     let mut out = [0u8; 128];
-    let s = link::arrival(end, clock, &DRAWS, &came[0..len], &mut out);
+    let s = link::arrival(end, clock, &draws(), &came[0..len], &mut out);
     let answer = s.answer;
     let end = said(b"arrival", s);
     if let Answer::Got(_) = answer {
@@ -85,7 +102,7 @@ fn hear(end: End, clock: u64, came: &[u8], len: usize) -> End {
     end
 }
 
-// What a call put out goes to another end.
+// What a call put out goes to another end, as the network would bring it.
 fn carry(answer: Answer, out: &[u8], end: End, clock: u64) -> End {
     match answer {
         Answer::Out(len) => hear(end, clock, out, len),
@@ -93,23 +110,53 @@ fn carry(answer: Answer, out: &[u8], end: End, clock: u64) -> End {
     }
 }
 
+// At each tick: fires until nothing goes out. At one clock at most 512 messages do.
+fn fire_all(end: End, clock: u64) -> End {
+    let mut end = end;
+    let mut outs: u64 = 0;
+    while outs < 512 {
+        let mut out = [0u8; 128];
+        let s = link::fire(end, clock, &draws(), &mut out);
+        let answer = s.answer;
+        end = said(b"fire", s);
+        let Answer::Out(_) = answer else {
+            break;
+        };
+        // here the first bytes of `out`, as many as Out says, go to the network
+        outs += 1;
+    }
+    end
+}
+
+// The end of a controller that was switched off: opened, with the clock and the next own number that it had stored. It is the end
+// that Leave and Left would have left at that clock.
+fn restarted(host: Host, clock: u64, next: u32) -> End {
+    let opened = link::open(host, params());
+    let mut end = opened.end;
+    end.clock = clock;
+    end.next = next;
+    end
+}
+
 fn main() {
     let sender = member(Host(0));
     let listener = member(Host(1));
     let mut out = [0u8; 128];
-    let s = link::send(
-        sender,
-        10,
-        &DRAWS,
-        message::cue_with(-2, 0, 0, 0, 500),
-        &mut out,
-    );
+
+    let cue = message::cue_with(-2, 0, 0, 0, 500);
+    let s = link::send(sender, 10, &draws(), cue, &mut out);
     let answer = s.answer;
     let sender = said(b"send", s);
     let listener = carry(answer, &out, listener, 12);
-    said(b"fire", link::fire(listener, 20, &DRAWS, &mut out));
-    let sender = said(b"report", link::report(sender, 20, &DRAWS, &mut out));
-    let sender = said(b"leave", link::leave(sender, 30, &DRAWS, &mut out));
-    let sender = said(b"left", link::left(sender, 40, &DRAWS, &mut out));
-    said(b"crash", link::crash(sender, 50, &DRAWS, &mut out));
+    let listener = fire_all(listener, 20);
+    let s = link::report(listener, 20, &draws(), &mut out);
+    let answer = s.answer;
+    let listener = said(b"report", s);
+    let sender = carry(answer, &out, sender, 22);
+
+    let sender = said(b"leave", link::leave(sender, 30, &draws(), &mut out));
+    let sender = said(b"left", link::left(sender, 40, &draws(), &mut out));
+    let sender = restarted(Host(0), sender.clock, sender.next);
+    said(b"join", link::join(sender, 50, &draws(), &mut out));
+    said(b"crash", link::crash(listener, 50, &draws(), &mut out));
 }

@@ -1,0 +1,71 @@
+//! Code on the pages for users is quoted from the proved program `example`, word for word, and the files that the pages
+//! name are there.
+
+use std::fs;
+use std::path::Path;
+
+const PAGES: [&str; 2] = ["README.md", "docs/INTEGRATION.md"];
+
+fn text(file: &str) -> String {
+    let path = Path::new(env!("CARGO_MANIFEST_DIR")).join("..").join(file);
+    fs::read_to_string(&path).unwrap_or_else(|e| panic!("{file}: {e}"))
+}
+
+/// The pieces between ```rust and ```.
+fn quotes(page: &str) -> Vec<&str> {
+    page.split("```rust\n")
+        .skip(1)
+        .map(|rest| rest.split("```").next().unwrap_or(rest))
+        .collect()
+}
+
+#[test]
+fn code_is_quoted_word_for_word() {
+    let program = text("crates/example/src/main.rt");
+    for file in PAGES {
+        let page = text(file);
+        let quotes = quotes(&page);
+        assert!(!quotes.is_empty(), "{file} quotes nothing");
+        for quote in quotes {
+            assert!(
+                program.contains(quote),
+                "{file}: not a piece of the example:\n{quote}"
+            );
+        }
+    }
+}
+
+/// A word like docs/NAME.md, wherever it stands on a page.
+fn named(page: &str) -> Vec<&str> {
+    page.split(|c: char| !(c.is_ascii_alphanumeric() || "/._-".contains(c)))
+        .map(|word| word.trim_end_matches('.'))
+        .filter(|word| {
+            word.starts_with("docs/") && (word.ends_with(".md") || word.ends_with(".svg"))
+        })
+        .collect()
+}
+
+#[test]
+fn named_pages_are_there() {
+    for file in PAGES.into_iter().chain(["docs/CHANGES.md"]) {
+        for page in named(&text(file)) {
+            text(page);
+        }
+    }
+}
+
+#[test]
+fn every_crate_is_in_the_readme() {
+    let readme = text("README.md");
+    for line in text("crates.txt").lines() {
+        let Some((name, _)) = line.split_once(':') else {
+            continue;
+        };
+        if !name.starts_with('#') {
+            assert!(
+                readme.contains(&format!("`{name}`")),
+                "README.md has no `{name}`"
+            );
+        }
+    }
+}

@@ -11,6 +11,7 @@ pub mod cue;
 pub mod end;
 pub mod house;
 pub mod message;
+pub mod picture;
 
 /// "Hosts are 0..7".
 pub const HOSTS: u8 = 8;

@@ -6,6 +6,7 @@ mod cases;
 mod events;
 mod house;
 mod messages;
+mod picture;
 mod questions;
 mod runs;
 mod soundness;

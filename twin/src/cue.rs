@@ -1,5 +1,7 @@
 //! A cue's fields and their range test.
 
+use crate::branches::{unless, Branch};
+
 /// "A cue is 24 bytes": four offsets, the lamp power and 14 free bytes.
 pub const CUE_LEN: usize = 24;
 
@@ -48,11 +50,12 @@ impl Cue {
     /// complement number from −2000 to 2000 motor steps; lamp power 0..1000 (16 bits,
     /// unsigned); 14 free bytes."
     pub fn in_range(&self) -> bool {
-        let offsets = [self.focus(), self.zoom(), self.sideways(), self.upright()];
-        offsets
-            .iter()
-            .all(|offset| (-OFFSET_MAX..=OFFSET_MAX).contains(offset))
-            && self.lamp() <= LAMP_MAX
+        let near = |offset: i16| (-OFFSET_MAX..=OFFSET_MAX).contains(&offset);
+        unless(near(self.focus()), Branch::CueFocus)
+            && unless(near(self.zoom()), Branch::CueZoom)
+            && unless(near(self.sideways()), Branch::CueSideways)
+            && unless(near(self.upright()), Branch::CueUpright)
+            && unless(self.lamp() <= LAMP_MAX, Branch::CueLamp)
     }
 
     /// "each a signed 16-bit two's complement number"; "Numbers are big-endian."

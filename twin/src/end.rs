@@ -1,5 +1,6 @@
 //! One end: its state, the soundness test, the opening and the nine events.
 
+use crate::branches::{self, take, unless, when, Branch};
 use crate::cue::Cue;
 use crate::message::{self, Echo, Message, Name, Report};
 use crate::{CLOCK_MAX, DRAWS, HOSTS, NUMBERS, OUTPUT_LEN};
@@ -8,7 +9,7 @@ use crate::{CLOCK_MAX, DRAWS, HOSTS, NUMBERS, OUTPUT_LEN};
 pub const TIME_LIMIT: u64 = (1 << 48) + (1 << 32);
 
 /// "at first 40".
-pub const FIRST_DISTANCE: u16 = 40;
+pub const FIRST_DISTANCE: u64 = 40;
 
 /// "round 1..16", and "After 16 comes 16."
 pub const LAST_ROUND: u8 = 16;
@@ -80,7 +81,7 @@ pub struct Heard {
 pub struct Source {
     pub first: Option<u8>,
     pub last: Option<u8>,
-    pub distance: u16,
+    pub distance: u64,
     pub heard: Option<Heard>,
     pub names: [Record; NUMBERS as usize],
 }
@@ -127,11 +128,11 @@ pub enum Answer {
 }
 
 /// "A distance (half a round trip) is 1..1000 whole milliseconds".
-const DISTANCE_MIN: u16 = 1;
-const DISTANCE_MAX: u16 = 1000;
+const DISTANCE_MIN: u64 = 1;
+const DISTANCE_MAX: u64 = 1000;
 
 /// "to oneself it is 0".
-const OWN_DISTANCE: u16 = 0;
+const OWN_DISTANCE: u64 = 0;
 
 /// "Parameters C1, C2, C3, D1, D2, D3 are 0..32 quarters".
 const PARAM_MAX: u8 = 32;
@@ -177,16 +178,18 @@ impl Params {
     fn constrained(&self) -> bool {
         let twice_c1 = 2 * u16::from(self.c1);
         let d1_d2 = u16::from(self.d1) + u16::from(self.d2);
-        self.c3 < self.c1 && d1_d2 + 8 < twice_c1 && d1_d2 + u16::from(self.d3) < twice_c1
+        unless(self.c3 < self.c1, Branch::ParamC3)
+            && unless(d1_d2 + 8 < twice_c1, Branch::ParamEight)
+            && unless(d1_d2 + u16::from(self.d3) < twice_c1, Branch::ParamD3)
     }
 }
 
 impl Request {
     /// "round 1..16"; "due and quiet times are below 2^48+2^32".
     fn in_range(&self) -> bool {
-        (1..=LAST_ROUND).contains(&self.round)
-            && self.due < TIME_LIMIT
-            && self.quiet_until < TIME_LIMIT
+        unless((1..=LAST_ROUND).contains(&self.round), Branch::SoundRound)
+            && unless(self.due < TIME_LIMIT, Branch::SoundDue)
+            && unless(self.quiet_until < TIME_LIMIT, Branch::SoundQuiet)
     }
 
     /// "After 16 comes 16."
@@ -223,7 +226,9 @@ impl Record {
 
     /// "names outside first..last hold nothing and have reply-quiet 0".
     fn is_empty(&self) -> bool {
-        self.body == Body::Nothing && self.reply.is_none() && self.reply_quiet == 0
+        let holds_nothing = self.body == Body::Nothing && self.reply.is_none();
+        unless(holds_nothing, Branch::SoundOutside)
+            && unless(self.reply_quiet == 0, Branch::SoundOutsideQuiet)
     }
 
     /// What waits here, and when it is due. In a sound state it is one wait at most: a
@@ -239,7 +244,7 @@ impl Record {
 
 impl Source {
     /// A source at its start: no first, no heard stamp, every name empty.
-    fn fresh(distance: u16) -> Source {
+    fn fresh(distance: u64) -> Source {
         Source {
             first: None,
             last: None,
@@ -253,7 +258,10 @@ impl Source {
     fn span_sound(&self) -> bool {
         match (self.first, self.last) {
             (None, None) => true,
-            (Some(first), Some(last)) => first <= last && last < NUMBERS,
+            (Some(first), Some(last)) => {
+                unless(first <= last, Branch::SoundFirst)
+                    && unless(last < NUMBERS, Branch::SoundNumber)
+            }
             _ => false,
         }
     }
@@ -266,9 +274,9 @@ impl Source {
         }
     }
 
-    /// "RQST: no first, below first [...]: Ignored."; "DATA: [...] Below first".
-    fn closed_or_below(&self, number: u8) -> bool {
-        self.first.is_none_or(|first| number < first)
+    /// Is there a first, and the number below it?
+    fn is_below_first(&self, number: u8) -> bool {
+        self.first.is_some_and(|first| number < first)
     }
 
     /// Is there a last, and the number above it?
@@ -322,7 +330,8 @@ impl End {
 /// "is the host below 8? 12. Are parameters in range and constrained as above? 13."
 fn opening_questions(host: u8, params: &Params) -> Result<(), u8> {
     message::ask(host < HOSTS, 12)?;
-    message::ask(params.in_range() && params.constrained(), 13)
+    let in_range = unless(params.in_range(), Branch::ParamRange);
+    message::ask(in_range && params.constrained(), 13)
 }
 
 /// Question 3.
@@ -342,16 +351,17 @@ impl End {
 
     /// "fields are in range": host, parameters, clock and next number.
     fn own_fields_in_range(&self) -> bool {
-        self.host < HOSTS
-            && self.params.in_range()
-            && self.clock <= CLOCK_MAX
-            && self.next <= NEXT_MAX
+        unless(self.host < HOSTS, Branch::SoundHost)
+            && unless(self.params.in_range(), Branch::SoundParams)
+            && unless(self.clock <= CLOCK_MAX, Branch::SoundClock)
+            && unless(self.next <= NEXT_MAX, Branch::SoundNext)
     }
 
     /// "own last, if any, is next−1".
     fn own_last_sound(&self) -> bool {
         let last = self.source(self.host).last;
-        last.is_none_or(|last| self.next.checked_sub(1) == Some(last))
+        let sound = last.is_none_or(|last| self.next.checked_sub(1) == Some(last));
+        unless(sound, Branch::SoundOwnLast)
     }
 
     fn source_sound(&self, source: u8) -> bool {
@@ -367,9 +377,10 @@ impl End {
     fn distance_sound(&self, source: u8) -> bool {
         let distance = self.source(source).distance;
         if source == self.host {
-            distance == OWN_DISTANCE
+            unless(distance == OWN_DISTANCE, Branch::SoundOwnDistance)
         } else {
-            (DISTANCE_MIN..=DISTANCE_MAX).contains(&distance)
+            let in_range = (DISTANCE_MIN..=DISTANCE_MAX).contains(&distance);
+            unless(in_range, Branch::SoundDistance)
         }
     }
 
@@ -377,7 +388,9 @@ impl End {
     /// "the sender's clock" and "Clocks are 0..2^48−1 ticks."
     fn heard_sound(&self, source: u8) -> bool {
         self.source(source).heard.is_none_or(|heard| {
-            source != self.host && heard.stamp <= CLOCK_MAX && heard.at <= self.clock
+            unless(source != self.host, Branch::SoundHeardOneself)
+                && unless(heard.stamp <= CLOCK_MAX, Branch::SoundStamp)
+                && unless(heard.at <= self.clock, Branch::SoundHeardTime)
         })
     }
 
@@ -390,15 +403,17 @@ impl End {
         }
         self.body_sound(source, record)
             && self.reply_sound(source, record)
-            && record.reply_quiet < TIME_LIMIT
+            && unless(record.reply_quiet < TIME_LIMIT, Branch::SoundReplyQuiet)
     }
 
     /// "those inside have a cue or a request, own ones a cue"; "fields are in range".
     fn body_sound(&self, source: u8, record: &Record) -> bool {
         match record.body {
-            Body::Nothing => false,
-            Body::Held => record.cue.in_range(),
-            Body::Waiting(request) => source != self.host && request.in_range(),
+            Body::Nothing => unless(false, Branch::SoundInside),
+            Body::Held => unless(record.cue.in_range(), Branch::SoundCue),
+            Body::Waiting(request) => {
+                unless(source != self.host, Branch::SoundOwn) && request.in_range()
+            }
         }
     }
 
@@ -407,10 +422,10 @@ impl End {
     fn reply_sound(&self, source: u8, record: &Record) -> bool {
         record.reply.is_none_or(|reply| {
             record.is_held()
-                && reply.requester < HOSTS
-                && reply.requester != self.host
-                && reply.requester != source
-                && reply.due < TIME_LIMIT
+                && unless(reply.requester < HOSTS, Branch::SoundRequester)
+                && unless(reply.requester != self.host, Branch::SoundNotOneself)
+                && unless(reply.requester != source, Branch::SoundNotSource)
+                && unless(reply.due < TIME_LIMIT, Branch::SoundReplyDue)
         })
     }
 
@@ -419,9 +434,10 @@ impl End {
     fn non_member_sound(&self) -> bool {
         (0..HOSTS).all(|source| {
             let kept = self.source(source);
-            kept.first.is_none()
-                && kept.heard.is_none()
-                && (source == self.host || kept.distance == FIRST_DISTANCE)
+            let at_forty = source == self.host || kept.distance == FIRST_DISTANCE;
+            unless(kept.first.is_none(), Branch::SoundNoFirst)
+                && unless(kept.heard.is_none(), Branch::SoundNoHeard)
+                && unless(at_forty, Branch::SoundForty)
         })
     }
 }
@@ -458,7 +474,8 @@ impl End {
     /// the state's? 5."
     fn questions_of_any(&self, clock: u64, draws: &[u8], out: &[u8]) -> Result<(), u8> {
         message::ask(out.len() >= OUTPUT_LEN, 1)?;
-        message::ask(draws.len() == DRAWS, 2)?;
+        let enough = unless(draws.len() >= DRAWS, Branch::FewDraws);
+        message::ask(enough && unless(draws.len() <= DRAWS, Branch::ManyDraws), 2)?;
         message::ask(self.sound(), 3)?;
         message::ask(clock <= CLOCK_MAX, 4)?;
         message::ask(clock >= self.clock, 5)
@@ -468,7 +485,11 @@ impl End {
     /// 64? 7."
     fn questions_of_send(&self, cue: &Cue) -> Result<(), u8> {
         message::ask(cue.in_range(), 6)?;
-        message::ask(self.status != Status::Member || self.next < NUMBERS, 7)
+        if self.next < NUMBERS {
+            return Ok(());
+        }
+        let asked = unless(self.status == Status::Member, Branch::NextNotAsked);
+        message::ask(!when(asked, Branch::NextAtSixtyFour), 7)
     }
 
     /// "An unrefused event sets the clock. On a crashed end everything unrefused is
@@ -482,14 +503,16 @@ impl End {
         draws: &[u8],
         out: &mut [u8],
     ) -> Answer {
-        if self.status == Status::Crashed {
+        if when(self.status == Status::Crashed, Branch::CrashedIgnored) {
             return Answer::Ignored;
         }
         self.clock = clock;
+        branches::take_move(event, self.status);
         if let Some(status) = self.status.after(event) {
             return self.move_to(status);
         }
         if self.status != Status::Member {
+            branches::take_outside(event);
             return Answer::Ignored;
         }
         match (event, arrived) {
@@ -518,7 +541,12 @@ impl End {
         self.next += 1;
         let own = self.source_mut(host);
         own.last = Some(number);
-        own.first = own.first.or(Some(number));
+        if own.first.is_none() {
+            take(Branch::SendFirst);
+            own.first = Some(number);
+        } else {
+            take(Branch::SendLast);
+        }
         own.names[usize::from(number)].hold(cue);
         let name = Name {
             source: host,
@@ -543,35 +571,77 @@ impl End {
                 });
             }
         }
+        match (message.reports.len(), message.echoes.len()) {
+            (0, 0) => take(Branch::ReportBare),
+            (8, 7) => take(Branch::ReportFull),
+            _ => {}
+        }
+        when(!message.reports.is_empty(), Branch::ReportFirsts);
+        when(!message.echoes.is_empty(), Branch::ReportHeard);
         self.put_out(message, out)
     }
 
     /// "Fire: of all waits with due ≤ clock the earliest [...]. None due: Nothing."
     fn fire(&mut self, draws: &[u8], out: &mut [u8]) -> Answer {
         match self.earliest_wait() {
-            Some((due, wait, source, number)) if due <= self.clock => match wait {
-                Wait::Request => self.fire_request(source, number, draws, out),
-                Wait::Reply => self.fire_reply(source, number, out),
-            },
-            _ => Answer::Nothing,
+            Some(earliest @ (due, wait, source, number)) if due <= self.clock => {
+                self.take_others_due(earliest);
+                match wait {
+                    Wait::Request => self.fire_request(source, number, draws, out),
+                    Wait::Reply => self.fire_reply(source, number, out),
+                }
+            }
+            Some(_) => {
+                take(Branch::FireNotDue);
+                Answer::Nothing
+            }
+            None => {
+                take(Branch::FireNoWait);
+                Answer::Nothing
+            }
         }
     }
 
     /// "the earliest; ties: request before reply, then lower source, lower number".
     fn earliest_wait(&self) -> Option<(u64, Wait, u8, u8)> {
+        self.waits().min()
+    }
+
+    /// All waits.
+    fn waits(&self) -> impl Iterator<Item = (u64, Wait, u8, u8)> + '_ {
         let names = (0..HOSTS).flat_map(|source| (0..NUMBERS).map(move |number| (source, number)));
-        names
-            .filter_map(|(source, number)| {
-                let (due, wait) = self.record(source, number).wait()?;
-                Some((due, wait, source, number))
-            })
-            .min()
+        names.filter_map(|(source, number)| {
+            let (due, wait) = self.record(source, number).wait()?;
+            Some((due, wait, source, number))
+        })
+    }
+
+    /// What set the fired wait before each other one that is due.
+    fn take_others_due(&self, fired: (u64, Wait, u8, u8)) {
+        if !branches::counting() {
+            return;
+        }
+        let (due, wait, source, _) = fired;
+        let others = self.waits().filter(|&other| other != fired);
+        for other in others.filter(|other| other.0 <= self.clock) {
+            take(if other.0 != due {
+                Branch::FireEarliest
+            } else if other.1 != wait {
+                Branch::FireKind
+            } else if other.2 != source {
+                Branch::FireSource
+            } else {
+                Branch::FireNumber
+            });
+        }
     }
 
     /// "A request goes out as RQST and its next round is set."
     fn fire_request(&mut self, source: u8, number: u8, draws: &[u8], out: &mut [u8]) -> Answer {
         if let Body::Waiting(request) = self.record(source, number).body {
-            self.set_round(source, number, request.next_round(), draws);
+            take(Branch::FireRequest);
+            when(request.round == LAST_ROUND, Branch::FireSixteen);
+            self.set_next_round(source, number, request, draws);
         }
         let name = Name {
             source,
@@ -591,6 +661,7 @@ impl End {
         else {
             return Answer::Nothing;
         };
+        take(Branch::FireReply);
         self.quiet_reply(source, number, requester);
         let name = Name {
             source,
@@ -605,7 +676,7 @@ impl End {
 impl End {
     /// "an arrival whose sender is oneself: Ignored."
     fn arrival(&mut self, message: &Message, draws: &[u8], out: &mut [u8]) -> Answer {
-        if message.sender == self.host {
+        if when(message.sender == self.host, Branch::OwnMessage) {
             return Answer::Ignored;
         }
         match (message.kind, &message.names[..], &message.cues[..]) {
@@ -619,13 +690,17 @@ impl End {
     /// "DATA: no first: first = last = the number, Got. Below first or held: Ignored.
     /// Otherwise hold it, drop its request, Got".
     fn data(&mut self, name: &Name, cue: Cue, draws: &[u8], out: &mut [u8]) -> Answer {
+        const TAKES: [Branch; 3] = [Branch::DataWaiting, Branch::DataNext, Branch::DataGap];
         let kept = self.source_mut(name.source);
-        if kept.first.is_none() {
+        if when(kept.first.is_none(), Branch::DataNoFirst) {
             kept.first = Some(name.number);
             kept.last = Some(name.number);
-        }
-        if kept.closed_or_below(name.number) || self.record(name.source, name.number).is_held() {
+        } else if when(kept.is_below_first(name.number), Branch::DataBelow)
+            || when(self.is_held(name), Branch::DataHeld)
+        {
             return Answer::Ignored;
+        } else {
+            self.take_rise(name, TAKES);
         }
         self.hand_out(name, cue, draws, out)
     }
@@ -643,16 +718,20 @@ impl End {
     }
 
     /// "RQST: no first, below first, or own above last: Ignored."
-    fn out_of_reach(&self, name: &Name) -> bool {
+    fn out_of_reach(&self, name: &Name, branches: [Branch; 3]) -> bool {
+        let [no_first, below, own_above] = branches;
         let kept = self.source(name.source);
-        kept.closed_or_below(name.number)
-            || name.source == self.host && kept.is_above_last(name.number)
+        let own = name.source == self.host;
+        when(kept.first.is_none(), no_first)
+            || when(kept.is_below_first(name.number), below)
+            || when(own && kept.is_above_last(name.number), own_above)
     }
 
     /// "RQST: no first, below first, or own above last: Ignored. Held: [...] Not held
     /// and above last: [...] Not held up to last: [...]".
     fn rqst(&mut self, name: &Name, draws: &[u8]) -> Answer {
-        if self.out_of_reach(name) {
+        const IGNORED: [Branch; 3] = [Branch::RqstNoFirst, Branch::RqstBelow, Branch::RqstOwnAbove];
+        if self.out_of_reach(name, IGNORED) {
             return Answer::Ignored;
         }
         match self.record(name.source, name.number).body {
@@ -666,9 +745,16 @@ impl End {
     /// t + D1×d + floor(D2×d×u/255), d to the requester, Done; otherwise Ignored."
     fn rqst_held(&mut self, name: &Name, draws: &[u8]) -> Answer {
         let record = self.record(name.source, name.number);
-        if record.reply.is_some() || self.clock < record.reply_quiet {
+        if when(record.reply.is_some(), Branch::RqstReplyWaits)
+            || when(self.clock < record.reply_quiet, Branch::RqstReplyQuiet)
+        {
             return Answer::Ignored;
         }
+        take(if name.source == self.host {
+            Branch::RqstReplyOwn
+        } else {
+            Branch::RqstReplyOther
+        });
         let d = self.distance(name.host);
         let due = self.clock
             + u64::from(self.params.d1) * d
@@ -687,6 +773,8 @@ impl End {
     /// "Not held and above last: numbers between get round 1, this one round 2, last
     /// rises, Done." In a sound state a name in reach with nothing is one above last.
     fn rqst_above(&mut self, name: &Name, draws: &[u8]) -> Answer {
+        // The name is above last, so the first of the three is never taken.
+        self.take_rise(name, [Branch::RqstNext, Branch::RqstNext, Branch::RqstGap]);
         self.raise_last(name.source, name.number, draws);
         self.set_round(name.source, name.number, 2, draws);
         Answer::Done
@@ -695,10 +783,14 @@ impl End {
     /// "Not held up to last: clock above quiet-until (lemma 4.24 is strict) sets the next
     /// round, Done; otherwise Ignored."
     fn rqst_waiting(&mut self, name: &Name, request: Request, draws: &[u8]) -> Answer {
-        if self.clock <= request.quiet_until {
+        if when(self.clock < request.quiet_until, Branch::RqstQuiet)
+            || when(self.clock == request.quiet_until, Branch::RqstAtQuiet)
+        {
             return Answer::Ignored;
         }
-        self.set_round(name.source, name.number, request.next_round(), draws);
+        take(Branch::RqstLater);
+        when(request.round == LAST_ROUND, Branch::RqstSixteen);
+        self.set_next_round(name.source, name.number, request, draws);
         Answer::Done
     }
 
@@ -706,14 +798,25 @@ impl End {
     /// held: as DATA, Got; held: Done. Either way its waiting reply goes and reply-quiet
     /// = t + D3×d, d to the requester."
     fn repl(&mut self, name: &Name, cue: Cue, draws: &[u8], out: &mut [u8]) -> Answer {
-        if self.out_of_reach(name) {
+        const IGNORED: [Branch; 3] = [Branch::ReplNoFirst, Branch::ReplBelow, Branch::ReplOwnAbove];
+        if self.out_of_reach(name, IGNORED) {
             return Answer::Ignored;
         }
-        let answer = if self.record(name.source, name.number).is_held() {
+        let answer = if self.is_held(name) {
+            take(if name.source == self.host {
+                Branch::ReplHeldOwn
+            } else {
+                Branch::ReplHeldOther
+            });
             Answer::Done
         } else {
+            const TAKES: [Branch; 3] = [Branch::ReplWaiting, Branch::ReplNext, Branch::ReplGap];
+            self.take_rise(name, TAKES);
             self.hand_out(name, cue, draws, out)
         };
+        let record = self.record(name.source, name.number);
+        when(record.reply.is_some(), Branch::ReplDropsReply);
+        when(name.host == self.host, Branch::ReplForOneself);
         self.quiet_reply(name.source, name.number, name.host);
         answer
     }
@@ -731,29 +834,45 @@ impl End {
             stamp: message.stamp,
             at: self.clock,
         };
-        self.source_mut(message.sender).heard = Some(heard);
+        take(Branch::SessHeard);
+        let before = self.source_mut(message.sender).heard.replace(heard);
+        when(before.is_some(), Branch::SessHeardAgain);
         Answer::Done
     }
 
     /// "For each report of another, opened source above its last, the new numbers get
     /// round 1 and last rises."
     fn hear_report(&mut self, report: &Report, draws: &[u8]) {
-        if report.source != self.host {
-            self.raise_last(report.source, report.last, draws);
+        if when(report.source == self.host, Branch::SessOwn) {
+            return;
         }
+        let kept = self.source(report.source);
+        take(if kept.first.is_none() {
+            Branch::SessNoFirst
+        } else if kept.is_above_last(report.last) {
+            Branch::SessRises
+        } else {
+            Branch::SessAtMost
+        });
+        self.raise_last(report.source, report.last, draws);
     }
 
     /// "an echo of oneself, by that echo's stamp and held ticks, with e = clock − stamp −
     /// held ≥ 0 sets the distance to the sender to floor(e/8), brought into 1..1000."
     fn hear_echo(&mut self, sender: u8, echo: &Echo) {
-        if echo.host != self.host {
+        if when(echo.host != self.host, Branch::SessEchoOther) {
             return;
         }
         let since_stamp = self.clock.checked_sub(echo.stamp);
-        if let Some(e) = since_stamp.and_then(|ticks| ticks.checked_sub(echo.held)) {
-            let distance = (e / 8).clamp(DISTANCE_MIN.into(), DISTANCE_MAX.into());
-            self.source_mut(sender).distance = distance as u16;
-        }
+        let Some(e) = since_stamp.and_then(|ticks| ticks.checked_sub(echo.held)) else {
+            return take(Branch::SessEchoAhead);
+        };
+        take(match e / 8 {
+            ..DISTANCE_MIN => Branch::SessEchoOne,
+            DISTANCE_MIN..=DISTANCE_MAX => Branch::SessEcho,
+            _ => Branch::SessEchoThousand,
+        });
+        self.source_mut(sender).distance = (e / 8).clamp(DISTANCE_MIN, DISTANCE_MAX);
     }
 }
 
@@ -772,6 +891,16 @@ impl End {
             self.set_round(source, number, 1, draws);
         }
         self.source_mut(source).last = Some(to);
+    }
+
+    /// The round after the one that waits.
+    fn set_next_round(&mut self, source: u8, number: u8, request: Request, draws: &[u8]) {
+        take(match request.next_round() {
+            LAST_ROUND if request.round == LAST_ROUND => Branch::RoundStays,
+            LAST_ROUND => Branch::RoundSixteen,
+            _ => Branch::RoundNext,
+        });
+        self.set_round(source, number, request.next_round(), draws);
     }
 
     /// "Setting round k at clock t, F = 2^(k−1), d the distance to the source, u the draw
@@ -824,8 +953,22 @@ impl End {
         message::write(&message, out).map_or_else(Answer::Refused, Answer::Out)
     }
 
+    /// How a name that is not held stands to its source's last: at most last, next after
+    /// it, or above it with numbers between.
+    fn take_rise(&self, name: &Name, [within, next, gap]: [Branch; 3]) {
+        take(match self.source(name.source).last {
+            Some(last) if name.number > last + 1 => gap,
+            Some(last) if name.number > last => next,
+            _ => within,
+        });
+    }
+
+    fn is_held(&self, name: &Name) -> bool {
+        self.record(name.source, name.number).is_held()
+    }
+
     fn distance(&self, host: u8) -> u64 {
-        self.source(host).distance.into()
+        self.source(host).distance
     }
 
     fn source(&self, source: u8) -> &Source {

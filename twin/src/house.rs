@@ -4,6 +4,7 @@ use std::io::{self, BufRead, Read, Write};
 
 use crate::cue::Cue;
 use crate::end::{Answer, End, Event, Params};
+use crate::text::{decimal, signed};
 use crate::{DRAWS, OUTPUT_LEN};
 
 /// "at most 64 messages, numbered from 0 as put out".
@@ -96,25 +97,4 @@ fn parse(line: &[u8], messages: &[Vec<u8>]) -> Option<Line> {
         clock: decimal(clock)?,
         event,
     })
-}
-
-/// "decimal numbers without leading zeros or plus sign", below 2^64.
-fn decimal(word: &str) -> Option<u64> {
-    let digits = word.bytes().all(|b| b.is_ascii_digit());
-    let leading_zero = word.len() > 1 && word.starts_with('0');
-    if digits && !leading_zero {
-        word.parse().ok()
-    } else {
-        None
-    }
-}
-
-/// "a focus is a signed 16-bit number, never "-0"".
-fn signed(word: &str) -> Option<i16> {
-    let value = match word.strip_prefix('-') {
-        None => i64::try_from(decimal(word)?).ok()?,
-        Some("0") => return None,
-        Some(digits) => -i64::try_from(decimal(digits)?).ok()?,
-    };
-    i16::try_from(value).ok()
 }

@@ -7,11 +7,16 @@
 //! and cue number are never added or compared".
 
 pub mod book;
+pub mod branches;
 pub mod cue;
+pub mod digest;
 pub mod end;
 pub mod house;
 pub mod message;
 pub mod picture;
+pub mod replay;
+pub mod text;
+pub mod trace;
 
 /// "Hosts are 0..7".
 pub const HOSTS: u8 = 8;

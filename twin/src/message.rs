@@ -1,5 +1,6 @@
 //! The reader and the writer of messages, with their refusal numbers.
 
+use crate::branches::{unless, Branch};
 use crate::cue::{Cue, CUE_LEN};
 use crate::{CLOCK_MAX, HOSTS, NUMBERS, OUTPUT_LEN};
 
@@ -93,13 +94,13 @@ fn check(message: &Message) -> Result<(), u8> {
 
 /// "Are there 12 bytes or more, and do the counts account for the length exactly? 8."
 fn take_apart(bytes: &[u8]) -> Result<Message, u8> {
-    ask(bytes.len() >= LEAST_LEN, 8)?;
+    ask(unless(bytes.len() >= LEAST_LEN, Branch::ShortMessage), 8)?;
     let (head, rest) = bytes.split_at(HEAD_LEN);
     let (names, rest) = section(rest, NAME_LEN)?;
     let (cues, rest) = section(rest, CUE_LEN)?;
     let (reports, rest) = section(rest, REPORT_LEN)?;
     let (echoes, rest) = section(rest, ECHO_LEN)?;
-    ask(rest.is_empty(), 8)?;
+    ask(unless(rest.is_empty(), Branch::LengthPastCounts), 8)?;
     Ok(Message {
         kind: head[0],
         sender: head[1],
@@ -113,10 +114,12 @@ fn take_apart(bytes: &[u8]) -> Result<Message, u8> {
 
 /// "then four sections, each after its one-byte count": one section and what follows it.
 fn section(bytes: &[u8], size: usize) -> Result<(&[u8], &[u8]), u8> {
-    let (&count, rest) = bytes.split_first().ok_or(8)?;
-    let len = usize::from(count) * size;
-    ask(rest.len() >= len, 8)?;
-    Ok(rest.split_at(len))
+    let parts = bytes.split_first().and_then(|(&count, rest)| {
+        let len = usize::from(count) * size;
+        rest.split_at_checked(len)
+    });
+    ask(unless(parts.is_some(), Branch::CountsPastLength), 8)?;
+    parts.ok_or(8)
 }
 
 /// "Numbers are big-endian."
@@ -168,63 +171,74 @@ fn counts_fit(message: &Message) -> bool {
         message.echoes.len(),
     );
     match message.kind {
-        DATA | REPL => counts == (1, 1, 0, 0),
-        RQST => counts == (1, 0, 0, 0),
-        SESS => matches!(counts, (0, 0, 0..=8, 0..=7)),
-        _ => false,
+        DATA => unless(counts == (1, 1, 0, 0), Branch::CountsOfData),
+        RQST => unless(counts == (1, 0, 0, 0), Branch::CountsOfRqst),
+        REPL => unless(counts == (1, 1, 0, 0), Branch::CountsOfRepl),
+        SESS => unless(matches!(counts, (0, 0, 0..=8, 0..=7)), Branch::CountsOfSess),
+        _ => unless(false, Branch::KindUnknown),
     }
 }
 
 /// "Are hosts, cue numbers and cue fields in range, stamps and held ticks below 2^48? 10."
 fn in_range(message: &Message) -> bool {
-    message.sender < HOSTS
-        && message.stamp <= CLOCK_MAX
+    unless(message.sender < HOSTS, Branch::SenderRange)
+        && unless(message.stamp <= CLOCK_MAX, Branch::StampRange)
         && message.names.iter().all(name_in_range)
-        && message.cues.iter().all(Cue::in_range)
+        && unless(message.cues.iter().all(Cue::in_range), Branch::CueRange)
         && message.reports.iter().all(report_in_range)
         && message.echoes.iter().all(echo_in_range)
 }
 
 /// "Hosts are 0..7, cue numbers 0..63 per source."
 fn name_in_range(name: &Name) -> bool {
-    name.source < HOSTS && name.number < NUMBERS && name.host < HOSTS
+    unless(name.source < HOSTS, Branch::NameSourceRange)
+        && unless(name.number < NUMBERS, Branch::NameNumberRange)
+        && unless(name.host < HOSTS, Branch::NameHostRange)
 }
 
 /// "Hosts are 0..7, cue numbers 0..63 per source."
 fn report_in_range(report: &Report) -> bool {
-    report.source < HOSTS && report.last < NUMBERS
+    unless(report.source < HOSTS, Branch::ReportSourceRange)
+        && unless(report.last < NUMBERS, Branch::ReportLastRange)
 }
 
 /// "stamps and held ticks below 2^48".
 fn echo_in_range(echo: &Echo) -> bool {
-    echo.host < HOSTS && echo.stamp <= CLOCK_MAX && echo.held <= CLOCK_MAX
+    unless(echo.host < HOSTS, Branch::EchoHostRange)
+        && unless(echo.stamp <= CLOCK_MAX, Branch::EchoStampRange)
+        && unless(echo.held <= CLOCK_MAX, Branch::EchoHeldRange)
 }
 
 /// "Do the table's last column [...] hold? 11.": the column "host in the name".
 fn hosts_fit(message: &Message) -> bool {
     let sender = message.sender;
     message.names.iter().all(|name| match message.kind {
-        DATA => name.host == name.source && name.host == sender,
-        RQST => name.host == sender && name.host != name.source,
-        REPL => name.host != sender && name.host != name.source,
+        DATA => {
+            unless(name.host == name.source, Branch::DataSource)
+                && unless(name.host == sender, Branch::DataSender)
+        }
+        RQST => {
+            unless(name.host == sender, Branch::RqstSender)
+                && unless(name.host != name.source, Branch::RqstSource)
+        }
+        REPL => {
+            unless(name.host != sender, Branch::ReplSender)
+                && unless(name.host != name.source, Branch::ReplSource)
+        }
         _ => false,
     })
 }
 
 /// "Reports rise strictly by source, echoes by host; no echo names the sender."
 fn order_fits(message: &Message) -> bool {
-    message
-        .reports
-        .windows(2)
-        .all(|pair| pair[0].source < pair[1].source)
-        && message
-            .echoes
-            .windows(2)
-            .all(|pair| pair[0].host < pair[1].host)
-        && message
-            .echoes
-            .iter()
-            .all(|echo| echo.host != message.sender)
+    let mut reports = message.reports.windows(2);
+    let mut echoes = message.echoes.windows(2);
+    let reports_rise = reports.all(|pair| pair[0].source < pair[1].source);
+    let echoes_rise = echoes.all(|pair| pair[0].host < pair[1].host);
+    let names_sender = message.echoes.iter().any(|e| e.host == message.sender);
+    unless(reports_rise, Branch::ReportsRise)
+        && unless(echoes_rise, Branch::EchoesRise)
+        && unless(!names_sender, Branch::EchoOfSender)
 }
 
 /// "Kind (1 byte), sender (1), stamp (6, the sender's clock), then four sections, each

@@ -55,7 +55,7 @@ fn sound_end(rng: &mut Rng) -> End {
     for source in 0..8 {
         let own = source == host;
         if !own {
-            end.sources[usize::from(source)].distance = 1 + rng.below(1000) as u16;
+            end.sources[usize::from(source)].distance = 1 + rng.below(1000);
             if rng.once_in(2) {
                 end.sources[usize::from(source)].heard = Some(Heard {
                     stamp: rng.below(CLOCK_MAX + 1),
@@ -209,7 +209,7 @@ fn any_source(rng: &mut Rng) -> Source {
     Source {
         first: maybe(rng, |rng| any(rng) as u8),
         last: maybe(rng, |rng| any(rng) as u8),
-        distance: any(rng) as u16,
+        distance: any(rng),
         heard: maybe(rng, |rng| Heard {
             stamp: any(rng),
             at: any(rng),
@@ -235,7 +235,7 @@ fn any_state_can_be_asked() {
             4 => end.status = STATUSES[rng.below(5) as usize],
             5 => end.next = any(&mut rng) as u8,
             6 => end.sources[s] = any_source(&mut rng),
-            7 => end.sources[s].distance = any(&mut rng) as u16,
+            7 => end.sources[s].distance = any(&mut rng),
             8 => end.sources[s].last = maybe(&mut rng, |rng| any(rng) as u8),
             _ => end.sources[s].names[n] = any_record(&mut rng),
         }

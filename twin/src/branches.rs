@@ -1,0 +1,344 @@
+//! How often each sentence of document 01 decided something. The list below is in the
+//! document's order and mostly in its words; a rule says which of its branches was
+//! taken by one call of `take`, `when` or `unless`. Nothing is counted before `count`.
+
+use std::cell::{Cell, RefCell};
+
+use crate::end::{Answer, Event, Status};
+
+macro_rules! branches {
+    ($($branch:ident $words:literal,)*) => {
+        #[derive(Clone, Copy, Debug, PartialEq, Eq)]
+        pub enum Branch { $($branch),* }
+
+        /// Every branch with its words, in the list's order.
+        pub const BRANCHES: &[(Branch, &str)] = &[$((Branch::$branch, $words)),*];
+    };
+}
+
+branches! {
+    // Answers
+    Opened "opened",
+    OutData "out DATA",
+    OutRqst "out RQST",
+    OutRepl "out REPL",
+    OutSess "out SESS",
+    Got "got",
+    Done "done",
+    Ignored "ignored",
+    Nothing "nothing",
+    Accepted "reader: accepted",
+    Written "writer: written",
+    InRange "cue test: in range",
+    OutOfRange "cue test: out of range",
+
+    // Refusals
+    Refused1 "refused 1",
+    Refused2 "refused 2",
+    Refused3 "refused 3",
+    Refused4 "refused 4",
+    Refused5 "refused 5",
+    Refused6 "refused 6",
+    Refused7 "refused 7",
+    Refused8 "refused 8",
+    Refused9 "refused 9",
+    Refused10 "refused 10",
+    Refused11 "refused 11",
+    Refused12 "refused 12",
+    Refused13 "refused 13",
+    Reader8 "reader: refused 8",
+    Reader9 "reader: refused 9",
+    Reader10 "reader: refused 10",
+    Reader11 "reader: refused 11",
+    Writer1 "writer: refused 1",
+    Writer9 "writer: refused 9",
+    Writer10 "writer: refused 10",
+    Writer11 "writer: refused 11",
+
+    // Parameters: question 13
+    ParamRange "13: 0..32 quarters",
+    ParamC3 "13: C3 < C1",
+    ParamEight "13: D1+D2+8 < 2×C1",
+    ParamD3 "13: D1+D2+D3 < 2×C1",
+
+    // A cue: questions 6 and 10, soundness, the cue test
+    CueFocus "cue: focus from −2000 to 2000",
+    CueZoom "cue: zoom from −2000 to 2000",
+    CueSideways "cue: sideways from −2000 to 2000",
+    CueUpright "cue: upright from −2000 to 2000",
+    CueLamp "cue: lamp power 0..1000",
+
+    // A state is sound if: question 3
+    SoundHost "sound: fields are in range: own host",
+    SoundParams "sound: fields are in range: parameters",
+    SoundClock "sound: fields are in range: clock",
+    SoundNext "sound: fields are in range: next own cue number",
+    SoundNumber "sound: fields are in range: last",
+    SoundOwnDistance "sound: fields are in range: distance to oneself",
+    SoundDistance "sound: fields are in range: distance to another",
+    SoundStamp "sound: fields are in range: heard stamp",
+    SoundCue "sound: fields are in range: held cue",
+    SoundRound "sound: fields are in range: round",
+    SoundRequester "sound: fields are in range: requester",
+    SoundOwnLast "sound: own last, if any, is next−1",
+    SoundFirst "sound: first ≤ last",
+    SoundOutside "sound: names outside first..last hold nothing",
+    SoundOutsideQuiet "sound: names outside first..last have reply-quiet 0",
+    SoundInside "sound: those inside have a cue or a request",
+    SoundOwn "sound: own ones a cue",
+    SoundNotOneself "sound: a requester is not oneself",
+    SoundNotSource "sound: a requester is not the source",
+    SoundDue "sound: due times are below 2^48+2^32: request",
+    SoundReplyDue "sound: due times are below 2^48+2^32: reply",
+    SoundQuiet "sound: quiet times are below 2^48+2^32: request",
+    SoundReplyQuiet "sound: quiet times are below 2^48+2^32: reply",
+    SoundHeardTime "sound: heard times are at most the clock",
+    SoundHeardOneself "sound: no stamp is heard from oneself",
+    SoundNoFirst "sound: a non-member has no first",
+    SoundNoHeard "sound: a non-member has no heard stamp",
+    SoundForty "sound: a non-member has distances to others at 40",
+
+    // Questions 2, 7
+    FewDraws "2: fewer than 64 draws",
+    ManyDraws "2: more than 64 draws",
+    NextAtSixtyFour "7: for a member",
+    NextNotAsked "7: not asked of a non-member with next number 64",
+
+    // Messages: question 8
+    ShortMessage "8: 12 bytes or more",
+    CountsPastLength "8: counts past the length",
+    LengthPastCounts "8: length past the counts",
+
+    // Question 9
+    KindUnknown "9: kind 1..4",
+    CountsOfData "9: DATA has 1,1,0,0",
+    CountsOfRqst "9: RQST has 1,0,0,0",
+    CountsOfRepl "9: REPL has 1,1,0,0",
+    CountsOfSess "9: SESS has 0,0,0..8,0..7",
+
+    // Question 10
+    SenderRange "10: sender",
+    StampRange "10: stamp",
+    NameSourceRange "10: name's source",
+    NameNumberRange "10: name's cue number",
+    NameHostRange "10: name's host",
+    CueRange "10: cue fields",
+    ReportSourceRange "10: report's source",
+    ReportLastRange "10: report's last",
+    EchoHostRange "10: echo's host",
+    EchoStampRange "10: echo's stamp",
+    EchoHeldRange "10: echo's held ticks",
+
+    // Question 11
+    DataSource "11: DATA: host is the source",
+    DataSender "11: DATA: also the sender",
+    RqstSender "11: RQST: host is the sender",
+    RqstSource "11: RQST: not the source",
+    ReplSender "11: REPL: not the sender",
+    ReplSource "11: REPL: nor the source",
+    ReportsRise "11: reports rise strictly by source",
+    EchoesRise "11: echoes by host",
+    EchoOfSender "11: no echo names the sender",
+
+    // Events by status
+    CrashedIgnored "on a crashed end everything unrefused is Ignored",
+    JoinIdle "Join: idle to joining",
+    JoinJoining "Join: joining, Ignored",
+    JoinMember "Join: member, Ignored",
+    JoinLeaving "Join: leaving, Ignored",
+    JoinedIdle "Joined: idle, Ignored",
+    JoinedJoining "Joined: joining to member",
+    JoinedMember "Joined: member, Ignored",
+    JoinedLeaving "Joined: leaving, Ignored",
+    LeaveIdle "Leave: idle, Ignored",
+    LeaveJoining "Leave: joining to leaving",
+    LeaveMember "Leave: member to leaving",
+    LeaveLeaving "Leave: leaving, Ignored",
+    LeftIdle "Left: idle, Ignored",
+    LeftJoining "Left: joining, Ignored",
+    LeftMember "Left: member, Ignored",
+    LeftLeaving "Left: leaving to idle",
+    CrashIdle "Crash: idle to crashed",
+    CrashJoining "Crash: joining to crashed",
+    CrashMember "Crash: member to crashed",
+    CrashLeaving "Crash: leaving to crashed",
+    SendOutside "Send outside membership: Ignored",
+    FireOutside "Fire outside membership: Ignored",
+    ReportOutside "Report outside membership: Ignored",
+    ArrivalOutside "Arrival outside membership: Ignored",
+    OwnMessage "an arrival whose sender is oneself: Ignored",
+
+    // Send
+    SendFirst "Send: it becomes last, and first if none",
+    SendLast "Send: it becomes last",
+
+    // Setting the next round
+    RoundNext "next round: 2..15",
+    RoundSixteen "next round: 16 after 15",
+    RoundStays "next round: after 16 comes 16",
+
+    // DATA
+    DataNoFirst "DATA: no first: first = last = the number, Got",
+    DataBelow "DATA: below first: Ignored",
+    DataHeld "DATA: held: Ignored",
+    DataWaiting "DATA: otherwise hold it, drop its request, Got",
+    DataNext "DATA: above last, none between",
+    DataGap "DATA: above last, each number between gets round 1",
+
+    // RQST
+    RqstNoFirst "RQST: no first: Ignored",
+    RqstBelow "RQST: below first: Ignored",
+    RqstOwnAbove "RQST: own above last: Ignored",
+    RqstReplyWaits "RQST: held, a reply waits: Ignored",
+    RqstReplyQuiet "RQST: held, clock below reply-quiet: Ignored",
+    RqstReplyOwn "RQST: held, set a reply: own cue",
+    RqstReplyOther "RQST: held, set a reply: another's cue",
+    RqstNext "RQST: not held and above last, none between",
+    RqstGap "RQST: not held and above last, numbers between get round 1",
+    RqstLater "RQST: clock above quiet-until sets the next round",
+    RqstSixteen "RQST: clock above quiet-until sets round 16 again",
+    RqstQuiet "RQST: clock below quiet-until: Ignored",
+    RqstAtQuiet "RQST: clock at quiet-until: Ignored",
+
+    // REPL
+    ReplNoFirst "REPL: a repair never opens a source: Ignored",
+    ReplBelow "REPL: below first: Ignored",
+    ReplOwnAbove "REPL: own above last: Ignored",
+    ReplWaiting "REPL: not held: as DATA, Got",
+    ReplNext "REPL: not held, above last, none between",
+    ReplGap "REPL: not held, above last, numbers between get round 1",
+    ReplHeldOwn "REPL: held: Done: own cue",
+    ReplHeldOther "REPL: held: Done: another's cue",
+    ReplDropsReply "REPL: its waiting reply goes",
+    ReplForOneself "REPL: requester is oneself",
+
+    // SESS
+    SessOwn "SESS: report of oneself",
+    SessNoFirst "SESS: report of another source, not opened",
+    SessAtMost "SESS: report at most last",
+    SessRises "SESS: report above last: new numbers get round 1",
+    SessEchoOther "SESS: echo of another",
+    SessEchoAhead "SESS: echo of oneself with e < 0",
+    SessEchoOne "SESS: distance brought up to 1",
+    SessEcho "SESS: distance floor(e/8)",
+    SessEchoThousand "SESS: distance brought down to 1000",
+    SessHeard "SESS: the sender's stamp is kept as heard now",
+    SessHeardAgain "SESS: in place of the one heard before",
+
+    // Report
+    ReportBare "Report: no first, no heard stamp",
+    ReportFirsts "Report: with firsts' sources",
+    ReportHeard "Report: with heard stamps",
+    ReportFull "Report: with 8 sources and 7 heard stamps",
+
+    // Fire
+    FireRequest "Fire: a request goes out, its next round is set",
+    FireSixteen "Fire: a request of round 16 goes out",
+    FireReply "Fire: a reply goes out, is dropped, reply-quiet is set",
+    FireNoWait "Fire: nothing waits: Nothing",
+    FireNotDue "Fire: none due: Nothing",
+    FireEarliest "Fire: another is due too: the earliest",
+    FireKind "Fire: ties: request before reply",
+    FireSource "Fire: ties: then lower source",
+    FireNumber "Fire: ties: lower number",
+}
+
+thread_local! {
+    static COUNTING: Cell<bool> = const { Cell::new(false) };
+    static COUNTS: RefCell<Vec<u64>> = const { RefCell::new(Vec::new()) };
+}
+
+/// Counts from here on, from 0.
+pub fn count() {
+    COUNTS.set(vec![0; BRANCHES.len()]);
+    COUNTING.set(true);
+}
+
+/// Is anything counted?
+pub fn counting() -> bool {
+    COUNTING.get()
+}
+
+/// Every branch with its words and how often it was taken, in the list's order.
+pub fn counts() -> Vec<(&'static str, u64)> {
+    let counts = COUNTS.with_borrow(Vec::clone);
+    let words = BRANCHES.iter().map(|&(_, words)| words);
+    words.zip(counts).collect()
+}
+
+/// The branch was taken.
+#[inline]
+pub fn take(branch: Branch) {
+    if counting() {
+        COUNTS.with_borrow_mut(|counts| counts[branch as usize] += 1);
+    }
+}
+
+/// The test itself; the branch was taken where it holds.
+#[inline]
+pub fn when(yes: bool, branch: Branch) -> bool {
+    if yes {
+        take(branch);
+    }
+    yes
+}
+
+/// The test itself; the branch was taken where it does not hold.
+#[inline]
+pub fn unless(yes: bool, branch: Branch) -> bool {
+    if !yes {
+        take(branch);
+    }
+    yes
+}
+
+/// An event's answer; the kind of an Out is its first byte.
+pub fn take_answer(answer: Answer, out: &[u8]) {
+    match answer {
+        Answer::Refused(number) => take_refusal(Branch::Refused1, 1, number),
+        Answer::Out(_) => {
+            let kind = usize::from(out[0]);
+            take(BRANCHES[Branch::OutData as usize + kind - 1].0);
+        }
+        Answer::Got { .. } => take(Branch::Got),
+        Answer::Done => take(Branch::Done),
+        Answer::Ignored => take(Branch::Ignored),
+        Answer::Nothing => take(Branch::Nothing),
+    }
+}
+
+/// A refusal, in a row of branches that starts with the refusal `from`.
+pub fn take_refusal(row: Branch, from: u8, number: u8) {
+    take(BRANCHES[row as usize + usize::from(number - from)].0);
+}
+
+/// An event outside membership that is no move.
+pub fn take_outside(event: &Event) {
+    match event {
+        Event::Send(_) => take(Branch::SendOutside),
+        Event::Fire => take(Branch::FireOutside),
+        Event::Report => take(Branch::ReportOutside),
+        Event::Arrival(_) => take(Branch::ArrivalOutside),
+        _ => {}
+    }
+}
+
+/// A move, by the status that it finds.
+pub fn take_move(event: &Event, status: Status) {
+    let row = match event {
+        Event::Join => Branch::JoinIdle,
+        Event::Joined => Branch::JoinedIdle,
+        Event::Leave => Branch::LeaveIdle,
+        Event::Left => Branch::LeftIdle,
+        Event::Crash => Branch::CrashIdle,
+        _ => return,
+    };
+    let place = match status {
+        Status::Idle => 0,
+        Status::Joining => 1,
+        Status::Member => 2,
+        Status::Leaving => 3,
+        Status::Crashed => return,
+    };
+    take(BRANCHES[row as usize + place].0);
+}

@@ -11,3 +11,4 @@ mod questions;
 mod runs;
 mod soundness;
 mod support;
+mod traces;

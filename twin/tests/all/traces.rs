@@ -1,5 +1,6 @@
 //! Traces: lines parsed and printed, and the player. docs/TRACES.md.
 
+use crate::support::Rng;
 use twin::branches;
 use twin::cue::Cue;
 use twin::end::{Heard, Params, Reply, Request, Status};
@@ -693,5 +694,54 @@ fn each_branch_has_its_own_words() {
             list[..place].iter().all(|(_, said)| said != words),
             "{words}"
         );
+    }
+}
+
+/// Lines of the forms above with numbers changed, played as one trace in all modes: each
+/// is printed as it is read, and no state or argument that a line can say stops the twin.
+#[test]
+fn changed_lines() {
+    const NUMBERS: [&str; 14] = [
+        "0",
+        "1",
+        "2",
+        "7",
+        "8",
+        "63",
+        "64",
+        "128",
+        "255",
+        "1000",
+        "281474976710655",
+        "281479271677952",
+        "18446744073709551615",
+        "-2000",
+    ];
+    let mut rng = Rng(7);
+    let mut pick = |n: usize| rng.below(n as u64) as usize;
+    let mut trace = String::new();
+    for _ in 0..20_000 {
+        let line = LINES[pick(LINES.len())];
+        let mut words: Vec<&str> = line.split(' ').collect();
+        for _ in 0..pick(4) {
+            let place = pick(words.len());
+            if words[place].parse::<i128>().is_ok() {
+                words[place] = NUMBERS[pick(NUMBERS.len())];
+            }
+        }
+        let changed = words.join(" ");
+        // A message's number may be unknown, which is bad; `start` would undo too much.
+        let unknown = words.contains(&"hear") && words.len() == 4;
+        let Some(parsed) = parse(&changed).filter(|_| !unknown && line != "start") else {
+            continue;
+        };
+        assert_eq!(parsed, parse(&parsed.to_string()).unwrap(), "{changed}");
+        trace += &format!("{changed}\n");
+    }
+    for mode in [Mode::Plain, Mode::Rows, Mode::Words] {
+        let printed = played(&trace, mode);
+        assert!(!printed.contains("CHANGED") && !printed.contains("OTHER BYTES"));
+        let end = printed.lines().last().unwrap();
+        assert!(end.starts_with(&format!("{} lines, ", trace.lines().count())));
     }
 }

@@ -77,7 +77,7 @@ pub struct Heard {
 
 /// "For each of the eight hosts an end keeps first and last (both or neither),
 /// distance, the latest stamp heard from it and when", and its names.
-#[derive(Clone, Debug, PartialEq, Eq)]
+#[derive(Clone, Copy, Debug, PartialEq, Eq)]
 pub struct Source {
     pub first: Option<u8>,
     pub last: Option<u8>,

@@ -850,7 +850,7 @@ fn sound_spans() {
     assert!(!sound_with(|end| end.sources[0].last = Some(5)));
     assert!(!sound_with(|end| end.sources[0].first = Some(1)));
     assert!(!sound_with(|end| {
-        end.sources[0] = end.sources[3].clone();
+        end.sources[0] = end.sources[3];
         (end.sources[0].first, end.sources[0].last) = (Some(2), Some(1));
     }));
     let full = |end: &mut End, last| {

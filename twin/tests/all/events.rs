@@ -260,7 +260,7 @@ fn data_rules() {
 fn data_of_a_held_cue_keeps_a_waiting_reply() {
     let mut end = opened_at_3();
     assert_eq!(hear(&mut end, &rqst(2, 0, 3), 5), Answer::Done);
-    let before = end.sources[0].clone();
+    let before = end.sources[0];
     assert_eq!(hear(&mut end, &data(0, 3, C), 5), Answer::Ignored);
     assert_eq!(end.sources[0], before);
 }
@@ -269,13 +269,13 @@ fn data_of_a_held_cue_keeps_a_waiting_reply() {
 fn rqst_first_line() {
     // "no first, below first, or own above last: Ignored."
     let mut end = opened_at_3();
-    let before = end.sources.clone();
+    let before = end.sources;
     assert_eq!(hear(&mut end, &rqst(2, 4, 0), 1), Answer::Ignored);
     assert_eq!(hear(&mut end, &rqst(2, 0, 2), 1), Answer::Ignored);
     assert_eq!(hear(&mut end, &rqst(2, 1, 0), 1), Answer::Ignored);
     assert_eq!(end.sources, before);
     send(&mut end, C, 1);
-    let before = end.sources.clone();
+    let before = end.sources;
     assert_eq!(hear(&mut end, &rqst(2, 1, 1), 1), Answer::Ignored);
     assert_eq!(end.sources, before);
     assert_eq!(hear(&mut end, &rqst(2, 1, 0), 1), Answer::Done);
@@ -350,7 +350,7 @@ fn repl_never_opens_a_source() {
     assert_eq!(span(&end, 0), None);
     // Below first, and own without first or above last.
     let mut end = opened_at_3();
-    let before = end.sources.clone();
+    let before = end.sources;
     assert_eq!(hear(&mut end, &repl(2, 0, 2, 4, C), 1), Answer::Ignored);
     assert_eq!(hear(&mut end, &repl(2, 1, 0, 4, C), 1), Answer::Ignored);
     assert_eq!(end.sources, before);

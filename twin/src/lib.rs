@@ -14,6 +14,7 @@ pub mod end;
 pub mod house;
 pub mod message;
 pub mod picture;
+pub mod random;
 pub mod replay;
 pub mod text;
 pub mod trace;

@@ -245,7 +245,7 @@ fn order_fits(message: &Message) -> bool {
 /// after its one-byte count: names (source, cue number, host: 3 bytes), cues (24),
 /// reports (source, last: 2), echoes (host, stamp, held ticks: 1+6+6)." Asked only of
 /// messages with counts that fit.
-fn put_together(message: &Message) -> Vec<u8> {
+pub fn put_together(message: &Message) -> Vec<u8> {
     let mut bytes = vec![message.kind, message.sender];
     bytes.extend(six_bytes(message.stamp));
     bytes.push(message.names.len() as u8);

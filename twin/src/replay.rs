@@ -491,7 +491,7 @@ fn changed(yes: bool) -> &'static str {
 }
 
 /// A message by the writer, into a buffer that is no end's output.
-fn written(message: &Message) -> Option<Vec<u8>> {
+pub(crate) fn written(message: &Message) -> Option<Vec<u8>> {
     let mut buffer = [0; BUFFER as usize];
     let length = message::write(message, &mut buffer).ok()?;
     Some(buffer[..length].to_vec())
@@ -506,7 +506,7 @@ fn record_mut<'a>(end: &'a mut End, at: &At) -> &'a mut Record {
 }
 
 /// Sets a field. A reply stands only beside a held cue.
-fn set(end: &mut End, field: &Field) {
+pub(crate) fn set(end: &mut End, field: &Field) {
     match field {
         Field::Host(host) => end.host = *host,
         Field::Clock(clock) => end.clock = *clock,

@@ -1,9 +1,10 @@
 //! A trace played on the twin's ends, told as stories: docs/TRACES.md.
 
 use super::story::{Did, Step, Story};
-use crate::end::{Answer, Body, End, Event, Params, Record};
+use crate::end::{Answer, End, Event, Params};
 use crate::message;
-use crate::trace::{At, Brought, Does, Field, Line, Verb, BUFFER, ENDS, MOST_DRAWS};
+use crate::replay::set;
+use crate::trace::{Brought, Does, Line, Verb, BUFFER, ENDS, MOST_DRAWS};
 use crate::{DRAWS, HOSTS, OUTPUT_LEN};
 
 /// The stories of a trace, and the number of the line that is bad, if one is.
@@ -214,49 +215,3 @@ impl Bench {
 }
 
 const KEPT: usize = 64;
-
-/// Sets a field of a state.
-fn set(end: &mut End, field: &Field) {
-    let sources = &mut end.sources;
-    match field {
-        Field::Host(host) => end.host = *host,
-        Field::Clock(clock) => end.clock = *clock,
-        Field::Next(next) => end.next = *next,
-        Field::Params(params) => end.params = *params,
-        Field::Status(status) => end.status = *status,
-        Field::Span {
-            source,
-            first,
-            last,
-        } => {
-            sources[usize::from(*source)].first = Some(*first);
-            sources[usize::from(*source)].last = Some(*last);
-        }
-        Field::Closed(source) => {
-            sources[usize::from(*source)].first = None;
-            sources[usize::from(*source)].last = None;
-        }
-        Field::Distance(source, distance) => sources[usize::from(*source)].distance = *distance,
-        Field::Heard(source, heard) => sources[usize::from(*source)].heard = Some(*heard),
-        Field::Unheard(source) => sources[usize::from(*source)].heard = None,
-        Field::Empty(at) => put(end, at, Body::Nothing),
-        Field::Held(at) => put(end, at, Body::Held),
-        Field::Waits(at, request) => put(end, at, Body::Waiting(*request)),
-        Field::Reply(at, reply) => {
-            put(end, at, Body::Held);
-            record(end, at).reply = Some(*reply);
-        }
-        Field::Cue(at, cue) => record(end, at).cue = *cue,
-        Field::Hush(at, time) => record(end, at).reply_quiet = *time,
-    }
-}
-
-/// A record's body, without a reply.
-fn put(end: &mut End, at: &At, body: Body) {
-    let record = record(end, at);
-    (record.body, record.reply) = (body, None);
-}
-
-fn record<'a>(end: &'a mut End, at: &At) -> &'a mut Record {
-    &mut end.sources[usize::from(at.source)].names[usize::from(at.place)]
-}

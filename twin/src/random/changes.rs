@@ -1,0 +1,238 @@
+//! States that no run leads to: one field of an end changed by `set` lines, at or past the edge of what is sound.
+
+use super::Run;
+use crate::end::{Heard, Params, Reply, Request, Status, TIME_LIMIT};
+use crate::trace::{At, Field};
+use crate::{CLOCK_MAX, HOSTS};
+
+type Change = fn(&mut Run, usize);
+
+/// One row for each field of an end.
+const CHANGES: [(u64, Change); 16] = [
+    (3, next),
+    (2, clock),
+    (2, parameter),
+    (2, host),
+    (2, status),
+    (3, span),
+    (4, distance),
+    (4, heard),
+    (2, body),
+    (2, round),
+    (2, due),
+    (2, quiet),
+    (5, requester),
+    (2, reply_due),
+    (3, hush),
+    (2, cue_byte),
+];
+
+impl Run {
+    /// Changes one field of the end at a place.
+    pub fn change(&mut self, place: usize) {
+        let change = self.dice.weighted(&CHANGES);
+        change(self, place);
+    }
+
+    /// A time at the edge of what a state may hold.
+    fn limit(&mut self) -> u64 {
+        TIME_LIMIT - 1 + self.dice.below(2)
+    }
+
+    fn own_clock(&self, place: usize) -> u64 {
+        CLOCK_MAX.min(self.stage.ends[place].clock)
+    }
+
+    /// A record: mostly one inside the span of an open source, where one clause alone decides.
+    fn spot(&mut self, place: usize) -> At {
+        let source = self.likely_source(place);
+        let number = match self.stage.span(place, source) {
+            Some((first, last)) if first <= last && !self.dice.one_in(8) => {
+                first + self.dice.small(u64::from(last - first) + 1)
+            }
+            _ => self.dice.small(64),
+        };
+        let place = number % 64;
+        At { source, place }
+    }
+
+    /// A spot of another's source, where one is open.
+    fn other_spot(&mut self, place: usize) -> At {
+        let me = self.stage.ends[place].host;
+        let spot = self.spot(place);
+        let open = self.stage.open_sources(place);
+        match open.iter().find(|&&source| source != me) {
+            Some(&source) if spot.source == me && !self.dice.one_in(4) => {
+                let last = self.stage.span(place, source).map_or(0, |span| span.1);
+                let place = last % 64;
+                At { source, place }
+            }
+            _ => spot,
+        }
+    }
+}
+
+fn next(run: &mut Run, place: usize) {
+    let near = run.stage.ends[place].next;
+    let value = run
+        .dice
+        .pick(&[64, 65, 255, near.wrapping_sub(1), near.wrapping_add(1), 0]);
+    run.stage.set(place, Field::Next(value));
+}
+
+fn clock(run: &mut Run, place: usize) {
+    let value = run.dice.pick(&[1 << 48, u64::MAX, CLOCK_MAX, 0]);
+    run.stage.set(place, Field::Clock(value));
+}
+
+fn parameter(run: &mut Run, place: usize) {
+    let which = run.dice.below(6) as usize;
+    let value = run.dice.pick(&[33, 32, 255, 0]);
+    let mut p = run.stage.ends[place].params;
+    let Params {
+        c1,
+        c2,
+        c3,
+        d1,
+        d2,
+        d3,
+    } = &mut p;
+    *[c1, c2, c3, d1, d2, d3][which] = value;
+    run.stage.set(place, Field::Params(p));
+}
+
+fn host(run: &mut Run, place: usize) {
+    let value = run.dice.pick(&[0, 1, 2, 3, 4, 5, 6, 7, HOSTS, 9, 255]);
+    run.stage.set(place, Field::Host(value));
+}
+
+fn status(run: &mut Run, place: usize) {
+    use Status::*;
+    let value = run.dice.pick(&[Idle, Joining, Member, Leaving, Crashed]);
+    run.stage.set(place, Field::Status(value));
+}
+
+fn span(run: &mut Run, place: usize) {
+    let source = run.likely_source(place);
+    let (first, last) = run.stage.span(place, source).unwrap_or((0, 0));
+    let any = (run.dice.small(64), run.dice.small(64));
+    let value = run.dice.pick(&[
+        None,
+        Some((last, first)),
+        Some((first, 64)),
+        Some((0, 63)),
+        Some((first, last.wrapping_add(1))),
+        Some((first, last.wrapping_sub(1))),
+        Some((first.wrapping_add(1), last)),
+        Some(any),
+    ]);
+    let field = match value {
+        None => Field::Closed(source),
+        Some((first, last)) => Field::Span {
+            source,
+            first,
+            last,
+        },
+    };
+    run.stage.set(place, field);
+}
+
+fn distance(run: &mut Run, place: usize) {
+    let source = run.dice.small(8);
+    let value = run.dice.pick(&[0, 1001, u64::MAX, 1000, 1, 39, 41]);
+    run.stage.set(place, Field::Distance(source, value));
+}
+
+fn heard(run: &mut Run, place: usize) {
+    let clock = run.own_clock(place);
+    let any = run.dice.small(8);
+    let me = run.stage.ends[place].host.min(7);
+    let source = run.dice.pick(&[any, any, me]);
+    let value = run.dice.pick(&[
+        None,
+        Some((1 << 48, clock)),
+        Some((CLOCK_MAX, clock)),
+        Some((5, clock)),
+        Some((0, clock + 1)),
+        Some((clock, 0)),
+    ]);
+    let field = match value {
+        None => Field::Unheard(source),
+        Some((stamp, at)) => Field::Heard(source, Heard { stamp, at }),
+    };
+    run.stage.set(place, field);
+}
+
+fn body(run: &mut Run, place: usize) {
+    let spot = run.spot(place);
+    let due = run.own_clock(place);
+    match run.dice.below(3) {
+        0 => run.stage.set(place, Field::Empty(spot)),
+        1 => run.stage.set(place, Field::Held(spot)),
+        _ => run.stage.set(place, Field::Waits(spot, request(1, due, 0))),
+    }
+}
+
+fn request(round: u8, due: u64, quiet_until: u64) -> Request {
+    Request {
+        round,
+        due,
+        quiet_until,
+    }
+}
+
+fn round(run: &mut Run, place: usize) {
+    let spot = run.other_spot(place);
+    let round = run.dice.pick(&[0, 1, 16, 17, 255]);
+    let due = run.own_clock(place);
+    run.stage
+        .set(place, Field::Waits(spot, request(round, due, 0)));
+}
+
+fn due(run: &mut Run, place: usize) {
+    let spot = run.other_spot(place);
+    let due = run.limit();
+    run.stage.set(place, Field::Waits(spot, request(1, due, 0)));
+}
+
+fn quiet(run: &mut Run, place: usize) {
+    let spot = run.other_spot(place);
+    let (due, quiet) = (run.own_clock(place), run.limit());
+    run.stage
+        .set(place, Field::Waits(spot, request(1, due, quiet)));
+}
+
+fn requester(run: &mut Run, place: usize) {
+    let spot = run.spot(place);
+    let me = run.stage.ends[place].host;
+    let due = run.own_clock(place);
+    let requester = run.dice.pick(&[spot.source, me, HOSTS, 255, 0, 7]);
+    run.stage
+        .set(place, Field::Reply(spot, Reply { due, requester }));
+}
+
+fn reply_due(run: &mut Run, place: usize) {
+    let spot = run.spot(place);
+    let me = run.stage.ends[place].host;
+    let due = run.limit();
+    let requester = run.dice.host_but(&[me, spot.source]);
+    run.stage
+        .set(place, Field::Reply(spot, Reply { due, requester }));
+}
+
+fn hush(run: &mut Run, place: usize) {
+    let spot = run.spot(place);
+    let limit = run.limit();
+    let time = run.dice.pick(&[0, 1, limit]);
+    run.stage.set(place, Field::Hush(spot, time));
+}
+
+/// A held cue out of range, or free bytes of a record.
+fn cue_byte(run: &mut Run, place: usize) {
+    let spot = run.spot(place);
+    let mut cue = run.good_cue();
+    let field = run.dice.below(5) as usize;
+    let value = run.bad_field(field);
+    cue.0[2 * field..][..2].copy_from_slice(&value.to_be_bytes());
+    run.stage.set(place, Field::Cue(spot, cue));
+}

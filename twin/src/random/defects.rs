@@ -1,0 +1,176 @@
+//! Messages that are good but for one thing, so that one question alone turns them down.
+
+use super::messages::Reader;
+use super::stage::SPARE;
+use super::Run;
+use crate::message::{self, Echo, Message, Name, Report, DATA, REPL, RQST};
+
+type Defect = fn(&mut Run, &mut Message);
+
+/// Each part of questions 9, 10 and 11.
+const DEFECTS: [(u64, Defect); 22] = [
+    (1, |run, m| m.kind = run.dice.pick(&[0, 5, 6, 17, 255])),
+    (2, |run, m| m.kind = 1 + run.dice.small(4)),
+    (2, |run, m| m.sender = run.dice.pick(&[8, 9, 255])),
+    (2, |run, m| name_byte(run, m, 0)),
+    (2, |run, m| name_byte(run, m, 1)),
+    (2, |run, m| name_byte(run, m, 2)),
+    (3, |_, m| {
+        host_in_name(m, REPL, |name, sender| name.host = sender)
+    }),
+    (3, |_, m| {
+        host_in_name(m, REPL, |name, _| name.host = name.source)
+    }),
+    (3, |_, m| {
+        host_in_name(m, RQST, |name, sender| name.source = sender)
+    }),
+    (2, |_, m| host_in_name(m, RQST, |name, _| name.host ^= 1)),
+    (3, |_, m| host_in_name(m, DATA, |name, _| name.host ^= 1)),
+    (3, |_, m| {
+        if m.kind == DATA {
+            m.sender ^= 1
+        }
+    }),
+    (2, cue_field),
+    (1, |_, m| m.names.extend(m.names.clone())),
+    (1, |_, m| m.cues.extend(m.cues.clone())),
+    (1, |_, m| m.cues.clear()),
+    (4, report_byte),
+    (4, echo_byte),
+    (4, repeat_report),
+    (4, repeat_echo),
+    (4, |_, m| echo_sender(m)),
+    (4, crowd),
+];
+
+impl Run {
+    /// A composed message with one defect: such that the defect applies to its kind, and the reader refuses it.
+    pub fn defective(&mut self, reader: &Reader) -> Message {
+        let defect = self.dice.weighted(&DEFECTS);
+        loop {
+            let mut message = self.compose(reader);
+            defect(self, &mut message);
+            if message::read(&message::put_together(&message)).is_err() {
+                return message;
+            }
+        }
+    }
+}
+
+/// A byte of the name out of range.
+fn name_byte(run: &mut Run, m: &mut Message, which: usize) {
+    let host = run.dice.pick(&[8, 9, 255]);
+    let number = run.dice.pick(&[64, 65, 255]);
+    if let Some(name) = m.names.first_mut() {
+        match which {
+            0 => name.source = host,
+            1 => name.number = number,
+            _ => name.host = host,
+        }
+    }
+}
+
+/// A host in the name that the kind's row in document 01's table does not allow.
+fn host_in_name(m: &mut Message, kind: u8, spoil: fn(&mut Name, u8)) {
+    if m.kind == kind {
+        spoil(&mut m.names[0], m.sender);
+    }
+}
+
+fn cue_field(run: &mut Run, m: &mut Message) {
+    let field = run.dice.below(5) as usize;
+    let value = run.bad_field(field);
+    if let Some(cue) = m.cues.first_mut() {
+        cue.0[2 * field..][..2].copy_from_slice(&value.to_be_bytes());
+    }
+}
+
+fn report_byte(run: &mut Run, m: &mut Message) {
+    let count = m.reports.len();
+    if count > 0 {
+        let last = run.dice.one_in(2);
+        let report = &mut m.reports[run.dice.below(count as u64) as usize];
+        match last {
+            true => report.last = run.dice.pick(&[64, 65, 255]),
+            false => report.source = run.dice.pick(&[8, 9, 255]),
+        }
+    }
+}
+
+fn echo_byte(run: &mut Run, m: &mut Message) {
+    if let Some(echo) = m.echoes.last_mut() {
+        echo.host = run.dice.pick(&[8, 9, 255]);
+    }
+}
+
+/// Two reports of one source, or two the wrong way round.
+fn repeat_report(run: &mut Run, m: &mut Message) {
+    if m.kind != message::SESS {
+        return;
+    }
+    if m.reports.is_empty() {
+        let source = run.dice.small(8);
+        let last = run.name_near(SPARE, source).place;
+        m.reports.push(Report { source, last });
+    }
+    let at = run.dice.below(m.reports.len() as u64) as usize;
+    let mut again = m.reports[at];
+    again.last = run.dice.small(64);
+    m.reports.insert(at + 1, again);
+    if run.dice.one_in(2) && at > 0 {
+        m.reports.remove(at + 1);
+        m.reports.swap(at - 1, at);
+    }
+    m.reports.truncate(8);
+}
+
+/// Two echoes of one host, or two the wrong way round; at most seven, so that the counts stay good.
+fn repeat_echo(run: &mut Run, m: &mut Message) {
+    if m.kind != message::SESS {
+        return;
+    }
+    if m.echoes.is_empty() {
+        let host = run.dice.host_but(&[m.sender]);
+        let (stamp, held) = (m.stamp, 0);
+        m.echoes.push(Echo { host, stamp, held });
+    }
+    m.echoes.truncate(6);
+    let at = run.dice.below(m.echoes.len() as u64) as usize;
+    if run.dice.one_in(3) && at > 0 {
+        m.echoes.swap(at - 1, at);
+    } else {
+        let again = m.echoes[at];
+        m.echoes.insert(at + 1, again);
+    }
+}
+
+fn echo_sender(m: &mut Message) {
+    if m.kind == message::SESS {
+        let (host, stamp, held) = (m.sender, m.stamp, 1);
+        m.echoes.truncate(6);
+        m.echoes.push(Echo { host, stamp, held });
+        m.echoes.sort_by_key(|echo| echo.host);
+        m.echoes.dedup_by_key(|echo| echo.host);
+    }
+}
+
+/// More entries than the counts allow, or sections that the kind has not.
+fn crowd(run: &mut Run, m: &mut Message) {
+    let reports = run.dice.pick(&[0, 1, 8, 9]);
+    let echoes = run.dice.pick(&[0, 1, 7, 8]);
+    m.reports = (0..reports)
+        .map(|source| Report { source, last: 1 })
+        .collect();
+    m.echoes = (0..8)
+        .filter(|&host| echoes == 8 || host != m.sender)
+        .take(echoes)
+        .map(|host| Echo {
+            host,
+            stamp: 1,
+            held: 0,
+        })
+        .collect();
+    if reports == 9 {
+        m.reports[8].source = 7;
+    }
+}

@@ -1,0 +1,282 @@
+//! The messages that arrivals bring: earlier ones, earlier ones changed, composed ones, composed ones with one defect (defects.rs), and
+//! garbage.
+
+use super::stage::PutOut;
+use super::Run;
+use crate::cue::Cue;
+use crate::message::{self, Echo, Message, Name, Report};
+use crate::trace::{At, Brought, Composed};
+use crate::CLOCK_MAX;
+
+/// A message about a name; the cue is left out where the kind has none.
+pub fn about(kind: u8, sender: u8, stamp: u64, at: At, host: u8, cue: Cue) -> Message {
+    let (source, number) = (at.source, at.place);
+    Message {
+        kind,
+        sender,
+        stamp,
+        names: vec![Name {
+            source,
+            number,
+            host,
+        }],
+        cues: match kind {
+            message::RQST => vec![],
+            _ => vec![cue],
+        },
+        reports: vec![],
+        echoes: vec![],
+    }
+}
+
+pub fn session(sender: u8, stamp: u64, reports: Vec<Report>, echoes: Vec<Echo>) -> Message {
+    Message {
+        kind: message::SESS,
+        sender,
+        stamp,
+        names: vec![],
+        cues: vec![],
+        reports,
+        echoes,
+    }
+}
+
+pub fn composed(message: Message) -> Brought {
+    Brought::Composed(Composed::of(message))
+}
+
+/// Who hears a message, and when.
+pub struct Reader {
+    pub place: usize,
+    pub clock: u64,
+    /// Of 100 arrivals so many are invented.
+    pub invented: u64,
+}
+
+impl Run {
+    /// A message, and whether one of the eight ends put it out.
+    pub fn message(&mut self, reader: &Reader) -> (Brought, bool) {
+        if self.dice.below(100) >= reader.invented {
+            if let Some(earlier) = self.earlier(true) {
+                return (self.stage.brought(&earlier), true);
+            }
+        }
+        let brought = match self.dice.below(10) {
+            0 => Brought::Bytes(self.garbage()),
+            1 | 2 => match self.earlier(false) {
+                Some(earlier) => return (self.stage.brought(&earlier), earlier.real),
+                None => Brought::Bytes(self.garbage()),
+            },
+            3 => Brought::Bytes(self.changed()),
+            4 | 5 => Brought::Bytes(message::put_together(&self.defective(reader))),
+            _ => composed(self.compose(reader)),
+        };
+        (brought, false)
+    }
+
+    /// An earlier message: every other time one of the latest, now and then any of the run.
+    fn earlier(&mut self, real: bool) -> Option<PutOut> {
+        let messages = &self.stage.messages;
+        let back = self.dice.weighted(&[(24, 10), (23, 64), (1, usize::MAX)]);
+        let latest = &messages[messages.len().saturating_sub(back)..];
+        let fitting: Vec<&PutOut> = latest.iter().filter(|m| m.real || !real).collect();
+        if fitting.is_empty() {
+            return None;
+        }
+        Some(self.dice.pick(&fitting).clone())
+    }
+
+    fn garbage(&mut self) -> Vec<u8> {
+        let length = match self.dice.below(40) {
+            0..=9 => self.dice.pick(&[0, 1, 11, 12, 13]),
+            10..=37 => self.dice.below(28),
+            38 => self.dice.below(256),
+            _ => 256,
+        };
+        let mut bytes = self.dice.bytes(length as usize);
+        // Every other time it begins as a message would, with counts of sections that may fit.
+        if length >= 12 && self.dice.one_in(2) {
+            bytes[0] = 1 + self.dice.small(4);
+            bytes[1] = self.dice.small(8);
+            bytes[2..8].fill(0);
+            bytes[8] = self.dice.small(2);
+        }
+        bytes
+    }
+
+    /// An earlier message with a byte or two changed, cut or added.
+    fn changed(&mut self) -> Vec<u8> {
+        let Some(earlier) = self.earlier(false) else {
+            return self.garbage();
+        };
+        let mut bytes = earlier.bytes;
+        self.change_bytes(&mut bytes);
+        if self.dice.one_in(3) {
+            self.change_bytes(&mut bytes);
+        }
+        bytes
+    }
+
+    fn change_bytes(&mut self, bytes: &mut Vec<u8>) {
+        let dice = &mut self.dice;
+        let at = dice.below(bytes.len().max(1) as u64) as usize;
+        let (place, value) = match dice.below(12) {
+            0 | 10 => return bytes.truncate(at),
+            1 | 11 => return bytes.push(dice.pick(&[0, 1])),
+            2 => (0, dice.small(7)),
+            3 => (1, dice.small(9)),
+            4 => (9, dice.small(9)),
+            5 => (10, dice.small(66)),
+            6 => (11, dice.small(9)),
+            7 => (at, bytes.get(at).unwrap_or(&0).wrapping_add(1)),
+            8 => (2, 0),
+            _ => (at, dice.byte()),
+        };
+        if let Some(byte) = bytes.get_mut(place) {
+            *byte = value;
+        }
+    }
+
+    /// A cue in range; its edges are met often, and most have no free bytes, so that lines stay short.
+    pub fn good_cue(&mut self) -> Cue {
+        let dice = &mut self.dice;
+        let mut cue = Cue::ZERO;
+        if dice.one_in(6) {
+            cue.0[10..].copy_from_slice(&dice.bytes(14));
+        }
+        let fields = if dice.one_in(3) { 5 } else { 1 };
+        for field in 0..fields {
+            let edge = dice.one_in(4);
+            let value = match (field, edge) {
+                (4, true) => dice.pick(&[0, 1000]),
+                (4, false) => dice.below(1001) as i16,
+                (_, true) => dice.pick(&[-2000, -1, 0, 2000]),
+                (_, false) => dice.below(4001) as i16 - 2000,
+            };
+            cue.0[2 * field..][..2].copy_from_slice(&value.to_be_bytes());
+        }
+        cue
+    }
+
+    /// Any cue, 1 in 12 with a field out of range.
+    pub fn cue(&mut self) -> Cue {
+        let mut cue = self.good_cue();
+        if self.dice.one_in(12) {
+            let field = self.dice.below(5) as usize;
+            let value = self.bad_field(field);
+            cue.0[2 * field..][..2].copy_from_slice(&value.to_be_bytes());
+        }
+        cue
+    }
+
+    /// A value of a cue's field at or past the edges of its range; the lamp is field 4.
+    pub fn bad_field(&mut self, field: usize) -> u16 {
+        if field == 4 {
+            self.dice.pick(&[1001, 32768, 65535])
+        } else {
+            self.dice.pick(&[2001, 63535, 32767, 32768])
+        }
+    }
+
+    /// A stamp: mostly not long before the clock.
+    fn stamp(&mut self, clock: u64) -> u64 {
+        match self.dice.below(10) {
+            0 => self.dice.below(CLOCK_MAX + 1),
+            1 => self.dice.pick(&[0, CLOCK_MAX]),
+            _ => clock.saturating_sub(self.dice.below(20_000)),
+        }
+    }
+
+    /// A name near the span of a source: below first, first, inside, last, above last.
+    pub fn name_near(&mut self, place: usize, source: u8) -> At {
+        let span = self.stage.span(place, source).unwrap_or((0, 0));
+        let (first, last) = (i16::from(span.0), i16::from(span.1));
+        let inside = first + self.dice.below((last - first).max(0) as u64 + 1) as i16;
+        let above = last + 2 + self.dice.below(3) as i16;
+        let number = self.dice.weighted(&[
+            (3, first - 1),
+            (2, first),
+            (5, inside),
+            (3, last),
+            (3, last + 1),
+            (2, above),
+            (1, 63),
+        ]);
+        At {
+            source,
+            place: number.clamp(0, 63) as u8,
+        }
+    }
+
+    /// A message that the writer takes, of any kind, told to suit its reader.
+    pub fn compose(&mut self, reader: &Reader) -> Message {
+        let clock = CLOCK_MAX.min(reader.clock);
+        let stamp = self.stamp(clock);
+        let source = self.likely_source(reader.place);
+        let name = self.name_near(reader.place, source);
+        let cue = self.good_cue();
+        match self.dice.weighted(&[(3, 1), (4, 2), (4, 3), (4, 4)]) {
+            message::DATA => about(message::DATA, source, stamp, name, source, cue),
+            message::RQST => {
+                let sender = self.dice.host_but(&[source]);
+                about(message::RQST, sender, stamp, name, sender, cue)
+            }
+            message::REPL => {
+                let sender = self.dice.small(8);
+                let requester = self.dice.host_but(&[sender, source]);
+                about(message::REPL, sender, stamp, name, requester, cue)
+            }
+            _ => self.compose_session(reader.place, clock, stamp),
+        }
+    }
+
+    fn compose_session(&mut self, place: usize, clock: u64, stamp: u64) -> Message {
+        let sender = self.dice.small(8);
+        let often = self.dice.pick(&[1, 2, 4]);
+        let mut reports = Vec::new();
+        let mut echoes = Vec::new();
+        for host in 0..8 {
+            if self.dice.one_in(often) {
+                let last = self.name_near(place, host).place;
+                reports.push(Report { source: host, last });
+            }
+            if self.dice.one_in(often) && host != sender {
+                let (stamp, held) = self.echoed(clock);
+                echoes.push(Echo { host, stamp, held });
+            }
+        }
+        session(sender, stamp, reports, echoes)
+    }
+
+    /// Stamp and held ticks of an echo, about the edges of what an end makes of them.
+    pub fn echoed(&mut self, clock: u64) -> (u64, u64) {
+        let held = self.dice.weighted(&[(3, 0), (3, 25), (1, 3000)]);
+        let late = held.min(clock);
+        let ticks = match self.dice.below(8) {
+            0 => self.dice.below(CLOCK_MAX + 1),
+            1 | 2 => self.dice.below(20_000),
+            _ => self.dice.pick(&[
+                0, 1, 7, 8, 15, 16, 80, 87, 88, 7_999, 8_000, 8_007, 8_008, 8_016,
+            ]),
+        };
+        if self.dice.one_in(6) {
+            // More held than has passed: e would be below 0.
+            let stamp = clock - late;
+            return (
+                stamp,
+                (held + self.dice.pick(&[1, 2, 8, 1000])).min(CLOCK_MAX),
+            );
+        }
+        ((clock - late).saturating_sub(ticks), late)
+    }
+
+    /// A source that the end has open, mostly; the own one too.
+    pub fn likely_source(&mut self, place: usize) -> u8 {
+        let open = self.stage.open_sources(place);
+        if open.is_empty() || self.dice.one_in(5) {
+            self.dice.small(8)
+        } else {
+            self.dice.pick(&open)
+        }
+    }
+}

@@ -1,0 +1,237 @@
+//! Random runs, written as traces (docs/TRACES.md). A run plays what it draws on the twin's ends, so that it knows their states and what
+//! they put out, and holds the calls on the eight ends against the book.
+//!
+//! A run has eight ends that only events change (places 0 to 7), a spare end whose fields `set` lines change too (place 8), and a copy that
+//! is used for a few calls and dropped (place 9).
+
+mod changes;
+mod codec;
+mod defects;
+mod dice;
+mod events;
+mod messages;
+mod scenes;
+mod spare;
+mod stage;
+
+use crate::book::{Book, Call};
+use crate::end::Params;
+use crate::trace::{Does, Verb};
+use crate::CLOCK_MAX;
+use dice::Dice;
+use stage::{values, Stage, Surroundings, COPY, SPARE};
+
+/// The trace of a seed, with so many calls or a few more. The error says where the run is outside the service.
+pub fn trace(seed: u64, steps: u64) -> Result<String, String> {
+    let mut run = Run::start(seed);
+    while run.stage.calls < steps {
+        run.step();
+        if let Some(fault) = run.fault {
+            return Err(format!("seed {seed}: {fault}"));
+        }
+    }
+    Ok(run.stage.text)
+}
+
+/// Something that a run does.
+type Part = fn(&mut Run);
+
+/// The parts of a run, and how many of 100 draws choose each.
+const PARTS: [(u64, Part); 7] = [
+    (50, Run::on_one),
+    (2, Run::opening),
+    (10, Run::codec),
+    (1, Run::asking),
+    (8, Run::on_spare),
+    (14, Run::on_changed),
+    (15, Run::scene),
+];
+
+/// A run so far.
+struct Run {
+    dice: Dice,
+    stage: Stage,
+    book: Book,
+    now: u64,
+    /// A host that is called more than the others, and whether it sends so often that its numbers run out.
+    talker: usize,
+    chatty: bool,
+    /// How far the clock of each host is ahead.
+    ahead: [u64; 8],
+    fault: Option<String>,
+}
+
+impl Run {
+    fn start(seed: u64) -> Run {
+        let mut dice = Dice::seeded(seed);
+        let now = match dice.below(8) {
+            0 => CLOCK_MAX - (1 << 22),
+            1 => 1 << 40,
+            _ => dice.below(1000),
+        };
+        let mut run = Run {
+            stage: Stage::start(&format!("seed {seed}")),
+            book: Book::default(),
+            now,
+            talker: dice.below(5) as usize,
+            chatty: dice.one_in(3),
+            ahead: std::array::from_fn(|_| dice.weighted(&[(2, 0), (1, 1000), (1, 37)])),
+            fault: None,
+            dice,
+        };
+        for host in 0..8 {
+            if run.dice.one_in(4) {
+                continue;
+            }
+            let params = run.params();
+            if run.stage.open(usize::from(host), host, params).is_some() {
+                run.stage.open(usize::from(host), host, Params::STANDARD);
+            }
+        }
+        run.stage.copy(SPARE, run.talker);
+        run
+    }
+
+    fn step(&mut self) {
+        self.later();
+        let part = self.dice.weighted(&PARTS);
+        part(self);
+    }
+
+    /// The time goes on.
+    fn later(&mut self) {
+        let dice = &mut self.dice;
+        let ticks = match dice.below(200) {
+            0..=119 => dice.below(8),
+            120..=179 => dice.below(120),
+            180..=195 => dice.below(3000),
+            196..=198 => dice.below(60_000),
+            _ => match dice.below(3) {
+                0 => dice.below(1 << 20),
+                1 => dice.below(1 << 26),
+                _ => dice.below(1 << 32),
+            },
+        };
+        self.now = CLOCK_MAX.min(self.now + ticks);
+    }
+
+    /// What surrounds the next call. Where odd ones are allowed, questions 1 and 2 are met.
+    fn surround(&mut self, odd: bool) {
+        let dice = &mut self.dice;
+        let mut draws = self.stage.around.draws.clone();
+        let count = match odd {
+            true => dice.weighted(&[(120, 64), (2, 63), (2, 65), (1, 0), (1, 66)]),
+            false => 64,
+        };
+        if values(&draws).len() != usize::from(count) || dice.one_in(8) {
+            let (first, step) = match dice.below(5) {
+                0 => (0, 0),
+                1 => (255, 0),
+                _ => (dice.byte(), dice.byte()),
+            };
+            draws = Does::Draws { count, first, step };
+        }
+        if odd && dice.one_in(200) {
+            draws = Does::Each(dice.bytes(64));
+        }
+        let room = match odd {
+            true => dice.weighted(&[(100, 128), (2, 127), (1, 0), (2, 200), (2, 129)]),
+            false => 128,
+        };
+        let fill = match dice.one_in(12) {
+            true => dice.byte(),
+            false => self.stage.around.fill,
+        };
+        self.stage.surround(Surroundings { draws, room, fill });
+    }
+
+    /// Parameters: seldom good; long waits; short waits; the longest waits for requests, and any for replies.
+    fn params(&mut self) -> Params {
+        let (least, bounds) = self.dice.weighted(&[
+            (1, (0, [34, 34, 34, 34, 34, 34])),
+            (2, (20, [13, 33, 20, 10, 10, 14])),
+            (2, (9, [8, 33, 9, 5, 5, 9])),
+            (1, (32, [1, 33, 32, 33, 33, 33])),
+        ]);
+        let [c1, c2, c3, d1, d2, d3] = bounds.map(|n| self.dice.small(n));
+        Params {
+            c1: least + c1,
+            c2,
+            c3,
+            d1,
+            d2,
+            d3,
+        }
+    }
+
+    /// Parameters on both sides of their three constraints.
+    fn edge_params(&mut self) -> Params {
+        let c1 = 5 + self.dice.small(28);
+        let most = 2 * c1 - 9;
+        let d1 = self.dice.small(u64::from(most) + 1).min(32);
+        let d2 = (most - d1).min(32);
+        let d3 = self.dice.pick(&[0, (2 * c1 - 1 - d1 - d2).min(32)]);
+        let mut all = [c1, 8, c1 - 1, d1, d2, d3];
+        if self.dice.one_in(2) {
+            all[2 + self.dice.below(4) as usize] += 1;
+        }
+        let [c1, c2, c3, d1, d2, d3] = all;
+        Params {
+            c1,
+            c2,
+            c3,
+            d1,
+            d2,
+            d3,
+        }
+    }
+
+    /// An opening whose end is dropped.
+    fn opening(&mut self) {
+        let host = match self.dice.one_in(4) {
+            true => self.dice.pick(&[8, 9, 255]),
+            false => self.dice.small(8),
+        };
+        let params = match self.dice.one_in(2) {
+            true => self.params(),
+            false => self.edge_params(),
+        };
+        self.stage.open(COPY, host, params);
+    }
+
+    /// An event on one of the eight ends.
+    fn on_one(&mut self) {
+        self.surround(true);
+        let who = match self.dice.below(12) as usize {
+            host @ 0..=7 => host,
+            _ => self.talker,
+        };
+        let kind = self.kind(who);
+        let clock = self.clock(who, kind);
+        let (verb, real) = self.verb(kind, who, clock, 20);
+        self.play(who, clock, verb, real);
+    }
+
+    /// Plays an event on one of the eight ends, and feeds the book. An invented message is played on a copy, unless it is refused: "An
+    /// unrefused Arrival brings the bytes that an earlier Out of the list, any end's, put out."
+    fn play(&mut self, who: usize, clock: u64, verb: Verb, real: bool) {
+        if !real && !self.stage.refuses(who, clock, &verb) {
+            self.stage.copy(COPY, who);
+            self.stage.act(COPY, clock, verb);
+            return;
+        }
+        let event = self.stage.event(&verb);
+        let answer = self.stage.act(who, clock, verb);
+        let call = Call {
+            host: who as u8,
+            event,
+            answer,
+            out: self.stage.buffer.clone(),
+            status: self.stage.ends[who].status,
+        };
+        if let Err(fault) = self.book.enter(&call) {
+            let line = self.stage.text.lines().count();
+            self.fault = Some(format!("line {line} is outside the service: {fault:?}"));
+        }
+    }
+}

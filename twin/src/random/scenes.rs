@@ -1,0 +1,279 @@
+//! Scenes: a state about an edge of a rule, and the call that meets it. They are played on the spare end or on a fresh one.
+
+use super::events::MOVES;
+use super::messages::{about, session};
+use super::stage::{COPY, SPARE};
+use super::{Part, Run};
+use crate::end::{Heard, Reply, Status};
+use crate::message::{self, Echo, Report};
+use crate::trace::{Field, Verb};
+use crate::{CLOCK_MAX, NUMBERS};
+
+const SCENES: [(u64, Part); 12] = [
+    (8, request_quiet),
+    (8, reply_quiet),
+    (10, ties),
+    (6, last_rounds),
+    (12, echo_of_oneself),
+    (14, span_edges),
+    (10, repair),
+    (6, reports),
+    (4, last_numbers),
+    (4, looped),
+    (18, statuses),
+    (1, full_report),
+];
+
+impl Run {
+    pub(super) fn scene(&mut self) {
+        self.surround(false);
+        self.member_on_spare();
+        let scene = self.dice.weighted(&SCENES);
+        scene(self);
+    }
+}
+
+/// "clock above quiet-until (lemma 4.24 is strict) sets the next round, Done; otherwise Ignored."
+fn request_quiet(run: &mut Run) {
+    let name = run.name(true);
+    let quiet = 1 + run.dice.below(9);
+    let round = run.dice.pick(&[1, 1, 2, 3, 15, 16]);
+    run.waits(name, round, quiet + 3, quiet);
+    let ticks = quiet - 1 + run.dice.below(3);
+    run.hears_request(name, ticks);
+}
+
+/// "with no reply waiting and clock ≥ reply-quiet, set a reply".
+fn reply_quiet(run: &mut Run) {
+    let name = run.name(false);
+    run.held(name);
+    let quiet = 1 + run.dice.below(9);
+    let time = run.spare_now() + quiet;
+    run.stage.set(SPARE, Field::Hush(name, time));
+    let ticks = quiet - 1 + run.dice.below(3);
+    run.hears_request(name, ticks);
+    if run.dice.one_in(2) {
+        run.hears_request(name, 0);
+    }
+}
+
+/// "the earliest; ties: request before reply, then lower source, lower number".
+fn ties(run: &mut Run) {
+    let me = run.me();
+    let due = 1 + run.dice.below(5);
+    let count = 2 + run.dice.below(2);
+    for _ in 0..count {
+        if run.dice.one_in(3) {
+            run.opened(false);
+        }
+        let name = run.name(false);
+        let due = due + run.dice.pick(&[0, 0, 0, 1]);
+        if name.source != me && run.dice.one_in(2) {
+            let round = 1 + run.dice.small(16);
+            run.waits(name, round, due, 0);
+        } else {
+            run.held(name);
+            let requester = run.dice.host_but(&[me, name.source]);
+            let due = run.spare_now() + due;
+            run.stage
+                .set(SPARE, Field::Reply(name, Reply { due, requester }));
+        }
+    }
+    let ticks = due - 1 + run.dice.below(3);
+    let clock = run.after(ticks);
+    for _ in 0..count {
+        run.does(clock, Verb::Fire);
+    }
+}
+
+/// "After 16 comes 16."
+fn last_rounds(run: &mut Run) {
+    let name = run.name(true);
+    let round = run.dice.pick(&[14, 15, 16]);
+    if run.dice.one_in(2) {
+        let distance = run.dice.pick(&[1, 40, 999, 1000]);
+        run.stage.set(SPARE, Field::Distance(name.source, distance));
+    }
+    run.waits(name, round, 0, 0);
+    if run.dice.one_in(2) {
+        let clock = run.after(0);
+        run.does(clock, Verb::Fire);
+    } else {
+        run.hears_request(name, 1);
+    }
+}
+
+/// "e = clock − stamp − held ≥ 0 sets the distance to the sender to floor(e/8), brought into 1..1000", after the reports.
+fn echo_of_oneself(run: &mut Run) {
+    let me = run.me();
+    let sender = run.dice.host_but(&[me]);
+    let ticks = run.dice.below(40);
+    let clock = run.after(ticks);
+    let (stamp, held) = run.echoed(clock);
+    let mut reports = Vec::new();
+    if run.dice.one_in(2) {
+        let last = run.name_near(SPARE, sender).place;
+        let source = sender;
+        reports.push(Report { source, last });
+    }
+    let host = me;
+    let echoes = vec![Echo { host, stamp, held }];
+    let stamp = run.dice.below(1000);
+    run.hears(clock, session(sender, stamp, reports, echoes));
+    if run.dice.one_in(4) {
+        run.does(clock, Verb::Report);
+    }
+}
+
+/// DATA, RQST and REPL of a number just below first, at first, at last and just above last; of own names too.
+fn span_edges(run: &mut Run) {
+    let me = run.me();
+    let source = match run.dice.one_in(3) {
+        true if run.stage.open_sources(SPARE).contains(&me) => me,
+        _ => run.name(false).source,
+    };
+    let name = run.name_near(SPARE, source);
+    let cue = run.good_cue();
+    let ticks = run.dice.below(3);
+    let clock = run.after(ticks);
+    let stamp = run.dice.below(1000);
+    let message = match run.dice.below(3) {
+        0 => about(message::DATA, source, stamp, name, source, cue),
+        1 => {
+            let sender = run.dice.host_but(&[me, source]);
+            about(message::RQST, sender, stamp, name, sender, cue)
+        }
+        _ => {
+            let sender = run.dice.host_but(&[me]);
+            let requester = run.dice.host_but(&[sender, source]);
+            about(message::REPL, sender, stamp, name, requester, cue)
+        }
+    };
+    run.hears(clock, message);
+}
+
+/// "Not held: as DATA, Got; held: Done. Either way its waiting reply goes and reply-quiet = t + D3×d, d to the requester."
+fn repair(run: &mut Run) {
+    let me = run.me();
+    let mut name = run.name(false);
+    if name.source != me && run.dice.one_in(3) {
+        run.waits(name, 1, 2, 2);
+    } else if run.dice.one_in(2) {
+        run.held(name);
+        let requester = run.dice.host_but(&[me, name.source]);
+        let due = run.after(5);
+        run.stage
+            .set(SPARE, Field::Reply(name, Reply { due, requester }));
+    } else {
+        let last = run.stage.span(SPARE, name.source).map_or(0, |span| span.1);
+        name.place = (last + run.dice.pick(&[1, 1, 2, 3])).min(NUMBERS - 1);
+    }
+    let sender = run.dice.host_but(&[me]);
+    let any = run.dice.host_but(&[sender, name.source]);
+    let asked = sender != me && name.source != me && run.dice.one_in(3);
+    let requester = if asked { me } else { any };
+    let cue = run.good_cue();
+    let clock = run.after(1);
+    run.hears(clock, about(message::REPL, sender, 7, name, requester, cue));
+}
+
+/// Events on a fresh end of each status.
+fn statuses(run: &mut Run) {
+    use Status::*;
+    let host = run.dice.small(8);
+    let params = run.params();
+    run.stage.open(COPY, host, params);
+    let status = run
+        .dice
+        .pick(&[Idle, Idle, Joining, Joining, Leaving, Leaving, Member]);
+    run.stage.set(COPY, Field::Status(status));
+    match run.dice.below(6) {
+        0 => {
+            run.stage.set(COPY, Field::Next(NUMBERS));
+            let cue = run.cue();
+            run.stage.act(COPY, 3, Verb::Send(cue));
+        }
+        1 | 2 => return run.changed_event(COPY),
+        _ => {}
+    }
+    let kind = run.dice.weighted(&MOVES);
+    let (verb, _) = run.verb(kind, COPY, 4, 60);
+    run.stage.act(COPY, 4, verb);
+    run.any_event(COPY);
+}
+
+/// The longest message: "Out SESS with all firsts' sources and all heard stamps."
+fn full_report(run: &mut Run) {
+    let me = run.me();
+    let now = run.spare_now();
+    for source in 0..8 {
+        if run.stage.span(SPARE, source).is_none() {
+            run.open_at(source);
+        }
+        if source != me {
+            let stamp = run.dice.pick(&[0, 7, now, CLOCK_MAX]);
+            let heard = Heard { stamp, at: now };
+            run.stage.set(SPARE, Field::Heard(source, heard));
+        }
+    }
+    let clock = run.after(3);
+    run.does(clock, Verb::Report);
+}
+
+/// "For each report of another, opened source above its last, the new numbers get round 1 and last rises."
+fn reports(run: &mut Run) {
+    let me = run.me();
+    let sender = run.dice.host_but(&[me]);
+    if run.dice.one_in(3) {
+        run.opened(false);
+    }
+    let mut reports = Vec::new();
+    for source in 0..8 {
+        if !run.dice.one_in(3) {
+            let last = run.name_near(SPARE, source).place;
+            reports.push(Report { source, last });
+        }
+    }
+    let clock = run.after(0);
+    let stamp = run.dice.below(1000);
+    run.hears(clock, session(sender, stamp, reports, vec![]));
+}
+
+/// "For a member, is the next number below 64? 7."
+fn last_numbers(run: &mut Run) {
+    let me = run.me();
+    let next = run.dice.pick(&[62, 63, 63, 64]);
+    // An own last is next - 1, so the own source is closed, and its names are gone, by a leave.
+    if run.stage.open_sources(SPARE).contains(&me) {
+        let clock = run.after(0);
+        for event in [Verb::Leave, Verb::Left, Verb::Join, Verb::Joined] {
+            run.does(clock, event);
+        }
+    }
+    run.stage.set(SPARE, Field::Next(next));
+    for _ in 0..2 {
+        let clock = run.after(1);
+        let cue = run.cue();
+        run.does(clock, Verb::Send(cue));
+    }
+}
+
+/// "an arrival whose sender is oneself: Ignored."
+fn looped(run: &mut Run) {
+    let me = run.me();
+    let name = run.name(false);
+    let cue = run.good_cue();
+    let clock = run.after(1);
+    let source = name.source;
+    let requester = run.dice.host_but(&[me, source]);
+    let message = match run.dice.below(3) {
+        0 if source == me => about(message::DATA, me, 5, name, me, cue),
+        0 if source != me => about(message::RQST, me, 5, name, me, cue),
+        1 => about(message::REPL, me, 5, name, requester, cue),
+        _ => {
+            let last = name.place.saturating_add(1).min(63);
+            session(me, 5, vec![Report { source, last }], vec![])
+        }
+    };
+    run.hears(clock, message);
+}

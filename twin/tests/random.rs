@@ -1,0 +1,42 @@
+//! Random traces are good traces: every line is played, the run is one of the service, and no call does what no call may.
+
+use twin::random::trace;
+use twin::replay::{play, Mode};
+
+const SEEDS: u64 = 30;
+const STEPS: u64 = 300;
+
+fn played(text: &str) -> String {
+    let mut printed = Vec::new();
+    play(text.as_bytes(), Mode::Plain, &mut printed).expect("a vector takes all");
+    String::from_utf8(printed).expect("what is printed is text")
+}
+
+#[test]
+fn every_line_is_played() {
+    for seed in 1..=SEEDS {
+        let text = trace(seed, STEPS).expect("the run is one of the service");
+        let printed = played(&text);
+        let last = printed.lines().last().unwrap_or("");
+        let lines = format!("{} lines, ", text.lines().count());
+        assert!(last.starts_with(&lines), "seed {seed}: {last}");
+        for fault in ["bad", "CHANGED", "OTHER BYTES"] {
+            assert!(!printed.contains(fault), "seed {seed}: {fault}");
+        }
+    }
+}
+
+#[test]
+fn a_seed_gives_one_trace() {
+    assert_eq!(trace(7, STEPS), trace(7, STEPS));
+    assert_ne!(trace(7, STEPS), trace(8, STEPS));
+}
+
+#[test]
+fn lines_are_short() {
+    for seed in 1..=SEEDS {
+        let text = trace(seed, STEPS).expect("the run is one of the service");
+        assert!(text.lines().all(|line| line.len() <= twin::trace::LINE));
+        assert!(text.len() < 100 * STEPS as usize, "seed {seed}");
+    }
+}

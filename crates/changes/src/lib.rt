@@ -1,0 +1,189 @@
+// `END set ..`: an end with a field changed, sound or not. Reading goes on at `at`, as the crate trace has it.
+use end::End;
+use end::Heard;
+use end::Params;
+use end::Record;
+use end::Reply;
+use end::Request;
+use end::Slot;
+use end::Source;
+use end::Span;
+use end::Status;
+use message::CueNumber;
+use message::Host;
+use trace::words;
+
+pub fn source(e: End, h: usize) -> Source {
+    let all = e.sources;
+    if h < 8 { all[h] } else { all[0] }
+}
+
+pub fn record(s: Source, n: usize) -> Record {
+    let names = s.names;
+    if n < 64 { names[n] } else { names[0] }
+}
+
+fn params(line: &[u8; 1000], end: usize, at: &mut usize) -> Params {
+    Params {
+        c1: trace::small(line, end, at, 255),
+        c2: trace::small(line, end, at, 255),
+        c3: trace::small(line, end, at, 255),
+        d1: trace::small(line, end, at, 255),
+        d2: trace::small(line, end, at, 255),
+        d3: trace::small(line, end, at, 255),
+    }
+}
+
+fn status(line: &[u8; 1000], end: usize, at: &mut usize) -> Status {
+    let k = trace::key(line, end, at);
+    match k {
+        words::IDLE => Status::Idle,
+        words::JOINING => Status::Joining,
+        words::MEMBER => Status::Member,
+        words::LEAVING => Status::Leaving,
+        words::CRASHED => Status::Crashed,
+        _ => {
+            trace::spoil(at);
+            Status::Crashed
+        }
+    }
+}
+
+// The fields that are not a source's.
+fn set_top(e: End, field: u64, line: &[u8; 1000], end: usize, at: &mut usize) -> End {
+    let mut t = e;
+    match field {
+        words::HOST => {
+            let host = Host(trace::byte(line, end, at));
+            t.host = host;
+        }
+        words::CLOCK => t.clock = trace::number(line, end, at),
+        words::NEXT => t.next = trace::byte(line, end, at) as u32,
+        words::PARAMS => {
+            let p = params(line, end, at);
+            t.params = p;
+        }
+        _ => trace::spoil(at),
+    }
+    t
+}
+
+fn span(old: Span, field: u64, line: &[u8; 1000], end: usize, at: &mut usize) -> Span {
+    match field {
+        words::SPAN => {
+            let first = trace::byte(line, end, at);
+            let last = trace::byte(line, end, at);
+            Span::Open(CueNumber(first), CueNumber(last))
+        }
+        words::CLOSED => Span::Closed,
+        _ => old,
+    }
+}
+
+fn heard(old: Heard, field: u64, line: &[u8; 1000], end: usize, at: &mut usize) -> Heard {
+    match field {
+        words::HEARD => {
+            let stamp = trace::number(line, end, at);
+            let when = trace::number(line, end, at);
+            Heard::At(stamp, when)
+        }
+        words::UNHEARD => Heard::Never,
+        _ => old,
+    }
+}
+
+fn with_source(e: End, h: usize, s: Source) -> End {
+    let mut t = e;
+    if h < 8 {
+        t.sources[h] = s;
+    }
+    t
+}
+
+// The fields of a source that are not a record's.
+fn set_source(e: End, field: u64, line: &[u8; 1000], end: usize, at: &mut usize) -> End {
+    let h = trace::place(line, end, at, 7);
+    let s = source(e, h);
+    let old_span = s.span;
+    let old_heard = s.heard;
+    let names = s.names;
+    let span = span(old_span, field, line, end, at);
+    let heard = heard(old_heard, field, line, end, at);
+    let mut distance = s.distance;
+    if field == words::DISTANCE {
+        distance = trace::number(line, end, at);
+    }
+    let changed = Source {
+        span,
+        distance,
+        heard,
+        names,
+    };
+    with_source(e, h, changed)
+}
+
+fn request(line: &[u8; 1000], end: usize, at: &mut usize) -> Request {
+    Request {
+        round: trace::byte(line, end, at),
+        due: trace::number(line, end, at),
+        quiet: trace::number(line, end, at),
+    }
+}
+
+fn reply(line: &[u8; 1000], end: usize, at: &mut usize) -> Reply {
+    let due = trace::number(line, end, at);
+    let requester = trace::byte(line, end, at);
+    Reply::Due(due, Host(requester))
+}
+
+fn slot(old: Slot, field: u64, line: &[u8; 1000], end: usize, at: &mut usize) -> Slot {
+    match field {
+        words::EMPTY => Slot::Empty,
+        words::HELD => Slot::Held(Reply::No),
+        words::WAITS => Slot::Waiting(request(line, end, at)),
+        words::REPLY => Slot::Held(reply(line, end, at)),
+        _ => old,
+    }
+}
+
+// A record with its slot, its cue bytes or its reply-quiet changed.
+fn changed(r: Record, field: u64, line: &[u8; 1000], end: usize, at: &mut usize) -> Record {
+    let old = r.slot;
+    let slot = slot(old, field, line, end, at);
+    let mut cue = r.cue;
+    if field == words::CUE {
+        cue = trace::cue(line, end, at);
+    }
+    let mut hush = r.hush;
+    if field == words::HUSH {
+        hush = trace::number(line, end, at);
+    }
+    Record { slot, cue, hush }
+}
+
+// The fields of a record.
+fn set_record(e: End, field: u64, line: &[u8; 1000], end: usize, at: &mut usize) -> End {
+    let h = trace::place(line, end, at, 7);
+    let n = trace::place(line, end, at, 63);
+    let mut s = source(e, h);
+    let r = changed(record(s, n), field, line, end, at);
+    if n < 64 {
+        s.names[n] = r;
+    }
+    with_source(e, h, s)
+}
+
+// The end with what the next words set.
+pub fn set(e: End, line: &[u8; 1000], end: usize, at: &mut usize) -> End {
+    let field = trace::key(line, end, at);
+    match field {
+        words::STATUS => state::with_status(e, status(line, end, at)),
+        words::SPAN | words::CLOSED | words::DISTANCE | words::HEARD | words::UNHEARD => {
+            set_source(e, field, line, end, at)
+        }
+        words::EMPTY | words::HELD | words::WAITS | words::REPLY | words::CUE | words::HUSH => {
+            set_record(e, field, line, end, at)
+        }
+        _ => set_top(e, field, line, end, at),
+    }
+}

@@ -178,22 +178,26 @@ fn source_sound(me: Host, next: u32, clock: u64, member: bool, h: Host, s: Sourc
         & names_sound(me, h, span, names)
 }
 
-// The sources by their constant places: a loop over them would copy the whole state.
+// Each of the eight sources. They are read from an array of their own: an end of which parts are read by constant places is taken
+// apart by the compiler, and then each copy of it is eight.
 fn sources_sound(e: End) -> bool
     ensures { λ r. ⌜ r ≡ sourcesSound e 8 ⌝ }
 {
     let status = e.status;
     let member = state::is_member(status);
     let me = e.host;
-    let s0 = source_sound(me, e.next, e.clock, member, Host(0), e.sources[0]);
-    let s1 = source_sound(me, e.next, e.clock, member, Host(1), e.sources[1]);
-    let s2 = source_sound(me, e.next, e.clock, member, Host(2), e.sources[2]);
-    let s3 = source_sound(me, e.next, e.clock, member, Host(3), e.sources[3]);
-    let s4 = source_sound(me, e.next, e.clock, member, Host(4), e.sources[4]);
-    let s5 = source_sound(me, e.next, e.clock, member, Host(5), e.sources[5]);
-    let s6 = source_sound(me, e.next, e.clock, member, Host(6), e.sources[6]);
-    let s7 = source_sound(me, e.next, e.clock, member, Host(7), e.sources[7]);
-    s0 & s1 & s2 & s3 & s4 & s5 & s6 & s7
+    let next = e.next;
+    let clock = e.clock;
+    let sources = e.sources;
+    let mut ok = true;
+    let mut h: u8 = 0;
+    while h < 8 {
+        let at = h as usize;
+        let s = sources[at];
+        ok = ok & source_sound(me, next, clock, member, Host(h), s);
+        h += 1;
+    }
+    ok
 }
 
 // Whether a state is sound, of any state value.

@@ -19,10 +19,10 @@ ghost use Prim.Native.Nat.{_+_, _≤_, _<_};
 ghost use lib.ListN.{length, take};
 ghost use Rattle.message.specs.Entry.{blankName, blankReport, blankEcho};
 ghost use Rattle.message.specs.Message.{Small, numberWidth, meaningOf};
-ghost use Rattle.end.specs.Messages.{aboutName, reportOn, echoOn, reportsBelow, echoesBelow, sessionMessage};
+ghost use Rattle.end.specs.Messages.{aboutName, reportOn, echoOn, sessionMessage};
 ghost use Rattle.end.specs.Ready.{HeardBy};
 ghost use Rattle.state.specs.Settled.{Settled};
-ghost use Rattle.compose.specs.Entries.{reportsIn, echoesIn, withReport, withEcho};
+ghost use Rattle.compose.specs.Entries.{entriesBelow, withReport, withEcho};
 
 // Reports in their places, and how many there are.
 pub struct Reports {
@@ -34,6 +34,12 @@ pub struct Reports {
 pub struct Echoes {
     pub count: usize,
     pub places: [Echo; 7],
+}
+
+// What a session message says.
+pub struct Entries {
+    pub reports: Reports,
+    pub echoes: Echoes,
 }
 
 fn no_name() -> NameEntry
@@ -120,23 +126,6 @@ fn with_report(all: Reports, h: Host, span: Span) -> Reports
     }
 }
 
-// All firsts' sources, by rising host.
-fn all_reports(e: End) -> Reports
-    ensures { λ r. ⌜ r ≡ reportsIn (reportsBelow e 8) ⌝ }
-{
-    let mut all = Reports {
-        count: 0,
-        places: [no_report(); 8],
-    };
-    let mut h: u8 = 0;
-    while h < 8 {
-        let span = state::span_of(e, Host(h));
-        all = with_report(all, Host(h), span);
-        h += 1;
-    }
-    all
-}
-
 // With the echo of a host that was heard.
 fn with_echo(all: Echoes, h: Host, clock: u64, heard: Heard) -> Echoes
     requires { ⌜ all .count + length (echoOn h clock heard) ≤ 7 ⌝ }
@@ -161,22 +150,32 @@ fn with_echo(all: Echoes, h: Host, clock: u64, heard: Heard) -> Echoes
     }
 }
 
-// All heard stamps, by rising host: at most seven, since none is heard from oneself.
-fn all_echoes(e: End) -> Echoes
+// The reports of all sources that have a first and the echoes of all hosts that were heard, by rising host: at most seven echoes, since
+// none is heard from oneself. One loop for both: the compiler would unroll each of two, and then take the end apart.
+fn all_entries(e: End) -> Entries
     requires { ⌜ Settled e ⌝ }
-    ensures { λ r. ⌜ r ≡ echoesIn (echoesBelow e 8) ⌝ }
+    ensures { λ r. ⌜ r ≡ entriesBelow e 8 ⌝ }
 {
-    let mut all = Echoes {
+    let sources = e.sources;
+    let mut reports = Reports {
+        count: 0,
+        places: [no_report(); 8],
+    };
+    let mut echoes = Echoes {
         count: 0,
         places: [no_echo(); 7],
     };
     let mut h: u8 = 0;
     while h < 8 {
-        let heard = state::heard_of(e, Host(h));
-        all = with_echo(all, Host(h), e.clock, heard);
+        let at = h as usize;
+        let s = sources[at];
+        let span = s.span;
+        let heard = s.heard;
+        reports = with_report(reports, Host(h), span);
+        echoes = with_echo(echoes, Host(h), e.clock, heard);
         h += 1;
     }
-    all
+    Entries { reports, echoes }
 }
 
 // SESS.
@@ -185,8 +184,9 @@ pub fn session_message(e: End) -> Message
     ensures { λ r. ⌜ meaningOf r ≡ sessionMessage e ⌝ }
     ensures { λ r. ⌜ Small (numberWidth (r .kind)) (r .counts) ⌝ }
 {
-    let reports = all_reports(e);
-    let echoes = all_echoes(e);
+    let entries = all_entries(e);
+    let reports = entries.reports;
+    let echoes = entries.echoes;
     let counts = Counts {
         names: 0,
         cues: 0,

@@ -285,10 +285,12 @@ pub fn arrival(e: End, draws: &[Draw], m: Message, out: &mut [u8]) -> Stepped
 {
     let t = state::moment_of(e);
     let asker = asker_in(m);
-    let d = state::distance_of(e, asker);
     let count = report_count(t.me, m);
     let reports = m.reports;
     let mut end = e;
+    let to = asker.0 as usize;
+    let asked = end.sources[to];
+    let d = asked.distance;
     let mut i: usize = 0;
     while i < count {
         let r = report_at(reports, i);

@@ -1,6 +1,6 @@
 // The parts of an end that the steps read and change, each function one definition of the crate end, specs/State.antt and
-// specs/Records.antt. They are helpers of the crates above and no calls of the product: an index is below its array's length by their
-// `requires`. A field of Source or End that is added later is a line in each setter here.
+// specs/Records.antt. They are helpers of the crates above and no calls of the product. A field of Source or End that is added later is
+// a line in each setter here.
 use end::Answer;
 use end::End;
 use end::Heard;
@@ -12,10 +12,8 @@ use end::Slot;
 use end::Source;
 use end::Span;
 use end::Status;
-use message::Host;
 ghost use mathlib.Core.Path.{_≡_};
-ghost use Prim.Native.Nat.{_<_};
-ghost use Rattle.end.specs.State.{sourceAt, distanceTo, momentOf, withSpan, withHeard, withDistance, withNames, withClock, withStatus, isMember, isCrashed};
+ghost use Rattle.end.specs.State.{momentOf, withSpan, withHeard, withDistance, withNames, withClock, withStatus, isMember, isCrashed};
 ghost use Rattle.end.specs.Records.{isHeld, isNo, replyIn, withReply};
 ghost use Rattle.end.specs.Sound.{allOf, paramsTests};
 ghost use Rattle.end.specs.declared.Answer.the-variants.{Ignored};
@@ -108,42 +106,6 @@ pub fn moment_of(e: End) -> Moment
         me,
         params,
         clock: e.clock,
-    }
-}
-
-pub fn span_of(e: End, h: Host) -> Span
-    requires { ⌜ h .0 < 8 ⌝ }
-    ensures { λ r. ⌜ r ≡ sourceAt e h .span ⌝ }
-{
-    let at = h.0 as usize;
-    let s = e.sources[at];
-    s.span
-}
-
-pub fn heard_of(e: End, h: Host) -> Heard
-    requires { ⌜ h .0 < 8 ⌝ }
-    ensures { λ r. ⌜ r ≡ sourceAt e h .heard ⌝ }
-{
-    let at = h.0 as usize;
-    let s = e.sources[at];
-    s.heard
-}
-
-// By constant places: a variable one would copy the whole end first.
-pub fn distance_of(e: End, h: Host) -> u64
-    requires { ⌜ h .0 < 8 ⌝ }
-    ensures { λ r. ⌜ r ≡ distanceTo e h ⌝ }
-{
-    let at = h.0;
-    match at {
-        0 => e.sources[0].distance,
-        1 => e.sources[1].distance,
-        2 => e.sources[2].distance,
-        3 => e.sources[3].distance,
-        4 => e.sources[4].distance,
-        5 => e.sources[5].distance,
-        6 => e.sources[6].distance,
-        _ => e.sources[7].distance,
     }
 }
 

@@ -92,13 +92,15 @@ pub fn send(e: End, cue: [u8; 24], out: &mut [u8]) -> Stepped
     let mut end = e;
     let t = state::moment_of(e);
     let me = e.host;
+    let mut sources = e.sources;
     let number = CueNumber(e.next as u8);
     let name = Name { source: me, number };
     let answer = put_name(DATA, t, name, me, 1, cue, out);
     let at = me.0 as usize;
-    let s = end.sources[at];
+    let s = sources[at];
     let s1 = sent_source(s, number, cue);
-    end.sources[at] = s1;
+    sources[at] = s1;
+    end.sources = sources;
     end.next = end.next + 1;
     Stepped { answer, end }
 }
@@ -194,7 +196,9 @@ pub fn fire(e: End, draws: &[Draw], out: &mut [u8]) -> Stepped
     let slot = r.slot;
     let cue = r.cue;
     let asker = asker_in(t.me, slot);
-    let d = state::distance_of(e, asker);
+    let to = asker.0 as usize;
+    let asked = end.sources[to];
+    let d = asked.distance;
     let answer = fired_answer(t, name, cue, slot, out);
     let s1 = fired_source(t, draws, name.number, d, slot, s);
     end.sources[at] = s1;

@@ -4,6 +4,7 @@ use Prim.Native.Nat.{_-_, _≤_, _<_}
 use native.Mathlib.Omega.{arith}
 use lib.ListN.{length, take}
 use Rattle.message.specs.Message.{meaningOf}
+use Rattle.end.specs.State.{distanceTo}
 use Rattle.end.specs.Session.{allReported}
 use Rattle.receive.proofs.Arriving.{Known, known, turn-in, turn-ranges, hearing-on, gives}
 use Rattle.receive.proofs.Passes.{asker-in, subject-in}
@@ -13,25 +14,28 @@ use Rattle.receive.proofs.arrival.Statement.{statement}
 use Rattle.receive.proofs.arrival.Tie as tie
 
 abbrev Inv-loop : tie.InvT-loop
-Inv-loop draws m out t d count reports end₀ i₀ end i = (i ≤ count) × (end ≡ allReported t draws (take i reports) end₀)
+Inv-loop draws m out t count reports end₀ to d i₀ end i = (i ≤ count) × (end ≡ allReported t draws (take i reports) end₀)
 
 abbrev μ-loop : tie.MeasureT-loop
-μ-loop draws m out t d count reports end₀ i₀ end i = count - i
+μ-loop draws m out t count reports end₀ to d i₀ end i = count - i
 
 -- ---- the places that the facts stand at: the call, where the loop starts, a turn, and what comes after the loop
 abbrev call : tie.After-asker-in Inv-loop μ-loop → tie.Start Inv-loop μ-loop
 call c = c .before .before .before .before
 
-abbrev asked : tie.After-reports Inv-loop μ-loop → tie.After-asker-in Inv-loop μ-loop
-asked c = c .before .before .before
+abbrev counted : tie.After-asked Inv-loop μ-loop → tie.After-report-count Inv-loop μ-loop
+counted c = c .before .before .before
 
-abbrev around : tie.After-report-at Inv-loop μ-loop → tie.After-reports Inv-loop μ-loop
+abbrev asked : tie.After-asked Inv-loop μ-loop → tie.After-asker-in Inv-loop μ-loop
+asked c = counted c .before
+
+abbrev around : tie.After-report-at Inv-loop μ-loop → tie.After-asked Inv-loop μ-loop
 around c = c .before .before .before
 
 abbrev turned : tie.After-report Inv-loop μ-loop → tie.After-report-at Inv-loop μ-loop
 turned c = c .before .before .before
 
-abbrev ended : tie.After-subject-of Inv-loop μ-loop → tie.After-reports Inv-loop μ-loop
+abbrev ended : tie.After-subject-of Inv-loop μ-loop → tie.After-asked Inv-loop μ-loop
 ended c = c .before .before .before
 
 abbrev stepped : tie.After-s1 Inv-loop μ-loop → tie.After-step-source Inv-loop μ-loop
@@ -41,11 +45,11 @@ abbrev aimed : tie.After-step-source-arg Inv-loop μ-loop → tie.After-subject-
 aimed c = c .before .before .before
 
 -- ---- what holds where the loop starts
-facts : (c : tie.After-reports Inv-loop μ-loop) → let a = call (asked c) .args in
-    Known (a .e) (a .m) (length (a .draws .now)) (length (a .out .now)) (asked c .before .moment-of .result) (c .before .before .distance-of .result) (c .before .report-count .result)
+facts : (c : tie.After-asked Inv-loop μ-loop) → let a = call (asked c) .args in
+    Known (a .e) (a .m) (length (a .draws .now)) (length (a .out .now)) (asked c .before .moment-of .result) (distanceTo (a .e) (asked c .asker-in .result)) (counted c .report-count .result)
 facts c =
     known _ _ _ _ _ (asked c .asker-in .result) _ _ (call (asked c) .pre) (asked c .before .moment-of .ensures) (asked c .asker-in .ensures)
-    (c .before .before .distance-of .ensures) (c .before .report-count .ensures)
+    refl (counted c .report-count .ensures)
 
 moment-of-requires : tie.Need-moment-of-requires Inv-loop μ-loop
 moment-of-requires c κs = tt
@@ -53,11 +57,21 @@ moment-of-requires c κs = tt
 asker-in-requires : tie.Need-asker-in-requires Inv-loop μ-loop
 asker-in-requires c κs = tt
 
-distance-of-requires : tie.Need-distance-of-requires Inv-loop μ-loop
-distance-of-requires c κs = rw (c .asker-in .ensures) (asker-in (meaningOf (call c .args .m)) (call c .pre .passed .ranges-in))
-
 report-count-requires : tie.Need-report-count-requires Inv-loop μ-loop
 report-count-requires c κs = tt
+
+-- who asked is a host
+asker : (c : tie.After-asker-in Inv-loop μ-loop) → c .asker-in .result .0 < 8
+asker c = rw (c .asker-in .ensures) (asker-in (meaningOf (call c .args .m)) (call c .pre .passed .ranges-in))
+
+cast-to : tie.Need-cast-to Inv-loop μ-loop
+cast-to c = omega (arith, asker (c .before .before .before))
+
+mul-asked : tie.Need-mul-asked Inv-loop μ-loop
+mul-asked c = omega (arith, asker (c .before .before .before))
+
+element-copy-out-asked : tie.Need-element-copy-out-asked Inv-loop μ-loop
+element-copy-out-asked c = asker (c .before .before .before)
 
 -- ---- the reports, one by one
 loop-holds : tie.Need-loop-holds Inv-loop μ-loop
@@ -140,11 +154,11 @@ returns c =
     let step = stepped c .step-source in
     let at = aimed (stepped c .before) in
     let loop = at .before .before .loop in
-    let all : loop .i ≡ ended at .before .report-count .result = omega (arith, loop .inv .0, at .before .loop-test .left) in
+    let all : loop .i ≡ counted (ended at) .report-count .result = omega (arith, loop .inv .0, at .before .loop-test .left) in
     gives _ _ _ _ _ _ _ (facts (ended at)) _ (loop .i) (loop .end) (at .subject-of .result) (step .result) _ _
     all (loop .inv .1) (at .subject-of .ensures) (step .ensures .0) (step .ensures .1)
 
 pub arrival-spec : {M : Type 1} → statement M
-arrival-spec = tie.close (tie.spec Inv-loop μ-loop moment-of-requires asker-in-requires distance-of-requires report-count-requires loop-holds
+arrival-spec = tie.close (tie.spec Inv-loop μ-loop moment-of-requires asker-in-requires report-count-requires cast-to mul-asked element-copy-out-asked loop-holds
     report-at-requires cast-at mul-s element-copy-out-s report-requires mul-s1 element-set-from-s1 add-i loop-less loop-again subject-of-requires
     cast-at-2 mul-s-2 element-copy-out-s-2 step-source-requires mul-s1-2 element-set-from-s1-2 same-length returns)

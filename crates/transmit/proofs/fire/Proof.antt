@@ -1,5 +1,7 @@
 -- `transmit::fire` meets its contract: the earliest wait is chosen, goes out, and its source is the definition's.
-use mathlib.Core.Path.{sym, subst}
+use mathlib.Core.Path.{refl, sym, subst}
+use Prim.Native.Nat.{_<_}
+use native.Mathlib.Omega.{arith}
 use denote.Ref.{now}
 use Rattle.end.specs.declared.Earliest.{Earliest}
 use Rattle.transmit.specs.Fired.{nameOf}
@@ -54,6 +56,9 @@ moment-at c = name-at c .before .before
 abbrev start : tie.After-asker-in → tie.Start
 start c = moment-at c .before .before .before
 
+abbrev asked-at : tie.After-asked → tie.After-asker-in
+asked-at c = c .before .before
+
 chosen : (c : tie.After-asker-in)
     → Chosen (start c .args .e) (moment-at c .moment-of .result) (name-at c .before .earliest-wait .result) (name-at c .name-of .result) (record-at c .record-of .result) (c .asker-in .result)
 chosen c = record {
@@ -64,24 +69,32 @@ chosen c = record {
   asked-by = c .asker-in .ensures;
 }
 
-distance-of-requires : tie.Need-distance-of-requires
-distance-of-requires c κs = asker-host (chosen c) (start c .pre .settled)
+asker : (c : tie.After-asker-in) → c .asker-in .result .0 < 8
+asker c = asker-host (chosen c) (start c .pre .settled)
+
+cast-to : tie.Need-cast-to
+cast-to c = omega (arith, asker (c .before))
+
+mul-asked : tie.Need-mul-asked
+mul-asked c = omega (arith, asker (c .before))
+
+element-copy-out-asked : tie.Need-element-copy-out-asked
+element-copy-out-asked c = asker (c .before)
 
 fired-answer-requires : tie.Need-fired-answer-requires
 fired-answer-requires c κs = search needs
 
 fired-source-requires : tie.Need-fired-source-requires
 fired-source-requires c κs =
-    let d = c .before .before .before .before in
-    let asker = d .before in
-    let pre = start asker .pre in
-    waited (chosen asker) (d .distance-of .result) _ (d .distance-of .ensures) (pre .settled) (pre .draws)
+    let who = asked-at (c .before .before .before .before) in
+    let pre = start who .pre in
+    waited (chosen who) _ _ refl (pre .settled) (pre .draws)
 
 mul-s1 : tie.Need-mul-s1
 mul-s1 c = search needs
 
 element-set-from-s1 : tie.Need-element-set-from-s1
-element-set-from-s1 c = name-in (name-at (c .before .before .before .before .before .before)) .0
+element-set-from-s1 c = name-in (name-at (asked-at (c .before .before .before .before .before))) .0
 
 same-length : tie.Need-same-length
 same-length c = search needs
@@ -89,10 +102,9 @@ same-length c = search needs
 returns : tie.Need-returns
 returns c =
     let w = c .before .before .before in
-    let d = w .before .before in
-    let asker = d .before in
-    let a = start asker .args in
-    fire-gives (chosen asker) (now (a .draws)) (now (a .out)) (w .fired-answer .last .1 .1 .1 .1 .0) (d .distance-of .result) (w .fired-answer .result) (c .fired-source .result) (d .distance-of .ensures) (w .fired-answer .ensures) (c .fired-source .ensures)
+    let who = asked-at (w .before .before) in
+    let a = start who .args in
+    fire-gives (chosen who) (now (a .draws)) (now (a .out)) (w .fired-answer .last .1 .1 .1 .1 .0) _ (w .fired-answer .result) (c .fired-source .result) refl (w .fired-answer .ensures) (c .fired-source .ensures)
 
 pub fire-spec : {M : Type 1} → statement M
 fire-spec =
@@ -106,7 +118,9 @@ fire-spec =
     element-copy-out-s
     record-of-requires
     asker-in-requires
-    distance-of-requires
+    cast-to
+    mul-asked
+    element-copy-out-asked
     fired-answer-requires
     fired-source-requires
     mul-s1

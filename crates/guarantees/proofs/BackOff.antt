@@ -54,7 +54,6 @@ use Rattle.guarantees.specs.Arrivals.{hear}
 use Rattle.guarantees.specs.Fires.{OpenedFiringEnds, OpenedC3BelowC1}
 use Rattle.guarantees.specs.BackOff.{RoundsRise, SetNow, SetOrKept, Hearing, heardAll, OncePerQuiet, AlwaysDue, QuietIgnores, RoundsThrough, SetIn, DrawsAreBytes, CuesAreArrays, AlwaysSet, QuietBeforeDue, OneRoundPerQuiet}
 use Rattle.guarantees.proofs.Names.{sound-waits, waits-inside, waiting-not, far}
-use Rattle.guarantees.proofs.Messages.{learns, learns-above}
 use Rattle.guarantees.proofs.Arrivals.{call-cases, member-not-crashed, held-stays, slots-as-heard}
 use Rattle.guarantees.proofs.Slots.{acts-may, slots-may-become, host-and-params-stay}
 use Rattle.guarantees.proofs.Fires.{due-means-out, firing-ends}
@@ -155,20 +154,20 @@ inside-not-above (Open first last) n w h =
 module _ (us : List ℕ) (m : Meaning) (e : End) (q : Request) (waiting : recordAt (sourceAt e (messageName m .source)) (messageName m .number .0) .slot ≡ Waiting q)
     (quiet : e .clock ≤ q .quiet) where
   -- every decision but to ignore it has grounds that do not hold here
-  decided : (d : Decision) → (learns d ≡ true → isAbove (sourceAt e (messageName m .source) .span) (messageName m .number .0) ≡ true)
+  decided : (d : Decision)
       → Grounds (momentOf e) (wordOf Rqst m e) (recordAt (sourceAt e (messageName m .source)) (messageName m .number .0)) (sourceAt e (messageName m .source) .span) d
       → Ignores-all e (stepBy (momentOf e) us (wordOf Rqst m e) e d)
   unfolding Grounds apply effectOf
-  decided (Ignores why) above g = ap (λ (l : List Source). give Ignored (withSources e l)) (set-getD (e .sources) (messageName m .source .0) noSource)
-  decided Opens above g = clash (ap isRequest (g .0))
-  decided Takes above g = clash (ap isRequest (g .0))
-  decided Repairs above g = clash (ap isRequest (g .0))
-  decided Hushes above g = clash (ap isRequest (g .0))
-  decided Replies above g = clash (sym (g .1 .held) ∙ ap isHeld waiting)
-  decided Learns above g =
+  decided (Ignores why) g = ap (λ (l : List Source). give Ignored (withSources e l)) (set-getD (e .sources) (messageName m .source .0) noSource)
+  decided Opens g = clash (ap isRequest (g .0))
+  decided Takes g = clash (ap isRequest (g .0))
+  decided Repairs g = clash (ap isRequest (g .0))
+  decided Hushes g = clash (ap isRequest (g .0))
+  decided Replies g = clash (sym (g .1 .held) ∙ ap isHeld waiting)
+  decided Learns g =
       let s = sourceAt e (messageName m .source) in
-      absurd (inside-not-above (s .span) (messageName m .number .0) (waits-inside s (messageName m .number .0) q waiting) (above refl))
-  decided (BacksOff k) above g =
+      absurd (inside-not-above (s .span) (messageName m .number .0) (waits-inside s (messageName m .number .0) q waiting) (g .2))
+  decided (BacksOff k) g =
       let z : Waiting q ≡ Waiting (g .1 .request) = sym waiting ∙ g .1 .waits in
       let same : q ≡ g .1 .request = cc in
       absurd (omega (arith, ap (λ (r : Request). r .quiet) same, g .1 .over, quiet))
@@ -182,7 +181,7 @@ module _ (us : List ℕ) (m : Meaning) (e : End) (q : Request) (waiting : record
       byCond (Ignores-all e) (sameHost (m .sender) (e .host)) (λ _. refl)
       (λ _. byCond (Ignores-all e) (eqb (m .kind) DATA) (λ t. let k = eqb-true (m .kind) DATA t in absurd (omega arith))
       (λ _. byCond (Ignores-all e) (eqb (m .kind) RQST)
-      (λ _. decided (decide (momentOf e) w s) (learns-above (momentOf e) w r (s .span)) (grounds (momentOf e) w r (s .span)))
+      (λ _. decided (decide (momentOf e) w s) (grounds (momentOf e) w r (s .span)))
       (λ t. absurd (eqb-false (m .kind) RQST t kind))))
 
 pub quiet-ignores : QuietIgnores

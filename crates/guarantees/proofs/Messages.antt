@@ -1,15 +1,14 @@
 -- What a DATA, RQST or REPL does to every record of an end that passed its questions, by what is decided, a line each.
 use mathlib.Core.Path.{_≡_, refl, sym, ap, _∙_, subst}
-use mathlib.Core.Bool.{Bool, true, false, cond, not, _&&_}
+use mathlib.Core.Bool.{Bool, true, false, cond, _&&_}
 use mathlib.Core.List.{List}
 use Prim.Native.Nat.{ℕ, _≤_, _<_}
 use native.Mathlib.Omega.{arith}
 use lib.ListN.{length}
-use lib.Dec.{ltb, leb, eqb}
+use lib.Dec.{eqb}
 use borrow.Author.Tests.{le-leb, eqb-true, eq-eqb, ne-eqb}
 use Rattle.message.specs.declared.Host.{Host}
 use Rattle.message.specs.Message.{DATA, RQST, REPL, Meaning}
-use Rattle.message.specs.Question.{sameHost}
 use Rattle.end.specs.declared.Reply.the-variants.{No}
 use Rattle.end.specs.declared.Slot.{Slot}
 use Rattle.end.specs.declared.Slot.the-variants.{Empty, Held, Waiting}
@@ -22,20 +21,19 @@ use Rattle.end.specs.declared.Moment.{Moment}
 use Rattle.end.specs.declared.Says.{Says}
 use Rattle.end.specs.declared.Says.the-variants.{Data, Rqst, Repl}
 use Rattle.end.specs.declared.Word.{Word}
-use Rattle.end.specs.declared.Reason.{Reason}
 use Rattle.end.specs.declared.Decision.{Decision}
 use Rattle.end.specs.declared.Decision.the-variants.{Ignores, Opens, Takes, Repairs, Hushes, Replies, Learns, BacksOff}
 use Rattle.end.specs.State.{noSource, blankRecord, sourceAt, distanceTo, momentOf, withSpan}
-use Rattle.end.specs.Records.{within, isAbove, rawAt, recordAt, withRecord, isHeld, isNo, replyIn}
+use Rattle.end.specs.Records.{within, isAbove, rawAt, recordAt, withRecord, isHeld}
 use Rattle.end.specs.Round.{requestAt}
 use Rattle.end.specs.Names.{asking, holding, hold, quietReply, rise}
 use Rattle.end.specs.Sound.{outsideSound}
-use Rattle.end.specs.Decide.{number, unless, reached, decideReply, decideRound, decideRequest, decideAs, decide, opened, apply, stepAt}
+use Rattle.end.specs.Decide.{number, decide, opened, apply, stepAt}
 use Rattle.end.specs.Arrival.{messageName, messageCue, requesterIn, wordOf, wordStep}
 use Rattle.end.proofs.Facts.{Facts, last-ordered}
 use Rattle.end.proofs.Grounds.{Missing, isRequest, Grounds, grounds}
 use Rattle.end.proofs.RecordLaws.{at-inside, at-outside, same-within, read-same, read-other, store-elim, within-in, rise-distance, rise-heard, rise-length, rise-elim}
-use Rattle.end.proofs.Tools.{byCond, byTest, set-elim, clash′, eqb-flip}
+use Rattle.end.proofs.Tools.{byTest, set-elim, clash′, eqb-flip}
 use Rattle.invariants.proofs.Sources.{risen-within}
 use Rattle.guarantees.specs.Arrivals.{SameEnd, isAbout, hasName, touches, SpanAs, isDataOf, isSessionOf}
 use Rattle.guarantees.proofs.Names.{above-blank, source-of, extended-within}
@@ -76,39 +74,6 @@ source-none t us m to h s = record { rest = (span-stays (isDataOf m h) (s .span)
 
 pub heard-ignored : (t : Moment) (us : List ℕ) (m : Meaning) (e : End) → HeardEnd t us m e e
 heard-ignored t us m e = record { same = same-end e; sources = λ h hh. source-none t us m (distanceTo e) h (source-of e h) }
-
--- ---- a name that is learned of is above last
-abbrev pub learns : Decision → Bool
-learns (Ignores why) = false
-learns Opens = false
-learns Takes = false
-learns Repairs = false
-learns Hushes = false
-learns Replies = false
-learns Learns = true
-learns (BacksOff k) = false
-
-module _ (t : Moment) (w : Word) (r : Record) where
-  abbrev pub Above : Span → Decision → Type 0
-  Above x d = learns d ≡ true → isAbove x (number w) ≡ true
-
-  ladder : (x : Span) (b : Bool) (why : Reason) (d : Decision) → Above x d → Above x (unless b why d)
-  ladder x b why d p = byCond (Above x) b (λ _ h. clash′ h) (λ _. p)
-
-  round-above : (x : Span) (y : Slot) → Above x (decideRound t y)
-  unfolding decideRound
-  round-above x Empty = λ h. clash′ h
-  round-above x (Held reply) = λ h. clash′ h
-  round-above x (Waiting q) = ladder x (leb (t .clock) (q .quiet)) _ (BacksOff (q .round)) (λ h. clash′ h)
-
-  pub learns-above : (x : Span) → Above x (decideAs Rqst t w r x)
-  unfolding decideAs reached decideRequest decideReply
-  learns-above Closed = λ h. clash′ h
-  learns-above (Open first last) =
-      let x = Open first last in
-      ladder x (ltb (number w) (first .0)) _ _ (ladder x (sameHost (w .name .source) (t .me) && ltb (last .0) (number w)) _ _ (byCond (Above x) (isHeld (r .slot))
-      (λ _. ladder x (not (isNo (replyIn (r .slot)))) _ _ (ladder x (ltb (t .clock) (r .hush)) _ Replies (λ h. clash′ h)))
-      (λ _. byCond (Above x) (isAbove x (number w)) (λ u _. u) (λ _. round-above x (r .slot)))))
 
 -- ---- the kind of a message
 abbrev pub kindOf : Says → ℕ
@@ -256,21 +221,21 @@ module _ (us : List ℕ) (m : Meaning) (e : End) (f : Facts e) (says : Says) (ki
             (λ j b. risen-each j (not-number RQST m h₀ j (eqb-flip j n₀ b)));
       }
 
-  applied : (d : Decision) → (says ≡ Rqst → learns d ≡ true → isAbove (s₀ .span) n₀ ≡ true) → Grounds t₀ w₀ (recordAt s₀ n₀) (s₀ .span) d → Hears (apply t₀ us w₀ d s₀)
+  applied : (d : Decision) → Grounds t₀ w₀ (recordAt s₀ n₀) (s₀ .span) d → Hears (apply t₀ us w₀ d s₀)
   unfolding Grounds apply
-  applied (Ignores why) above g = unchanged
-  applied Opens above g = opens (g .0) (g .1)
-  applied Takes above g = held-then risen₀ (risen (ap isRequest (g .0))) (g .1 .lacks) (carried-data (g .0))
-  applied Repairs above g =
+  applied (Ignores why) g = unchanged
+  applied Opens g = opens (g .0) (g .1)
+  applied Takes g = held-then risen₀ (risen (ap isRequest (g .0))) (g .1 .lacks) (carried-data (g .0))
+  applied Repairs g =
       let carried = or-second (isAbout DATA m h₀ n₀) _ (about Repl (g .0)) in
       quiet-then _ (held-then risen₀ (risen (ap isRequest (g .0))) (g .1 .missing .lacks) carried) (g .0)
-  applied Hushes above g = quiet-then s₀ unchanged (g .0)
-  applied Replies above g =
+  applied Hushes g = quiet-then s₀ unchanged (g .0)
+  applied Replies g =
       let p = request-is says (g .0) in
       stored s₀ _ unchanged
       (heard-reply t₀ us m (distanceTo e) (s₀ .distance) h₀ n₀ _ it (recordAt s₀ n₀) (requesterIn says m) (ap (λ (z : Says). requesterIn z m) p) (g .1) (about Rqst p))
-  applied Learns above g = learned (request-is says (g .0)) (g .1 .missing) (above (request-is says (g .0)) refl)
-  applied (BacksOff k) above g = stored s₀ _ unchanged
+  applied Learns g = learned (request-is says (g .0)) (g .1 .missing) (g .2)
+  applied (BacksOff k) g = stored s₀ _ unchanged
       (heard-next t₀ us m (distanceTo e) (s₀ .distance) h₀ n₀ _ it (recordAt s₀ n₀) k (g .1) (about Rqst (request-is says (g .0))))
 
   -- the named source stepped
@@ -278,7 +243,7 @@ module _ (us : List ℕ) (m : Meaning) (e : End) (f : Facts e) (says : Says) (ki
   unfolding stepAt
   word-heard =
       let d = decide t₀ w₀ s₀ in
-      let now = applied d (λ p l. learns-above t₀ w₀ (recordAt s₀ n₀) (s₀ .span) (ap (λ (k : Says). learns (decideAs k t₀ w₀ (recordAt s₀ n₀) (s₀ .span))) (sym p) ∙ l)) (grounds t₀ w₀ (recordAt s₀ n₀) (s₀ .span)) in
+      let now = applied d (grounds t₀ w₀ (recordAt s₀ n₀) (s₀ .span)) in
       record {
         same = record { host = refl; params = refl; status = refl; next = refl };
         sources = λ h hh. set-elim (HeardSource t₀ us m (distanceTo e) h (source-of e h)) (e .sources) h₀ h (apply t₀ us w₀ d s₀) noSource

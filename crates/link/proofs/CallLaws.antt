@@ -16,9 +16,9 @@ use Rattle.end.specs.declared.Stepped.{Stepped}
 use Rattle.end.specs.declared.End.{End}
 use Rattle.end.specs.State.{isCrashed, withClock}
 use Rattle.end.specs.Answer.{Effect, Out, Got, Done, Ignored, Nothing, Step, give, Outcome, Refused, Did, Result, done, answerOf, calledOf, bufferOf, answerNumber, answerValues}
-use Rattle.end.specs.Event.{Action, actionOf, moves, movedEnd, moveOf, actOf, stepOf, questionOf, eventOf, gives, leaves}
+use Rattle.end.specs.Event.{Action, actionOf, moves, movedEnd, moveOf, actOf, stepOf, questionOf, eventOf, gives}
 use Rattle.end.proofs.Tools.{clash, clash′}
-use Rattle.link.specs.Answered.{valuesOf, Answered}
+use Rattle.link.specs.Promise.{outcomeValues, Promised}
 use Rattle.link.specs.Frame.{readingFor, takes, acted, untakenFor, Acting}
 use Rattle.link.proofs.GivenLaws.{acts, rests, passed, acting}
 
@@ -40,7 +40,7 @@ did-number Done = refl
 did-number Ignored = refl
 did-number Nothing = refl
 
-values : (o : Outcome) → answerValues (answerOf o) ≡ valuesOf o
+values : (o : Outcome) → answerValues (answerOf o) ≡ outcomeValues o
 unfolding answerOf
 values (Refused k) = refl
 values (Did (Out bytes)) = refl
@@ -59,7 +59,7 @@ module _ (e : End) (what : Event) (cue bytes : List ℕ) (clock : ℕ) (draws ou
 
   -- what the call promises of its result and of the output that it leaves
   abbrev pub Promise : Stepped → List ℕ → Type 0
-  Promise r last = (r ≡ gives e This clock draws out) × ((last ≡ leaves e This clock draws out) × Answered e This clock draws out (r .answer))
+  Promise = Promised e This clock draws out
 
   by-number : (q : ℕ) (step : Step) → answerNumber (answerOf (cond (eqb q 0) (done step) (record { outcome = Refused q; left = e }) .outcome)) ≡ q
   unfolding answerOf

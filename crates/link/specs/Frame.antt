@@ -23,13 +23,21 @@ use Rattle.end.specs.Event.{moveOf, sendOf, otherOf}
 use Rattle.end.specs.Event as rules
 use Rattle.state.specs.Settled.{Settled}
 
--- of an arrival the reader's answer; other events bring no bytes, and nothing is refused
+-- what is read where there are no bytes: nothing is refused
+abbrev pub nothingRead : Reading
+nothingRead = record { verdict = Accepted; message = blankMessage }
+
+-- of an arrival the reader's answer; other events bring no bytes
 abbrev pub readingFor : Event → List ℕ → Reading
-readingFor (Moves m) bytes = record { verdict = Accepted; message = blankMessage }
-readingFor Send bytes = record { verdict = Accepted; message = blankMessage }
+readingFor (Moves m) bytes = nothingRead
+readingFor Send bytes = nothingRead
 readingFor Arrival bytes = readOf bytes
-readingFor Fire bytes = record { verdict = Accepted; message = blankMessage }
-readingFor Report bytes = record { verdict = Accepted; message = blankMessage }
+readingFor Fire bytes = nothingRead
+readingFor Report bytes = nothingRead
+
+-- a reading that some bytes have
+abbrev pub Brought : Event → Reading → Type 0
+Brought what reading = (bytes : List ℕ) × (reading ≡ readingFor what bytes)
 
 -- whether an end that is not crashed takes the event: a move always, the others as a member
 abbrev pub takes : Event → Status → Bool

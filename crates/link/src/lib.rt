@@ -1,8 +1,8 @@
 // The calls of the product: opening an end, and its nine events. No call asks anything of its caller: what is
-// bad is refused by its number, and a refusal changes no byte. All events are one call, `event`, which has the frame that they share: the
-// questions, the crashed end, the clock, membership. Each contract gives the answer and the end by `gives` and the output by `leaves`:
+// bad is refused by its number, and a refusal changes no byte. All events are one call, `event`, and have one `frame`: the questions, the
+// crashed end, the clock, membership. Each contract gives the answer and the end by `gives` and the output by `leaves`:
 // the crate end, specs/Event.antt. The last says document 01's number of the answer, 0 where the call was not refused, and its values:
-// specs/Answered.antt.
+// specs/Promise.antt.
 use end::Answer;
 use end::Draw;
 use end::End;
@@ -18,17 +18,17 @@ use message::Reading;
 use message::Verdict;
 ghost use mathlib.Core.Path.{_≡_};
 ghost use mathlib.Core.Bool.{cond};
-ghost use mathlib.Core.List.{[]};
+ghost use Prim.Native.Nat.{ℕ};
+ghost use mathlib.Core.List.{List, []};
 ghost use lib.ListN.{length};
-ghost use Rattle.message.specs.Entry.{blankCue};
 ghost use Rattle.message.specs.Message.{meaningOf};
 ghost use Rattle.message.specs.Question.{refusalOf};
 ghost use Rattle.end.specs.declared.Move.the-variants.{Join, Joined, Leave, Left, Crash};
 ghost use Rattle.end.specs.Answer.{Did, done, answerOf, calledOf, bufferOf};
 ghost use Rattle.end.specs.Opening.{openRefusal, openingOf};
 ghost use Rattle.end.specs.Event.{Moves, Send, Arrival, Else, Fire, Report, actionOf, gives, leaves};
-ghost use Rattle.link.specs.Answered.{Answered};
-ghost use Rattle.link.specs.Frame.{readingFor, takes, acted, untakenFor, Acting};
+ghost use Rattle.link.specs.Promise.{AnswerIs, Promised};
+ghost use Rattle.link.specs.Frame.{nothingRead, readingFor, Brought, takes, acted, untakenFor, Acting};
 
 // Opens an end: questions 12 and 13. Refused, it gives host 0's crashed end beside the number.
 pub fn open(me: Host, params: Params) -> Opened
@@ -41,7 +41,7 @@ pub fn open(me: Host, params: Params) -> Opened
 // ---- the frame
 
 fn unread() -> Reading
-    ensures { λ r. ⌜ r ≡ readingFor Event.Fire [] ⌝ }
+    ensures { λ r. ⌜ r ≡ nothingRead ⌝ }
 {
     Reading {
         verdict: Verdict::Accepted,
@@ -116,6 +116,35 @@ fn act(
     }
 }
 
+// The frame of an event, once its bytes are read. The reading is not made here: its many small writes would keep the compiler from seeing
+// that nothing has changed the state since the call, and it would copy the state once more. The two ends of the last test each give a
+// state of their own for the same reason.
+fn frame(
+    e: End,
+    clock: u64,
+    draws: &[Draw],
+    what: Event,
+    cue: [u8; 24],
+    reading: Reading,
+    out: &mut [u8],
+) -> Stepped
+    requires { ⌜ Brought what reading ⌝ }
+    ensures { λ r. ⌜ ((bytes : List ℕ) → reading ≡ readingFor what bytes → Promised e (actionOf what cue bytes) clock (now (draws .entry)) (now (out .entry)) r (now (out .exit))) ⌝ }
+{
+    let verdict = reading.verdict;
+    let message = reading.message;
+    let q = questions::refusal(e, clock, out.len(), draws.len(), what, cue, verdict);
+    let status = e.status;
+    let sets = (q == 0) & !state::is_crashed(status);
+    let end = state::with_clock(e, clock_after(sets, clock, e.clock));
+    let answer = untaken(q);
+    if sets & takes(what, status) {
+        act(end, draws, what, cue, message, out)
+    } else {
+        Stepped { answer, end }
+    }
+}
+
 // An event of an end: the one call of which the others are cases. `cue` counts where the event is Send, `bytes` where it is Arrival.
 pub fn event(
     e: End,
@@ -128,114 +157,105 @@ pub fn event(
 ) -> Stepped
     ensures { λ r. ⌜ r ≡ gives e (actionOf what cue (now (bytes .entry))) clock (now (draws .entry)) (now (out .entry)) ⌝ }
     ensures { λ _. ⌜ now (out .exit) ≡ leaves e (actionOf what cue (now (bytes .entry))) clock (now (draws .entry)) (now (out .entry)) ⌝ }
-    ensures { λ r. ⌜ Answered e (actionOf what cue (now (bytes .entry))) clock (now (draws .entry)) (now (out .entry)) (r .answer) ⌝ }
+    ensures { λ r. ⌜ AnswerIs e (actionOf what cue (now (bytes .entry))) clock (now (draws .entry)) (now (out .entry)) (r .answer) ⌝ }
 {
     let reading = reading_for(what, bytes);
-    let verdict = reading.verdict;
-    let message = reading.message;
-    let q = questions::refusal(e, clock, out.len(), draws.len(), what, cue, verdict);
-    let status = e.status;
-    let sets = (q == 0) & !state::is_crashed(status);
-    let mut end = state::with_clock(e, clock_after(sets, clock, e.clock));
-    let mut answer = untaken(q);
-    if sets & takes(what, status) {
-        let s = act(end, draws, what, cue, message, out);
-        answer = s.answer;
-        end = s.end;
-    }
-    Stepped { answer, end }
-}
-
-// An event that brings neither cue nor bytes.
-fn plain(e: End, clock: u64, draws: &[Draw], what: Event, out: &mut [u8]) -> Stepped
-    ensures { λ r. ⌜ r ≡ gives e (actionOf what blankCue []) clock (now (draws .entry)) (now (out .entry)) ⌝ }
-    ensures { λ _. ⌜ now (out .exit) ≡ leaves e (actionOf what blankCue []) clock (now (draws .entry)) (now (out .entry)) ⌝ }
-    ensures { λ r. ⌜ Answered e (actionOf what blankCue []) clock (now (draws .entry)) (now (out .entry)) (r .answer) ⌝ }
-{
-    let none = [0; 1];
-    event(e, clock, draws, what, [0; 24], &none[0..0], out)
+    frame(e, clock, draws, what, cue, reading, out)
 }
 
 // ---- the calls
+
+// A move of the membership.
+fn moved(e: End, clock: u64, draws: &[Draw], m: Move, out: &mut [u8]) -> Stepped
+    ensures { λ r. ⌜ r ≡ gives e (Moves m) clock (now (draws .entry)) (now (out .entry)) ⌝ }
+    ensures { λ _. ⌜ now (out .exit) ≡ leaves e (Moves m) clock (now (draws .entry)) (now (out .entry)) ⌝ }
+    ensures { λ r. ⌜ AnswerIs e (Moves m) clock (now (draws .entry)) (now (out .entry)) (r .answer) ⌝ }
+{
+    let reading = unread();
+    frame(e, clock, draws, Event::Moves(m), [0; 24], reading, out)
+}
 
 // Join: idle to joining.
 pub fn join(e: End, clock: u64, draws: &[Draw], out: &mut [u8]) -> Stepped
     ensures { λ r. ⌜ r ≡ gives e (Moves Join) clock (now (draws .entry)) (now (out .entry)) ⌝ }
     ensures { λ _. ⌜ now (out .exit) ≡ leaves e (Moves Join) clock (now (draws .entry)) (now (out .entry)) ⌝ }
-    ensures { λ r. ⌜ Answered e (Moves Join) clock (now (draws .entry)) (now (out .entry)) (r .answer) ⌝ }
+    ensures { λ r. ⌜ AnswerIs e (Moves Join) clock (now (draws .entry)) (now (out .entry)) (r .answer) ⌝ }
 {
-    plain(e, clock, draws, Event::Moves(Move::Join), out)
+    moved(e, clock, draws, Move::Join, out)
 }
 
 // Joined: joining to member.
 pub fn joined(e: End, clock: u64, draws: &[Draw], out: &mut [u8]) -> Stepped
     ensures { λ r. ⌜ r ≡ gives e (Moves Joined) clock (now (draws .entry)) (now (out .entry)) ⌝ }
     ensures { λ _. ⌜ now (out .exit) ≡ leaves e (Moves Joined) clock (now (draws .entry)) (now (out .entry)) ⌝ }
-    ensures { λ r. ⌜ Answered e (Moves Joined) clock (now (draws .entry)) (now (out .entry)) (r .answer) ⌝ }
+    ensures { λ r. ⌜ AnswerIs e (Moves Joined) clock (now (draws .entry)) (now (out .entry)) (r .answer) ⌝ }
 {
-    plain(e, clock, draws, Event::Moves(Move::Joined), out)
+    moved(e, clock, draws, Move::Joined, out)
 }
 
 // Leave: joining or member to leaving.
 pub fn leave(e: End, clock: u64, draws: &[Draw], out: &mut [u8]) -> Stepped
     ensures { λ r. ⌜ r ≡ gives e (Moves Leave) clock (now (draws .entry)) (now (out .entry)) ⌝ }
     ensures { λ _. ⌜ now (out .exit) ≡ leaves e (Moves Leave) clock (now (draws .entry)) (now (out .entry)) ⌝ }
-    ensures { λ r. ⌜ Answered e (Moves Leave) clock (now (draws .entry)) (now (out .entry)) (r .answer) ⌝ }
+    ensures { λ r. ⌜ AnswerIs e (Moves Leave) clock (now (draws .entry)) (now (out .entry)) (r .answer) ⌝ }
 {
-    plain(e, clock, draws, Event::Moves(Move::Leave), out)
+    moved(e, clock, draws, Move::Leave, out)
 }
 
 // Left: leaving to idle.
 pub fn left(e: End, clock: u64, draws: &[Draw], out: &mut [u8]) -> Stepped
     ensures { λ r. ⌜ r ≡ gives e (Moves Left) clock (now (draws .entry)) (now (out .entry)) ⌝ }
     ensures { λ _. ⌜ now (out .exit) ≡ leaves e (Moves Left) clock (now (draws .entry)) (now (out .entry)) ⌝ }
-    ensures { λ r. ⌜ Answered e (Moves Left) clock (now (draws .entry)) (now (out .entry)) (r .answer) ⌝ }
+    ensures { λ r. ⌜ AnswerIs e (Moves Left) clock (now (draws .entry)) (now (out .entry)) (r .answer) ⌝ }
 {
-    plain(e, clock, draws, Event::Moves(Move::Left), out)
+    moved(e, clock, draws, Move::Left, out)
 }
 
 // Crash: to crashed, for good.
 pub fn crash(e: End, clock: u64, draws: &[Draw], out: &mut [u8]) -> Stepped
     ensures { λ r. ⌜ r ≡ gives e (Moves Crash) clock (now (draws .entry)) (now (out .entry)) ⌝ }
     ensures { λ _. ⌜ now (out .exit) ≡ leaves e (Moves Crash) clock (now (draws .entry)) (now (out .entry)) ⌝ }
-    ensures { λ r. ⌜ Answered e (Moves Crash) clock (now (draws .entry)) (now (out .entry)) (r .answer) ⌝ }
+    ensures { λ r. ⌜ AnswerIs e (Moves Crash) clock (now (draws .entry)) (now (out .entry)) (r .answer) ⌝ }
 {
-    plain(e, clock, draws, Event::Moves(Move::Crash), out)
+    moved(e, clock, draws, Move::Crash, out)
 }
 
 // Send: a member's cue goes out under its next number.
 pub fn send(e: End, clock: u64, draws: &[Draw], cue: [u8; 24], out: &mut [u8]) -> Stepped
     ensures { λ r. ⌜ r ≡ gives e (Send cue) clock (now (draws .entry)) (now (out .entry)) ⌝ }
     ensures { λ _. ⌜ now (out .exit) ≡ leaves e (Send cue) clock (now (draws .entry)) (now (out .entry)) ⌝ }
-    ensures { λ r. ⌜ Answered e (Send cue) clock (now (draws .entry)) (now (out .entry)) (r .answer) ⌝ }
+    ensures { λ r. ⌜ AnswerIs e (Send cue) clock (now (draws .entry)) (now (out .entry)) (r .answer) ⌝ }
 {
-    let none = [0; 1];
-    event(e, clock, draws, Event::Send, cue, &none[0..0], out)
+    let reading = unread();
+    frame(e, clock, draws, Event::Send, cue, reading, out)
 }
 
 // Arrival: a member takes a message. After questions 1 to 5 it asks the reader's, 8 to 11.
 pub fn arrival(e: End, clock: u64, draws: &[Draw], bytes: &[u8], out: &mut [u8]) -> Stepped
     ensures { λ r. ⌜ r ≡ gives e (Arrival (now (bytes .entry))) clock (now (draws .entry)) (now (out .entry)) ⌝ }
     ensures { λ _. ⌜ now (out .exit) ≡ leaves e (Arrival (now (bytes .entry))) clock (now (draws .entry)) (now (out .entry)) ⌝ }
-    ensures { λ r. ⌜ Answered e (Arrival (now (bytes .entry))) clock (now (draws .entry)) (now (out .entry)) (r .answer) ⌝ }
+    ensures { λ r. ⌜ AnswerIs e (Arrival (now (bytes .entry))) clock (now (draws .entry)) (now (out .entry)) (r .answer) ⌝ }
 {
-    event(e, clock, draws, Event::Arrival, [0; 24], bytes, out)
+    let reading = reader::read(bytes);
+    frame(e, clock, draws, Event::Arrival, [0; 24], reading, out)
 }
 
 // Fire: the earliest wait that is due goes out.
 pub fn fire(e: End, clock: u64, draws: &[Draw], out: &mut [u8]) -> Stepped
     ensures { λ r. ⌜ r ≡ gives e (Else Fire) clock (now (draws .entry)) (now (out .entry)) ⌝ }
     ensures { λ _. ⌜ now (out .exit) ≡ leaves e (Else Fire) clock (now (draws .entry)) (now (out .entry)) ⌝ }
-    ensures { λ r. ⌜ Answered e (Else Fire) clock (now (draws .entry)) (now (out .entry)) (r .answer) ⌝ }
+    ensures { λ r. ⌜ AnswerIs e (Else Fire) clock (now (draws .entry)) (now (out .entry)) (r .answer) ⌝ }
 {
-    plain(e, clock, draws, Event::Fire, out)
+    let reading = unread();
+    frame(e, clock, draws, Event::Fire, [0; 24], reading, out)
 }
 
 // Report: a session message goes out.
 pub fn report(e: End, clock: u64, draws: &[Draw], out: &mut [u8]) -> Stepped
     ensures { λ r. ⌜ r ≡ gives e (Else Report) clock (now (draws .entry)) (now (out .entry)) ⌝ }
     ensures { λ _. ⌜ now (out .exit) ≡ leaves e (Else Report) clock (now (draws .entry)) (now (out .entry)) ⌝ }
-    ensures { λ r. ⌜ Answered e (Else Report) clock (now (draws .entry)) (now (out .entry)) (r .answer) ⌝ }
+    ensures { λ r. ⌜ AnswerIs e (Else Report) clock (now (draws .entry)) (now (out .entry)) (r .answer) ⌝ }
 {
-    plain(e, clock, draws, Event::Report, out)
+    let reading = unread();
+    frame(e, clock, draws, Event::Report, [0; 24], reading, out)
 }

@@ -1,8 +1,8 @@
 -- `compose::all_entries` meets its contract: after h turns the places have what the first h hosts give.
 use mathlib.Core.Path.{_≡_, ap, _∙_}
-use Prim.Native.Nat.{ℕ, _-_, _+_, _≤_}
+use Prim.Native.Nat.{_-_, _≤_}
 use native.Mathlib.Omega.{arith}
-use lib.ListN.{length, replicate}
+use lib.ListN.{replicate}
 use Rattle.message.specs.Entry.{asHost}
 use Rattle.end.specs.State.{sourceAt}
 use Rattle.end.specs.Messages.{reportOn, echoOn, reportsBelow, echoesBelow}

@@ -1,5 +1,5 @@
 -- `compose::session_message` meets its contract: the entries stand in the first places, as many as the counts say.
-use mathlib.Core.Path.{_≡_, ap, _∙_}
+use mathlib.Core.Path.{ap, _∙_}
 use mathlib.Core.List.{[]}
 use Prim.Native.Nat.{_-_, _≤_}
 use native.Mathlib.Omega.{arith}

@@ -1,10 +1,4 @@
--- `link::event` meets its contract: what the code has found before its one test, and the two cases of that.
-use mathlib.Core.Path.{sym, ap, subst}
-use denote.Ref.{now}
-use Rattle.message.specs.declared.Reading.{Reading}
-use Rattle.questions.specs.Read.{ReadAs}
-use Rattle.link.proofs.GivenLaws.{read-verdict}
-use Rattle.link.proofs.CallLaws.{Framed, frame-untaken, frame-taken, frame-acting, frame-gives}
+-- `link::event` meets its contract: the frame, with what is read from the bytes.
 use borrow.Author.Needs.{needs}
 use Rattle.link.proofs.event.Statement.{statement}
 use Rattle.link.proofs.event.Tie as tie
@@ -12,87 +6,16 @@ use Rattle.link.proofs.event.Tie as tie
 reading-for-requires : tie.Need-reading-for-requires
 reading-for-requires c κs = search needs
 
-refusal-requires : tie.Need-refusal-requires
-refusal-requires c κs = search needs
-
-is-crashed-requires : tie.Need-is-crashed-requires
-is-crashed-requires c κs = search needs
-
-clock-after-requires : tie.Need-clock-after-requires
-clock-after-requires c κs = search needs
-
-with-clock-requires : tie.Need-with-clock-requires
-with-clock-requires c κs = search needs
-
-untaken-requires : tie.Need-untaken-requires
-untaken-requires c κs = search needs
-
-takes-requires : tie.Need-takes-requires
-takes-requires c κs = search needs
-
-abbrev clock-at : tie.After-takes → tie.After-with-clock
-clock-at c = c .before .before
-
-abbrev asked-at : tie.After-takes → tie.After-refusal
-asked-at c = clock-at c .before .before .before
-
-abbrev read-at : tie.After-takes → tie.After-reading-for
-read-at c = asked-at c .before .before
-
-abbrev start : tie.After-takes → tie.Start
-start c = read-at c .before .before .before .before
-
-abbrev Found : tie.After-takes → Type 0
-Found c =
-    let a = start c .args in
-    Framed (a .e) (a .what) (a .cue) (now (a .bytes)) (a .clock) (now (a .draws)) (now (a .out))
-    (asked-at c .refusal .result) (clock-at c .before .before .is-crashed .result) (c .takes .result) (clock-at c .before .clock-after .result)
-    (clock-at c .with-clock .result) (c .before .untaken .result) (read-at c .reading-for .result .message)
-
-found : (c : tie.After-takes) → Found c
-found c =
-    let a = start c .args in
-    let read = read-at c .reading-for .ensures in
-    record {
-      asked = asked-at c .refusal .ensures (now (a .bytes)) (subst (λ (r : Reading). ReadAs (a .what) (r .verdict) (now (a .bytes))) (sym read) (read-verdict (a .what) (now (a .bytes))));
-      status = clock-at c .before .before .is-crashed .ensures;
-      test = c .takes .ensures;
-      time = clock-at c .before .clock-after .ensures;
-      ended = clock-at c .with-clock .ensures;
-      rest = c .before .untaken .ensures;
-      read = ap (λ (r : Reading). r .message) read;
-    }
-
-act-requires : tie.Need-act-requires
-act-requires c κs =
-    let f = found (c .before .before) in
-    frame-acting _ _ _ _ _ _ _ f (frame-taken _ _ _ _ _ _ _ f (c .before .if1 .taken))
+frame-requires : tie.Need-frame-requires
+frame-requires c κs = (_, c .before .reading-for .ensures)
 
 same-length : tie.Need-same-length
 same-length c = search needs
 
 returns : tie.Need-returns
 returns c =
-    let done = c .before .before .before in
-    let test = done .before .before in
-    let f = found (test .before) in
-    frame-gives _ _ _ _ _ _ _ f (done .act .result) (done .act .last .1 .1 .1 .1 .1 .0) (frame-taken _ _ _ _ _ _ _ f (test .if1 .taken)) (done .act .ensures .0) (done .act .ensures .1)
-
-returns-2 : tie.Need-returns-2
-returns-2 c = frame-untaken _ _ _ _ _ _ _ (found (c .before)) (c .if1 .left)
+    let w = c .before .before in
+    w .frame .ensures _ (w .before .before .reading-for .ensures)
 
 pub event-spec : {M : Type 1} → statement M
-event-spec =
-    tie.close
-    (tie.spec
-    reading-for-requires
-    refusal-requires
-    is-crashed-requires
-    clock-after-requires
-    with-clock-requires
-    untaken-requires
-    takes-requires
-    act-requires
-    same-length
-    returns
-    returns-2)
+event-spec = tie.close (tie.spec reading-for-requires frame-requires same-length returns)

@@ -17,8 +17,9 @@ ghost use mathlib.Core.Path.{_≡_};
 ghost use mathlib.Core.List.{[], _∷_};
 ghost use Prim.Native.Nat.{_+_, _≤_, _<_};
 ghost use lib.ListN.{length, take};
+ghost use Rattle.message.specs.Limit.{hostLimit};
 ghost use Rattle.message.specs.Entry.{blankName, blankReport, blankEcho};
-ghost use Rattle.message.specs.Message.{Small, numberWidth, meaningOf};
+ghost use Rattle.message.specs.Message.{Small, numberWidth, reportPlaces, echoPlaces, meaningOf};
 ghost use Rattle.end.specs.Messages.{aboutName, reportOn, echoOn, sessionMessage};
 ghost use Rattle.end.specs.Ready.{HeardBy};
 ghost use Rattle.state.specs.Settled.{Settled};
@@ -109,7 +110,7 @@ pub fn about_name(
 
 // With the report of a source that has a first.
 fn with_report(all: Reports, h: Host, span: Span) -> Reports
-    requires { ⌜ all .count < 8 ⌝ }
+    requires { ⌜ all .count < reportPlaces ⌝ }
     ensures { λ r. ⌜ r ≡ withReport all (reportOn h span) ⌝ }
 {
     match span {
@@ -128,7 +129,7 @@ fn with_report(all: Reports, h: Host, span: Span) -> Reports
 
 // With the echo of a host that was heard.
 fn with_echo(all: Echoes, h: Host, clock: u64, heard: Heard) -> Echoes
-    requires { ⌜ all .count + length (echoOn h clock heard) ≤ 7 ⌝ }
+    requires { ⌜ all .count + length (echoOn h clock heard) ≤ echoPlaces ⌝ }
     requires { ⌜ HeardBy clock heard ⌝ }
     ensures { λ r. ⌜ r ≡ withEcho all (echoOn h clock heard) ⌝ }
 {
@@ -154,7 +155,7 @@ fn with_echo(all: Echoes, h: Host, clock: u64, heard: Heard) -> Echoes
 // none is heard from oneself. One loop for both: the compiler would unroll each of two, and then take the end apart.
 fn all_entries(e: End) -> Entries
     requires { ⌜ Settled e ⌝ }
-    ensures { λ r. ⌜ r ≡ entriesBelow e 8 ⌝ }
+    ensures { λ r. ⌜ r ≡ entriesBelow e hostLimit ⌝ }
 {
     let sources = e.sources;
     let mut reports = Reports {

@@ -19,6 +19,7 @@ ghost use mathlib.Core.Path.{_≡_};
 ghost use mathlib.Core.Bool.{cond};
 ghost use Prim.Native.Nat.{_<_};
 ghost use lib.ListN.{length};
+ghost use Rattle.message.specs.Limit.{numberLimit};
 ghost use Rattle.end.specs.Answer.{Did, answerOf};
 ghost use Rattle.end.specs.Ready.{Ranges, Numbered};
 ghost use Rattle.end.specs.Records.{isClosed};
@@ -147,7 +148,7 @@ pub fn decide(t: Moment, w: Word, r: Record, span: Span) -> Decision
 
 // The first cue of a source.
 fn open_source(w: Word, s: Source) -> Source
-    requires { ⌜ number w < 64 ⌝ }
+    requires { ⌜ number w < numberLimit ⌝ }
     ensures { λ r. ⌜ r ≡ hold (number w) (w .cue) (opened w s) ⌝ }
 {
     let n = w.name.number;

@@ -14,6 +14,7 @@ ghost use mathlib.Core.Path.{_≡_};
 ghost use mathlib.Core.Bool.{cond};
 ghost use Prim.Native.Nat.{_+_, _≤_};
 ghost use lib.Dec.{leb};
+ghost use Rattle.message.specs.Limit.{hostLimit, numberLimit};
 ghost use Rattle.end.specs.Records.{start, width};
 ghost use Rattle.end.specs.Ready.{LastIn};
 ghost use Rattle.end.specs.Fire.{before, earlier, offered, earliestName, earliest};
@@ -80,7 +81,7 @@ fn start_of(span: Span) -> u64
 fn width_of(span: Span) -> u64
     requires { ⌜ LastIn span ⌝ }
     ensures { λ r. ⌜ r ≡ width span ⌝ }
-    ensures { λ r. ⌜ start span + r ≤ 64 ⌝ }
+    ensures { λ r. ⌜ start span + r ≤ numberLimit ⌝ }
 {
     match span {
         Span::Closed => 0,
@@ -117,7 +118,7 @@ fn earliest_name(h: Host, clock: u64, s: Source, best: Earliest) -> Earliest
 // The earliest wait of an end. By constant places: a variable one would copy the whole end first.
 pub fn earliest_wait(e: End) -> Earliest
     requires { ⌜ Settled e ⌝ }
-    ensures { λ r. ⌜ r ≡ earliest e 8 ⌝ }
+    ensures { λ r. ⌜ r ≡ earliest e hostLimit ⌝ }
 {
     let none = Earliest::NoWait;
     let b0 = earliest_name(Host(0), e.clock, e.sources[0], none);

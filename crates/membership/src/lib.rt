@@ -18,6 +18,7 @@ use message::Verdict;
 ghost use mathlib.Core.Path.{_≡_};
 ghost use mathlib.Core.Bool.{_&&_, true};
 ghost use Prim.Native.Nat.{_<_};
+ghost use Rattle.message.specs.Limit.{hostLimit};
 ghost use Rattle.end.specs.State.{unheard, unheardSources, freshEnd, withSources};
 ghost use Rattle.end.specs.Sound.{allOf, paramsTests};
 ghost use Rattle.end.specs.Opening.{constrainedTests, houseParams, openingOf};
@@ -47,7 +48,7 @@ fn unheard_source(distance: u64) -> Source
 
 // The eight sources of which nothing is kept: 0 to oneself, 40 to the others.
 fn unheard_sources(me: Host) -> [Source; 8]
-    requires { ⌜ me .0 < 8 ⌝ }
+    requires { ⌜ me .0 < hostLimit ⌝ }
     ensures { λ r. ⌜ r ≡ unheardSources (me .0) ⌝ }
 {
     let other = unheard_source(40);
@@ -59,7 +60,7 @@ fn unheard_sources(me: Host) -> [Source; 8]
 }
 
 fn fresh_end(me: Host, params: Params, status: Status) -> End
-    requires { ⌜ me .0 < 8 ⌝ }
+    requires { ⌜ me .0 < hostLimit ⌝ }
     ensures { λ r. ⌜ r ≡ freshEnd me params status ⌝ }
 {
     let sources = unheard_sources(me);
@@ -229,7 +230,7 @@ fn forgets(m: Move) -> bool
 
 // An end that forgets what it heard; its next own number stays.
 fn without_heard(e: End) -> End
-    requires { ⌜ e .host .0 < 8 ⌝ }
+    requires { ⌜ e .host .0 < hostLimit ⌝ }
     ensures { λ r. ⌜ r ≡ withSources e (unheardSources (e .host .0)) ⌝ }
 {
     let me = e.host;
@@ -240,7 +241,7 @@ fn without_heard(e: End) -> End
 }
 
 fn moved_end(e: End, m: Move) -> End
-    requires { ⌜ e .host .0 < 8 ⌝ }
+    requires { ⌜ e .host .0 < hostLimit ⌝ }
     ensures { λ r. ⌜ r ≡ movedEnd m e ⌝ }
 {
     let status = moves_to(m);
@@ -250,7 +251,7 @@ fn moved_end(e: End, m: Move) -> End
 
 // A move of an end whose clock is set: Done, and Ignored from any other status.
 pub fn moved(e: End, m: Move) -> Stepped
-    requires { ⌜ e .host .0 < 8 ⌝ }
+    requires { ⌜ e .host .0 < hostLimit ⌝ }
     ensures { λ r. ⌜ r ≡ calledOf (done (moveOf m e)) ⌝ }
 {
     let status = e.status;

@@ -30,9 +30,10 @@ ghost use mathlib.Core.List.{_++_};
 ghost use Prim.Native.Nat.{_+_, _-_, _≤_, _<_};
 ghost use lib.ListN.{length, getD, take, drop};
 ghost use lib.Dec.{leb};
+ghost use Rattle.message.specs.Limit.{ticksLimit};
 ghost use Rattle.message.specs.Section.{all};
 ghost use Rattle.message.specs.Entry.{blankName, blankReport};
-ghost use Rattle.message.specs.Message.{meaningOf};
+ghost use Rattle.message.specs.Message.{reportPlaces, echoPlaces, meaningOf};
 ghost use Rattle.message.specs.Question.{echoIn, inRange, sameHost};
 ghost use Rattle.end.specs.Round.{halfTrip};
 ghost use Rattle.end.specs.Answer.{Did, answerOf, done, calledOf, bufferOf};
@@ -154,8 +155,8 @@ fn report_count(me: Host, m: Message) -> usize
 
 // A report by its place, of eight.
 fn report_at(reports: [Report; 8], i: usize) -> Report
-    requires { ⌜ i < 8 ⌝ }
-    ensures { λ r. ⌜ (r ≡ getD reports i blankReport) × (length reports ≡ 8) ⌝ }
+    requires { ⌜ i < reportPlaces ⌝ }
+    ensures { λ r. ⌜ (r ≡ getD reports i blankReport) × (length reports ≡ reportPlaces) ⌝ }
 {
     reports[i]
 }
@@ -178,7 +179,7 @@ fn report(t: Moment, draws: &[Draw], r: Report, s: Source) -> Source
 
 // The distance after an echo, from what it was: an echo of oneself measures half the round trip.
 fn by_echo(me: Host, clock: u64, x: Echo, d: u64) -> u64
-    requires { ⌜ (x .stamp < 281474976710656) × (x .held < 281474976710656) ⌝ }
+    requires { ⌜ (x .stamp < ticksLimit) × (x .held < ticksLimit) ⌝ }
     ensures { λ r. ⌜ r ≡ cond (sameHost (x .host) me && leb (x .stamp + x .held) clock) (halfTrip (clock - (x .stamp + x .held))) d ⌝ }
 {
     let gone = x.stamp + x.held;
@@ -191,7 +192,7 @@ fn by_echo(me: Host, clock: u64, x: Echo, d: u64) -> u64
 
 // The distance after all echoes.
 fn measure(me: Host, clock: u64, echoes: [Echo; 7], count: usize, d: u64) -> u64
-    requires { ⌜ (count ≤ 7) × (all echoIn (take count echoes) ≡ true) ⌝ }
+    requires { ⌜ (count ≤ echoPlaces) × (all echoIn (take count echoes) ≡ true) ⌝ }
     ensures { λ r. ⌜ r ≡ measured me clock (take count echoes) d ⌝ }
 {
     let mut out = d;
@@ -206,7 +207,7 @@ fn measure(me: Host, clock: u64, echoes: [Echo; 7], count: usize, d: u64) -> u64
 
 // The sender's source: it is heard now, and its distance measured.
 fn hear(t: Moment, m: Message, s: Source) -> Source
-    requires { ⌜ m .counts .echoes ≤ 7 ⌝ }
+    requires { ⌜ m .counts .echoes ≤ echoPlaces ⌝ }
     requires { ⌜ inRange (meaningOf m) ≡ true ⌝ }
     ensures { λ r. ⌜ r ≡ heardFrom t (meaningOf m) s ⌝ }
 {

@@ -14,6 +14,7 @@ use message::Host;
 ghost use mathlib.Core.Path.{_≡_};
 ghost use Prim.Native.Nat.{_-_, _≤_, _<_, max};
 ghost use lib.ListN.{length};
+ghost use Rattle.message.specs.Limit.{numberLimit};
 ghost use Rattle.end.specs.State.{places, blankRecord};
 ghost use Rattle.end.specs.Records.{place, within, isBelow, isAbove, recordAt, withRecord};
 ghost use Rattle.end.specs.Round.{drawCount, drawAt, requestAt, replyDue};
@@ -77,7 +78,7 @@ pub fn blank_record() -> Record
 
 // What the source has of a number: nothing outside first..last.
 pub fn record_at(s: Source, n: CueNumber) -> Record
-    requires { ⌜ n .0 < 64 ⌝ }
+    requires { ⌜ n .0 < numberLimit ⌝ }
     ensures { λ r. ⌜ r ≡ recordAt s (n .0) ⌝ }
 {
     let span = s.span;
@@ -91,7 +92,7 @@ pub fn record_at(s: Source, n: CueNumber) -> Record
 
 // The source with another record of a number.
 pub fn with_record(s: Source, n: CueNumber, r: Record) -> Source
-    requires { ⌜ n .0 < 64 ⌝ }
+    requires { ⌜ n .0 < numberLimit ⌝ }
     ensures { λ x. ⌜ x ≡ withRecord s (n .0) r ⌝ }
 {
     let at = place(n);
@@ -151,7 +152,7 @@ pub fn set_round(s: Source, t: Moment, draws: &[Draw], n: CueNumber, k: u8) -> S
 
 // Holds a cue under a number.
 pub fn hold_cue(s: Source, n: CueNumber, cue: [u8; 24]) -> Source
-    requires { ⌜ n .0 < 64 ⌝ }
+    requires { ⌜ n .0 < numberLimit ⌝ }
     ensures { λ r. ⌜ r ≡ hold (n .0) cue s ⌝ }
 {
     let r = record_at(s, n);
@@ -192,7 +193,7 @@ pub fn set_reply(
 // Drops a number's reply and sets its reply-quiet time, for a requester who is d away.
 pub fn quiet_reply(s: Source, t: Moment, n: CueNumber, d: u64) -> Source
     requires { ⌜ Ranges t d ⌝ }
-    requires { ⌜ n .0 < 64 ⌝ }
+    requires { ⌜ n .0 < numberLimit ⌝ }
     ensures { λ r. ⌜ r ≡ quietReply t (n .0) d s ⌝ }
 {
     let hush = timing::quiet_after_reply(t, d);

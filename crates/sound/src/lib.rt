@@ -17,6 +17,7 @@ ghost use mathlib.Core.Path.{_≡_};
 ghost use mathlib.Core.Bool.{_&&_};
 ghost use lib.ListN.{length};
 ghost use lib.Dec.{eqb};
+ghost use Rattle.message.specs.Limit.{hostLimit};
 ghost use Rattle.message.specs.Cue.{cueIn};
 ghost use Rattle.end.specs.Records.{within, isClosed};
 ghost use Rattle.end.specs.State.{places};
@@ -181,7 +182,7 @@ fn source_sound(me: Host, next: u32, clock: u64, member: bool, h: Host, s: Sourc
 // Each of the eight sources. They are read from an array of their own: an end of which parts are read by constant places is taken
 // apart by the compiler, and then each copy of it is eight.
 fn sources_sound(e: End) -> bool
-    ensures { λ r. ⌜ r ≡ sourcesSound e 8 ⌝ }
+    ensures { λ r. ⌜ r ≡ sourcesSound e hostLimit ⌝ }
 {
     let status = e.status;
     let member = state::is_member(status);

@@ -24,6 +24,7 @@ ghost use mathlib.Core.Path.{_≡_};
 ghost use mathlib.Core.List.{[], _∷_};
 ghost use Prim.Native.Nat.{_≤_, _<_};
 ghost use lib.ListN.{length, take};
+ghost use Rattle.message.specs.Limit.{numberLimit, roomNeeded};
 ghost use Rattle.message.specs.Message.{Small, numberWidth, meaningOf, bytesOf};
 ghost use Rattle.end.specs.Messages.{aboutName};
 ghost use Rattle.end.specs.Answer.{Out, Did, done, answerOf, calledOf, bufferOf};
@@ -35,7 +36,7 @@ ghost use Rattle.transmit.specs.Fired.{nameOf, recordOf, askerIn, firedE
 // ---- a message goes out
 
 fn put(m: Message, out: &mut [u8]) -> Answer
-    requires { ⌜ Small (numberWidth (m .kind)) (m .counts) × (128 ≤ length (now out)) ⌝ }
+    requires { ⌜ Small (numberWidth (m .kind)) (m .counts) × (roomNeeded ≤ length (now out)) ⌝ }
     ensures { λ r. ⌜ r ≡ answerOf (Did (Out (bytesOf (meaningOf m)))) ⌝ }
     ensures { λ _. ⌜ now (out .exit) ≡ bufferOf (Did (Out (bytesOf (meaningOf m)))) (now (out .entry)) ⌝ }
 {
@@ -52,7 +53,7 @@ fn put_name(
     cue: [u8; 24],
     out: &mut [u8],
 ) -> Answer
-    requires { ⌜ (cues ≤ 1) × (128 ≤ length (now out)) ⌝ }
+    requires { ⌜ (cues ≤ 1) × (roomNeeded ≤ length (now out)) ⌝ }
     ensures { λ r. ⌜ r ≡ answerOf (Did (Out (bytesOf (aboutName kind t name host (take cues (cue ∷ [])))))) ⌝ }
     ensures { λ _. ⌜ now (out .exit) ≡ bufferOf (Did (Out (bytesOf (aboutName kind t name host (take cues (cue ∷ [])))))) (now (out .entry)) ⌝ }
 {
@@ -74,7 +75,7 @@ fn extend(span: Span, n: CueNumber) -> Span
 
 // The own source once cue n is sent.
 fn sent_source(s: Source, n: CueNumber, cue: [u8; 24]) -> Source
-    requires { ⌜ n .0 < 64 ⌝ }
+    requires { ⌜ n .0 < numberLimit ⌝ }
     ensures { λ r. ⌜ r ≡ sentSource (n .0) cue s ⌝ }
 {
     let span = s.span;
@@ -122,7 +123,7 @@ fn name_of(first: Earliest) -> Name
 
 // Its record; where none waits, a blank one.
 fn record_of(s: Source, first: Earliest) -> Record
-    requires { ⌜ nameOf first .number .0 < 64 ⌝ }
+    requires { ⌜ nameOf first .number .0 < numberLimit ⌝ }
     ensures { λ r. ⌜ r ≡ recordOf s first ⌝ }
 {
     match first {
@@ -147,7 +148,7 @@ fn asker_in(me: Host, slot: Slot) -> Host
 
 // What waits under a name goes out.
 fn fired_answer(t: Moment, name: Name, cue: [u8; 24], slot: Slot, out: &mut [u8]) -> Answer
-    requires { ⌜ 128 ≤ length (now out) ⌝ }
+    requires { ⌜ roomNeeded ≤ length (now out) ⌝ }
     ensures { λ r. ⌜ r ≡ answerOf (Did (firedEffect t name cue slot)) ⌝ }
     ensures { λ _. ⌜ now (out .exit) ≡ bufferOf (Did (firedEffect t name cue slot)) (now (out .entry)) ⌝ }
 {

@@ -12,7 +12,7 @@ use Rattle.end.specs.declared.Source.{Source}
 use Rattle.end.specs.declared.End.{End}
 use Rattle.end.specs.State.{noSource}
 use Rattle.end.specs.Records.{within, start, width, rawAt, recordAt}
-use Rattle.end.specs.Ready.{LastIn}
+use Rattle.end.specs.Ready.{SpanIn}
 use Rattle.end.proofs.RecordLaws.{within-in, at-inside}
 use Rattle.state.specs.Settled.{Settled}
 
@@ -24,9 +24,9 @@ pub read : (s : Source) (i : ℕ) → i < width (s .span) → recordAt s (start 
 read s i h = at-inside s (start (s .span) + i) (in-width (s .span) i h)
 
 -- a span that was matched: how many its numbers are
-module _ {x : Span} {first last : CueNumber} (l : LastIn x) (e : x ≡ Open first last) where
-  ordered : LastIn (Open first last)
-  ordered = subst LastIn e l
+module _ {x : Span} {first last : CueNumber} (l : SpanIn x) (e : x ≡ Open first last) where
+  ordered : SpanIn (Open first last)
+  ordered = subst SpanIn e l
 
   pub in-order : first .0 ≤ last .0 + 1
   in-order = omega (arith, ordered)
@@ -35,5 +35,5 @@ module _ {x : Span} {first last : CueNumber} (l : LastIn x) (e : x ≡ Open firs
   open-width = rw e (refl, omega (arith, ordered))
 
 -- the spans of a settled state, source by source
-pub span-in : {e : End} (h : ℕ) → h < 8 → Settled e → LastIn (getD (e .sources) h noSource .span)
+pub span-in : {e : End} (h : ℕ) → h < 8 → Settled e → SpanIn (getD (e .sources) h noSource .span)
 span-in h l s = s .spans (asHost h) l

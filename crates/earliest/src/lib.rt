@@ -16,7 +16,7 @@ ghost use Prim.Native.Nat.{_+_, _≤_};
 ghost use lib.Dec.{leb};
 ghost use Rattle.message.specs.Limit.{hostLimit, numberLimit};
 ghost use Rattle.end.specs.Records.{start, width};
-ghost use Rattle.end.specs.Ready.{LastIn};
+ghost use Rattle.end.specs.Ready.{SpanIn};
 ghost use Rattle.end.specs.Fire.{before, earlier, offered, earliestName, earliest};
 ghost use Rattle.state.specs.Settled.{Settled};
 
@@ -79,7 +79,7 @@ fn start_of(span: Span) -> u64
 }
 
 fn width_of(span: Span) -> u64
-    requires { ⌜ LastIn span ⌝ }
+    requires { ⌜ SpanIn span ⌝ }
     ensures { λ r. ⌜ r ≡ width span ⌝ }
     ensures { λ r. ⌜ start span + r ≤ numberLimit ⌝ }
 {
@@ -91,7 +91,7 @@ fn width_of(span: Span) -> u64
 
 // The earliest wait of one source.
 fn earliest_name(h: Host, clock: u64, s: Source, best: Earliest) -> Earliest
-    requires { ⌜ LastIn (s .span) ⌝ }
+    requires { ⌜ SpanIn (s .span) ⌝ }
     ensures { λ r. ⌜ r ≡ earliestName h clock s best (width (s .span)) ⌝ }
 {
     let span = s.span;

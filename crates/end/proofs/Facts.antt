@@ -16,7 +16,7 @@ use Rattle.end.specs.declared.End.{End}
 use Rattle.end.specs.State.{noSource, blankNames, unheard, unheardSources, isMember, withClock}
 use Rattle.end.specs.Records.{within, rawAt}
 use Rattle.end.specs.Sound.{allOf, spanTests, recordSound, sourceTests, soundOf}
-use Rattle.end.specs.Ready.{LastIn}
+use Rattle.end.specs.Ready.{SpanIn}
 use Rattle.end.proofs.Tools.{set-elim}
 use Rattle.end.proofs.RecordLaws.{Ordered}
 use Rattle.end.proofs.SoundLaws.{nth, sound-end, names-length, record-sound, aside-closed}
@@ -26,11 +26,11 @@ pub record Facts (e : End) : Type 0 where
   pub clock : e .clock < 281474976710656
   pub sources : length (e .sources) ≡ 8
   pub names : (s : ℕ) → s < 8 → length (getD (e .sources) s noSource .names) ≡ 64
-  pub spans : (s : ℕ) → s < 8 → LastIn (getD (e .sources) s noSource .span)
+  pub spans : (s : ℕ) → s < 8 → SpanIn (getD (e .sources) s noSource .span)
   pub records : (s n : ℕ) → s < 8 → n < 64 → recordSound (e .host) (asHost s) (getD (e .sources) s noSource .span) n (rawAt (getD (e .sources) s noSource .names) n) ≡ true
   pub aside : isMember (e .status) ≡ false → (s : ℕ) → s < 8 → getD (e .sources) s noSource .span ≡ Closed
 
-pub last-in : (own : Bool) (next : ℕ) (x : Span) → allOf (spanTests own next x) ≡ true → LastIn x
+pub last-in : (own : Bool) (next : ℕ) (x : Span) → allOf (spanTests own next x) ≡ true → SpanIn x
 last-in own next Closed h = tt
 last-in own next (Open first last) h =
     (leb-true (first .0) (last .0) (nth (spanTests own next (Open first last)) 0 h), ltb-true (last .0) 64 (nth (spanTests own next (Open first last)) 1 h))
@@ -62,11 +62,11 @@ facts-clock e t l f = record {
 }
 
 -- first of a sound span is not above its last, and a number inside has a place
-pub last-ordered : (x : Span) → LastIn x → Ordered x
+pub last-ordered : (x : Span) → SpanIn x → Ordered x
 last-ordered Closed l = tt
 last-ordered (Open first last) l = l .0
 
-pub within-small : (x : Span) (n : ℕ) → LastIn x → within x n ≡ true → n < 64
+pub within-small : (x : Span) (n : ℕ) → SpanIn x → within x n ≡ true → n < 64
 within-small Closed n l h = absurd (true≢false (sym h))
 within-small (Open first last) n l h = omega (arith, l .1, leb-true n (last .0) (and-both (leb (first .0) n) (leb n (last .0)) h .1))
 

@@ -38,9 +38,9 @@ pub record Numbered (n draws : ℕ) : Type 0 where
   pub draws-in : draws ≡ drawCount
 
 -- a span whose numbers all have a place
-abbrev pub LastIn : Span → Type 0
-LastIn Closed = Unit {0}
-LastIn (Open first last) = (first .0 ≤ last .0) × (last .0 < numberLimit)
+abbrev pub SpanIn : Span → Type 0
+SpanIn Closed = Unit {0}
+SpanIn (Open first last) = (first .0 ≤ last .0) × (last .0 < numberLimit)
 
 -- heard at the clock or before
 abbrev pub HeardBy : ℕ → Heard → Type 0

@@ -16,7 +16,7 @@ use Rattle.end.specs.declared.End.{End}
 use Rattle.end.specs.State.{noSource, isMember, distanceTo, momentOf}
 use Rattle.end.specs.Records.{within, rawAt, recordAt}
 use Rattle.end.specs.Sound.{allOf, allBelow, insideSound, outsideSound, recordSound, spanTests, distanceSound, heardTests, nonMemberTests, sourceTests, sourceSound, paramsTests, soundTests, soundOf}
-use Rattle.end.specs.Ready.{LastIn, Ranges}
+use Rattle.end.specs.Ready.{SpanIn, Ranges}
 use Rattle.end.proofs.Tools.{byTest, or-alone}
 use Rattle.end.proofs.RecordLaws.{at-inside}
 use Rattle.end.proofs.SoundLaws.{nth, all-at, sound-end}
@@ -33,7 +33,7 @@ or-else : (a b : Bool) → (a ≡ false → b ≡ true) → (a || b) ≡ true
 or-else true b h = refl
 or-else false b h = h refl
 
-pub last-in : (own : Bool) (next : ℕ) (x : Span) → allOf (spanTests own next x) ≡ true → LastIn x
+pub last-in : (own : Bool) (next : ℕ) (x : Span) → allOf (spanTests own next x) ≡ true → SpanIn x
 last-in own next Closed h = tt
 last-in own next (Open first last) h =
     let tests = spanTests own next (Open first last) in

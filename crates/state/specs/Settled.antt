@@ -9,7 +9,7 @@ use Rattle.end.specs.declared.Heard.the-variants.{Never}
 use Rattle.end.specs.declared.End.{End}
 use Rattle.end.specs.State.{sourceAt}
 use Rattle.end.specs.Records.{recordAt, replyIn}
-use Rattle.end.specs.Ready.{Ready, LastIn, HeardBy}
+use Rattle.end.specs.Ready.{Ready, SpanIn, HeardBy}
 
 -- a reply's requester is a host
 abbrev pub Asked : Reply → Type 0
@@ -19,7 +19,7 @@ Asked (Due due requester) = requester .0 < 8
 pub record Settled (e : End) : Type 0 where
   pub ready : Ready e
   pub host : e .host .0 < 8
-  pub spans : (h : Host) → h .0 < 8 → LastIn (sourceAt e h .span)
+  pub spans : (h : Host) → h .0 < 8 → SpanIn (sourceAt e h .span)
   pub asked : (h : Host) (n : ℕ) → h .0 < 8 → Asked (replyIn (recordAt (sourceAt e h) n .slot))
   pub heard : (h : Host) → h .0 < 8 → HeardBy (e .clock) (sourceAt e h .heard)
   pub own : sourceAt e (e .host) .heard ≡ Never

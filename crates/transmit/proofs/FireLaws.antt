@@ -25,7 +25,7 @@ use Rattle.end.specs.declared.End.{End}
 use Rattle.end.specs.State.{noSource, sourceAt, distanceTo, momentOf, withSources, withSource, onSource}
 use Rattle.end.specs.Records.{start, width, recordAt, replyIn}
 use Rattle.end.specs.Round.{drawCount}
-use Rattle.end.specs.Ready.{LastIn}
+use Rattle.end.specs.Ready.{SpanIn}
 use Rattle.end.specs.Answer.{Effect, Nothing, Step, give}
 use Rattle.end.specs.Fire.{foldUp, before, earlier, offered, earliest, fireAt, fired, fireOf}
 use Rattle.end.proofs.Tools.{byCond}
@@ -57,7 +57,7 @@ offered-named name clock (Waiting q) best h b = byCond OfName (leb (q .due) cloc
 offered-named name clock (Held No) best h b = b
 offered-named name clock (Held (Due due requester)) best h b = byCond OfName (leb due clock) (λ t. earlier-named best _ b h) (λ t. b)
 
-number-in : (x : Span) (i : ℕ) → LastIn x → i < width x → start x + i < 64
+number-in : (x : Span) (i : ℕ) → SpanIn x → i < width x → start x + i < 64
 number-in Closed i l h = absurd (omega arith)
 number-in (Open first last) i l h = omega (arith, l .0, l .1)
 

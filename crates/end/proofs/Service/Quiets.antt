@@ -39,7 +39,7 @@ use Rattle.end.specs.Session.{reportedSource, allReported, heardFrom, se
 use Rattle.end.specs.Arrival.{messageCue}
 use Rattle.end.specs.Fire.{fireAt, fired, earliest}
 use Rattle.end.specs.Event.{Other, Fire, Report, otherOf}
-use Rattle.end.specs.Ready.{LastIn}
+use Rattle.end.specs.Ready.{SpanIn}
 use Rattle.end.specs.Book.{readAs, source, number, isGot}
 use Rattle.end.proofs.Tools.{byCond, clash, clash′, set-elim}
 use Rattle.end.proofs.RecordLaws.{at-inside, at-outside, rise-length}
@@ -158,13 +158,13 @@ others us Report e f = bare-quiet e e (sessionMessage e) refl (same-refl e)
 
 -- first..last of every source is in order, and there is a record for each number: what a rise needs, and keeps
 abbrev Laid : Source → Type 0
-Laid s = LastIn (s .span) × (length (s .names) ≡ 64)
+Laid s = SpanIn (s .span) × (length (s .names) ≡ 64)
 
 rise-laid : (t : Moment) (us : List ℕ) (n : ℕ) (s : Source) (x : Span) → s .span ≡ x → n < 64 → Laid s → Laid (rise t us n s x)
 unfolding rise
 rise-laid t us n s Closed p l q = q
 rise-laid t us n s (Open first last) p l q =
-    let in-order : LastIn (Open first last) = rw p at (q .0) in
+    let in-order : SpanIn (Open first last) = rw p at (q .0) in
     ((omega (arith, in-order .0), omega (arith, in-order .1)), rise-length t us n s (Open first last) ∙ q .1)
 
 reported-source : (t : Moment) (us : List ℕ) (r : ReportEntry) (s : Source) → Laid s → r .last .0 < 64 → SameSource s (reportedSource t us r s) × Laid (reportedSource t us r s)

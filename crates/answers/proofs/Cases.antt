@@ -2,36 +2,37 @@
 use mathlib.Core.Path.{_≡_, refl}
 use mathlib.Core.List.{[], _∷_, _++_}
 use lib.IntN.{negsuc}
+use Rattle.message.specs.Entry.{asHost, asNumber}
 use Rattle.decimal.specs.Decimal.{figures, decimal, signedDecimal}
 use Rattle.answers.specs.declared.Shown.the-variants.{Out, Got, Done, Ignored, Nothing, Refused}
 use Rattle.answers.specs.AnswerLine.{done, ignored, nothing, answerWords, answerLine}
 
 -- "0 0 done"
-done-line : answerLine 0 0 Done ≡ 48 ∷ 32 ∷ 48 ∷ 32 ∷ done ++ (10 ∷ [])
+done-line : answerLine (asHost 0) 0 Done ≡ 48 ∷ 32 ∷ 48 ∷ 32 ∷ done ++ (10 ∷ [])
 unfolding answerLine answerWords decimal figures
 done-line = refl
 
 -- "0 10 out 0"
-out-line : answerLine 0 10 (Out 0) ≡ 48 ∷ 32 ∷ 49 ∷ 48 ∷ 32 ∷ 111 ∷ 117 ∷ 116 ∷ 32 ∷ 48 ∷ 10 ∷ []
+out-line : answerLine (asHost 0) 10 (Out 0) ≡ 48 ∷ 32 ∷ 49 ∷ 48 ∷ 32 ∷ 111 ∷ 117 ∷ 116 ∷ 32 ∷ 48 ∷ 10 ∷ []
 unfolding answerLine answerWords decimal figures
 out-line = refl
 
 -- "1 12 got 0 0 -2"
-got-line : answerLine 1 12 (Got 0 0 (negsuc 1)) ≡ 49 ∷ 32 ∷ 49 ∷ 50 ∷ 32 ∷ 103 ∷ 111 ∷ 116 ∷ 32 ∷ 48 ∷ 32 ∷ 48 ∷ 32 ∷ 45 ∷ 50 ∷ 10 ∷ []
+got-line : answerLine (asHost 1) 12 (Got (asHost 0) (asNumber 0) (negsuc 1)) ≡ 49 ∷ 32 ∷ 49 ∷ 50 ∷ 32 ∷ 103 ∷ 111 ∷ 116 ∷ 32 ∷ 48 ∷ 32 ∷ 48 ∷ 32 ∷ 45 ∷ 50 ∷ 10 ∷ []
 unfolding answerLine answerWords signedDecimal decimal figures
 got-line = refl
 
 -- "1 391 nothing"
-nothing-line : answerLine 1 391 Nothing ≡ 49 ∷ 32 ∷ 51 ∷ 57 ∷ 49 ∷ 32 ∷ nothing ++ (10 ∷ [])
+nothing-line : answerLine (asHost 1) 391 Nothing ≡ 49 ∷ 32 ∷ 51 ∷ 57 ∷ 49 ∷ 32 ∷ nothing ++ (10 ∷ [])
 unfolding answerLine answerWords decimal figures
 nothing-line = refl
 
 -- "0 5 ignored"
-ignored-line : answerLine 0 5 Ignored ≡ 48 ∷ 32 ∷ 53 ∷ 32 ∷ ignored ++ (10 ∷ [])
+ignored-line : answerLine (asHost 0) 5 Ignored ≡ 48 ∷ 32 ∷ 53 ∷ 32 ∷ ignored ++ (10 ∷ [])
 unfolding answerLine answerWords decimal figures
 ignored-line = refl
 
 -- "0 5 refused 7"
-refused-line : answerLine 0 5 (Refused 7) ≡ 48 ∷ 32 ∷ 53 ∷ 32 ∷ 114 ∷ 101 ∷ 102 ∷ 117 ∷ 115 ∷ 101 ∷ 100 ∷ 32 ∷ 55 ∷ 10 ∷ []
+refused-line : answerLine (asHost 0) 5 (Refused 7) ≡ 48 ∷ 32 ∷ 53 ∷ 32 ∷ 114 ∷ 101 ∷ 102 ∷ 117 ∷ 115 ∷ 101 ∷ 100 ∷ 32 ∷ 55 ∷ 10 ∷ []
 unfolding answerLine answerWords decimal figures
 refused-line = refl

@@ -1,24 +1,23 @@
 // The line that is printed for a played line of a script, put into a buffer. The definition is specs/AnswerLine.antt.
+use message::CueNumber;
+use message::Host;
 ghost use mathlib.Core.List.{[], _∷_, _++_};
 ghost use Prim.Native.Nat.{_+_, _≤_};
 ghost use lib.ListN.{length};
 ghost use Rattle.decimal.specs.Decimal.{decimal as decimalOf, signedDecimal};
 ghost use Rattle.answers.specs.declared.Shown.the-variants.{Out, Got, Refused};
-ghost use Rattle.answers.specs.AnswerLine.{spaced as spacedOf, answerWords, answerLine, Line};
+ghost use Rattle.answers.specs.AnswerLine.{spaced as spacedOf, answerWords, answerLine};
 ghost use Rattle.answers.specs.Put.{Put};
 
 // An answer as it is shown: a message number after out, the name and the focus after got, the question's number after refused.
 pub enum Shown {
     Out(u64),
-    Got(u8, u8, i16),
+    Got(Host, CueNumber, i16),
     Done,
     Ignored,
     Nothing,
     Refused(u8),
 }
-
-// How many bytes a buffer has to have; the longest line has fifty.
-const ROOM: usize = 64;
 
 // Each function below writes a piece from `at` on and answers where it ends.
 
@@ -84,16 +83,16 @@ fn put_refused(out: &mut [u8], at: usize, question: u8) -> usize
 }
 
 // The name and the focus after got.
-fn put_values(out: &mut [u8], at: usize, source: u8, number: u8, focus: i16) -> usize
+fn put_values(out: &mut [u8], at: usize, source: Host, number: CueNumber, focus: i16) -> usize
     requires { ⌜ at + 14 ≤ length (now out) ⌝ }
-    ensures { λ r. ⌜ Put 14 at (spacedOf source ++ (spacedOf number ++ signedDecimal focus)) (now (out .entry)) (now (out .exit)) r ⌝ }
+    ensures { λ r. ⌜ Put 14 at (spacedOf (source .0) ++ (spacedOf (number .0) ++ signedDecimal focus)) (now (out .entry)) (now (out .exit)) r ⌝ }
 {
-    let first = spaced(out, at, source);
-    let second = spaced(out, first, number);
+    let first = spaced(out, at, source.0);
+    let second = spaced(out, first, number.0);
     integer(out, second, focus)
 }
 
-fn put_got(out: &mut [u8], at: usize, source: u8, number: u8, focus: i16) -> usize
+fn put_got(out: &mut [u8], at: usize, source: Host, number: CueNumber, focus: i16) -> usize
     requires { ⌜ at + 24 ≤ length (now out) ⌝ }
     ensures { λ r. ⌜ Put 24 at (answerWords (Got source number focus)) (now (out .entry)) (now (out .exit)) r ⌝ }
 {
@@ -124,15 +123,12 @@ fn put_ending(out: &mut [u8], at: usize, a: Shown) -> usize
     text(out, end, b"\n")
 }
 
-// Writes the line of an answer at the start of a buffer of 64 bytes or more, which is always enough, and answers its length; in a
-// smaller buffer nothing is written, and the answer is 0.
-pub fn put_line(out: &mut [u8], end: u8, clock: u64, a: Shown) -> usize
-    ensures { λ r. ⌜ Line (answerLine end clock a) (now (out .entry)) (now (out .exit)) r ⌝ }
+// The line of an answer: of fifty bytes at most.
+pub fn put_line(out: &mut [u8], at: usize, end: Host, clock: u64, a: Shown) -> usize
+    requires { ⌜ at + 50 ≤ length (now out) ⌝ }
+    ensures { λ r. ⌜ Put 50 at (answerLine end clock a) (now (out .entry)) (now (out .exit)) r ⌝ }
 {
-    if out.len() < ROOM {
-        return 0;
-    }
-    let first = spaced(out, 0, end);
+    let first = spaced(out, at, end.0);
     let second = spaced_clock(out, first, clock);
     put_ending(out, second, a)
 }

@@ -1,2 +1,2 @@
-pub mod HouseLaws
 pub mod Listing
+pub mod PieceLaws

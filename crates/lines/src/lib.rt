@@ -1,6 +1,6 @@
 // Cuts a script into lines as its bytes come. The definitions are in specs/Cut.antt.
 ghost use mathlib.Core.Path.{_≡_};
-ghost use lib.ListN.{take, drop};
+ghost use lib.ListN.{drop};
 ghost use Rattle.lines.specs.Cut.{fedOf, lineWith, cutOf, lineCut};
 
 // What a byte makes of a line: it goes on, with so many bytes; it is whole, with so many bytes; or it is too long to be played.
@@ -35,16 +35,16 @@ fn feed(line: &mut [u8; 34], len: usize, b: u8) -> Fed
     }
 }
 
-// Takes the bytes from..until of a buffer into a line of `len` bytes, up to the line's end. Without a line feed they are all
-// taken, and the line goes on with the next bytes.
-pub fn take_line(buffer: &[u8], from: usize, until: usize, line: &mut [u8; 34], len: usize) -> Cut
-    ensures { λ r. ⌜ r ≡ cutOf (drop from (take until (now (buffer .entry)))) from len ⌝ }
-    ensures { λ _. ⌜ now (line .exit) ≡ lineCut (drop from (take until (now (buffer .entry)))) len (now (line .entry)) ⌝ }
+// Takes the bytes of a piece, from a place on, into a line of `len` bytes, up to the line's end. Without a line feed they are all
+// taken, and the line goes on with the next piece.
+pub fn take_line(piece: &[u8], from: usize, line: &mut [u8; 34], len: usize) -> Cut
+    ensures { λ r. ⌜ r ≡ cutOf (drop from (now (piece .entry))) from len ⌝ }
+    ensures { λ _. ⌜ now (line .exit) ≡ lineCut (drop from (now (piece .entry))) len (now (line .entry)) ⌝ }
 {
     let mut at = from;
     let mut n = len;
-    while (at < until) & (at < buffer.len()) {
-        let b = buffer[at];
+    while at < piece.len() {
+        let b = piece[at];
         at += 1;
         match feed(line, n, b) {
             Fed::More(m) => {

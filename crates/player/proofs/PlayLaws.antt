@@ -142,7 +142,7 @@ turn-for (Did (Out bytes)) e output ms w =
     record { printed = t .0; messages = t .1 .0; left = t .1 .1 }
 turn-for (Did (Got name cue)) e output ms w =
     let two : take 2 (cue ++ drop (length cue) output) ≡ take 2 cue = take-append-le 2 cue (drop (length cue) output) (omega (arith, w)) in
-    record { printed = ap (λ (x : List ℕ). Shows (shown.Got (name .source .0) (name .number .0) (signed (value x)))) two; messages = refl; left = refl }
+    record { printed = ap (λ (x : List ℕ). Shows (shown.Got (name .source) (name .number) (signed (value x)))) two; messages = refl; left = refl }
 turn-for (Did Done) e output ms w = record { printed = refl; messages = refl; left = refl }
 turn-for (Did Ignored) e output ms w = record { printed = refl; messages = refl; left = refl }
 turn-for (Did Nothing) e output ms w = record { printed = refl; messages = refl; left = refl }

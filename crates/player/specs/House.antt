@@ -3,6 +3,7 @@ use Prim.Native.Nat.{ℕ}
 use mathlib.Core.Bool.{Bool, true, false, cond}
 use mathlib.Core.List.{List, [], _∷_, _++_}
 use lib.Dec.{eqb}
+use Rattle.message.specs.declared.Host.{Host}
 use Rattle.message.specs.Entry.{asHost}
 use Rattle.end.specs.declared.End.{End}
 use Rattle.end.specs.Opening.{houseParams, openingOf}
@@ -15,12 +16,16 @@ use Rattle.player.specs.declared.Printed.{Printed}
 use Rattle.player.specs.declared.Printed.the-variants.{Bad, Shows}
 use Rattle.player.specs.Play.{Turn, playedOf}
 
+-- no line that is printed has more bytes
+abbrev pub widest : ℕ
+widest = 50
+
 -- "bad" and a line feed
 abbrev pub badLine : List ℕ
 badLine = 98 ∷ 97 ∷ 100 ∷ 10 ∷ []
 
 -- what is printed for a line: "end, clock, answer", or "bad"
-unfoldable pub printedLine : ℕ → ℕ → Printed → List ℕ
+unfoldable pub printedLine : Host → ℕ → Printed → List ℕ
 printedLine end clock Bad = badLine
 printedLine end clock (Shows a) = answerLine end clock a
 
@@ -40,21 +45,32 @@ abbrev pub opened : House
 opened = record { zero = openingOf (asHost 0) houseParams .end; one = openingOf (asHost 1) houseParams .end; messages = [] }
 
 -- the end that a line names, and the house after the line
-abbrev pub endAt : ℕ → House → End
-endAt n h = cond (eqb n 0) (h .zero) (h .one)
+abbrev pub endAt : Host → House → End
+endAt n h = cond (eqb (n .0) 0) (h .zero) (h .one)
 
-abbrev pub houseAfter : ℕ → Turn → House → House
-houseAfter n t h = record { zero = cond (eqb n 0) (t .left) (h .zero); one = cond (eqb n 0) (h .one) (t .left); messages = t .messages }
+abbrev pub houseAfter : Host → Turn → House → House
+houseAfter n t h =
+    record { zero = cond (eqb (n .0) 0) (t .left) (h .zero); one = cond (eqb (n .0) 0) (h .one) (t .left); messages = t .messages }
 
 abbrev pub turnAt : Call → House → Turn
 turnAt c h = playedOf (endAt (c .end) h) (c .verb) (c .clock) (h .messages)
 
+-- a line played in a house: what is printed, the house after it, and whether it stops
+abbrev pub linePrints : Line → House → List ℕ
+linePrints Malformed h = badLine
+linePrints (Play c) h = printedLine (c .end) (c .clock) (turnAt c h .printed)
+
+abbrev pub lineHouse : Line → House → House
+lineHouse Malformed h = h
+lineHouse (Play c) h = houseAfter (c .end) (turnAt c h) h
+
+abbrev pub lineStops : Line → House → Bool
+lineStops Malformed h = true
+lineStops (Play c) h = isBad (turnAt c h .printed)
+
 -- what a line prints, and then what the rest of the script prints, unless it "prints "bad" and stops"
 abbrev pub afterLine : Line → House → (House → List ℕ) → List ℕ
-afterLine Malformed h rest = badLine
-afterLine (Play c) h rest =
-    printedLine (c .end) (c .clock) (turnAt c h .printed)
-    ++ cond (isBad (turnAt c h .printed)) [] (rest (houseAfter (c .end) (turnAt c h) h))
+afterLine l h rest = linePrints l h ++ cond (lineStops l h) [] (rest (lineHouse l h))
 
 -- the end of the script: "a line feed after each line", so a line without one is malformed
 abbrev pub atEnd : List ℕ → List ℕ

@@ -81,7 +81,7 @@ unfoldable pub turnOf : Outcome → End → List (List ℕ) → Turn
 turnOf (Refused question) e messages = shows (shown.Refused question) e messages
 turnOf (Did (Out bytes)) e messages =
     cond (ltb (length messages) most) (shows (shown.Out (length messages)) e (messages ++ (bytes ∷ []))) (stops e messages)
-turnOf (Did (Got name cue)) e messages = shows (shown.Got (name .source .0) (name .number .0) (fieldsOf cue .focus)) e messages
+turnOf (Did (Got name cue)) e messages = shows (shown.Got (name .source) (name .number) (fieldsOf cue .focus)) e messages
 turnOf (Did Done) e messages = shows shown.Done e messages
 turnOf (Did Ignored) e messages = shows shown.Ignored e messages
 turnOf (Did Nothing) e messages = shows shown.Nothing e messages

@@ -35,7 +35,7 @@ pub record PlaysOn (e : End) (v : Verb) (clock : ℕ) (messages : List (List ℕ
 unfoldable pub printedFor : Answer → List ℕ → ℕ → Printed
 printedFor (answer.Refused question) output count = Shows (shown.Refused question)
 printedFor (answer.Out n) output count = cond (ltb count most) (Shows (shown.Out count)) Bad
-printedFor (answer.Got name) output count = Shows (shown.Got (name .source .0) (name .number .0) (stepsAt output 0))
+printedFor (answer.Got name) output count = Shows (shown.Got (name .source) (name .number) (stepsAt output 0))
 printedFor answer.Done output count = Shows shown.Done
 printedFor answer.Ignored output count = Shows shown.Ignored
 printedFor answer.Nothing output count = Shows shown.Nothing

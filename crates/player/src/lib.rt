@@ -4,19 +4,20 @@ use answers::Shown;
 use end::Answer;
 use end::End;
 use end::Stepped;
+use message::Host;
 use script::Verb;
 use store::MOST;
 use store::ROOM;
 ghost use mathlib.Core.Path.{_≡_};
 ghost use mathlib.Core.Bool.{true};
-ghost use Prim.Native.Nat.{_*_, _≤_, _<_};
+ghost use Prim.Native.Nat.{_+_, _*_, _≤_, _<_};
 ghost use lib.ListN.{length};
 ghost use Rattle.store.specs.Store.{most, room, messageIn, firstMessages, messagesIn};
-ghost use Rattle.answers.specs.AnswerLine.{Line};
+ghost use Rattle.answers.specs.Put.{Put};
 ghost use Rattle.end.specs.Event.{eventOf};
 ghost use Rattle.end.specs.Answer.{calledOf, bufferOf};
 ghost use Rattle.player.specs.Play.{draws, eventFor, heardNumber, isKnown};
-ghost use Rattle.player.specs.House.{badLine, printedLine};
+ghost use Rattle.player.specs.House.{widest, badLine, printedLine};
 ghost use Rattle.player.specs.Promise.{Plays, PlaysOn, Tells, Shelf, InOutput};
 
 // What is printed for a line: its answer, or "bad", after which the house stops.
@@ -152,8 +153,10 @@ fn tell(answer: Answer, out: &[u8], places: &mut [u8], lengths: &mut [u8], count
         Answer::Refused(question) => shows(Shown::Refused(question), count),
         Answer::Out(n) => put_out(n, out, places, lengths, count),
         Answer::Got(name) => {
+            let source = name.source;
+            let number = name.number;
             let focus = numbers::read_i16(out, 0);
-            shows(Shown::Got(name.source.0, name.number.0, focus), count)
+            shows(Shown::Got(source, number, focus), count)
         }
         Answer::Done => shows(Shown::Done, count),
         Answer::Ignored => shows(Shown::Ignored, count),
@@ -211,23 +214,21 @@ pub fn play(
     }
 }
 
-fn put_bad(out: &mut [u8]) -> usize
-    ensures { λ r. ⌜ Line badLine (now (out .entry)) (now (out .exit)) r ⌝ }
+fn put_bad(out: &mut [u8], at: usize) -> usize
+    requires { ⌜ at + 4 ≤ length (now out) ⌝ }
+    ensures { λ r. ⌜ Put 4 at badLine (now (out .entry)) (now (out .exit)) r ⌝ }
 {
-    if out.len() < 64 {
-        return 0;
-    }
-    numbers::put_bytes(out, 0, b"bad\n");
-    4
+    numbers::put_bytes(out, at, b"bad\n");
+    at + 4
 }
 
-// Writes what is printed for a line at the start of a buffer of 64 bytes or more, which is always enough, and answers its length; in
-// a smaller buffer nothing is written, and the answer is 0.
-pub fn put_printed(out: &mut [u8], end: u8, clock: u64, printed: Printed) -> usize
-    ensures { λ r. ⌜ Line (printedLine end clock printed) (now (out .entry)) (now (out .exit)) r ⌝ }
+// Writes what is printed for a line from a place on, and answers where it ends.
+pub fn put_printed(out: &mut [u8], at: usize, end: Host, clock: u64, printed: Printed) -> usize
+    requires { ⌜ at + widest ≤ length (now out) ⌝ }
+    ensures { λ r. ⌜ Put widest at (printedLine end clock printed) (now (out .entry)) (now (out .exit)) r ⌝ }
 {
     match printed {
-        Printed::Bad => put_bad(out),
-        Printed::Shows(a) => answers::put_line(out, end, clock, a),
+        Printed::Bad => put_bad(out, at),
+        Printed::Shows(a) => answers::put_line(out, at, end, clock, a),
     }
 }

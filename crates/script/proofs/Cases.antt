@@ -3,6 +3,7 @@ use mathlib.Core.Path.{_≡_, refl}
 use mathlib.Core.List.{List, [], _∷_, _++_}
 use Prim.Native.Nat.{ℕ}
 use lib.IntN.{negsuc}
+use Rattle.message.specs.Entry.{asHost}
 use Rattle.decimal.specs.Decimal.{allDigits, wellWritten, valueAfter, unsignedWord, signedWord}
 use Rattle.script.specs.declared.Verb.the-variants.{Join, Send, Hear, Report}
 use Rattle.script.specs.declared.Line.the-variants.{Play, Malformed}
@@ -10,22 +11,22 @@ use Rattle.script.specs.Words.{onto, words, same}
 use Rattle.script.specs.Line.{join, send, hear, report, fire, laterVerb, plainVerb, verbWith, lineIn, lineOf}
 
 -- "0 join 0"
-a-join : lineOf (48 ∷ 32 ∷ join ++ (32 ∷ 48 ∷ [])) ≡ Play (record { end = 0; verb = Join; clock = 0 })
+a-join : lineOf (48 ∷ 32 ∷ join ++ (32 ∷ 48 ∷ [])) ≡ Play (record { end = asHost 0; verb = Join; clock = 0 })
 unfolding lineOf lineIn plainVerb laterVerb words onto same unsignedWord wellWritten valueAfter
 a-join = refl
 
 -- "0 send 10 -2"
-a-send : lineOf (48 ∷ 32 ∷ send ++ (32 ∷ 49 ∷ 48 ∷ 32 ∷ 45 ∷ 50 ∷ [])) ≡ Play (record { end = 0; verb = Send (negsuc 1); clock = 10 })
+a-send : lineOf (48 ∷ 32 ∷ send ++ (32 ∷ 49 ∷ 48 ∷ 32 ∷ 45 ∷ 50 ∷ [])) ≡ Play (record { end = asHost 0; verb = Send (negsuc 1); clock = 10 })
 unfolding lineOf lineIn verbWith words onto same signedWord unsignedWord wellWritten allDigits valueAfter
 a-send = refl
 
 -- "1 hear 12 0"
-a-hear : lineOf (49 ∷ 32 ∷ hear ++ (32 ∷ 49 ∷ 50 ∷ 32 ∷ 48 ∷ [])) ≡ Play (record { end = 1; verb = Hear 0; clock = 12 })
+a-hear : lineOf (49 ∷ 32 ∷ hear ++ (32 ∷ 49 ∷ 50 ∷ 32 ∷ 48 ∷ [])) ≡ Play (record { end = asHost 1; verb = Hear 0; clock = 12 })
 unfolding lineOf lineIn verbWith words onto same unsignedWord wellWritten allDigits valueAfter
 a-hear = refl
 
 -- "1 report 7"
-a-report : lineOf (49 ∷ 32 ∷ report ++ (32 ∷ 55 ∷ [])) ≡ Play (record { end = 1; verb = Report; clock = 7 })
+a-report : lineOf (49 ∷ 32 ∷ report ++ (32 ∷ 55 ∷ [])) ≡ Play (record { end = asHost 1; verb = Report; clock = 7 })
 unfolding lineOf lineIn plainVerb laterVerb words onto same unsignedWord wellWritten valueAfter
 a-report = refl
 
@@ -34,7 +35,7 @@ largest : List ℕ
 largest = 49 ∷ 56 ∷ 52 ∷ 52 ∷ 54 ∷ 55 ∷ 52 ∷ 52 ∷ 48 ∷ 55 ∷ 51 ∷ 55 ∷ 48 ∷ 57 ∷ 53 ∷ 53 ∷ 49 ∷ 54 ∷ 49 ∷ 53 ∷ []
 
 longest : lineOf (49 ∷ 32 ∷ send ++ (32 ∷ largest ++ (32 ∷ 45 ∷ 51 ∷ 50 ∷ 55 ∷ 54 ∷ 56 ∷ [])))
-    ≡ Play (record { end = 1; verb = Send (negsuc 32767); clock = 18446744073709551615 })
+    ≡ Play (record { end = asHost 1; verb = Send (negsuc 32767); clock = 18446744073709551615 })
 unfolding lineOf lineIn verbWith words onto same signedWord unsignedWord wellWritten allDigits valueAfter largest
 longest = refl
 

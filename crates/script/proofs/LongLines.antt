@@ -10,6 +10,7 @@ use lib.Dec.{ltb, eqb}
 use lib.ListN.{length}
 use borrow.Author.Tests.{ltb-true}
 use Rattle.numbers.proofs.Cases.{by-flag, by-order}
+use Rattle.message.specs.Entry.{asHost}
 use Rattle.decimal.specs.declared.Unsigned.{Unsigned}
 use Rattle.decimal.specs.declared.Unsigned.the-variants.{Number, NoNumber}
 use Rattle.decimal.specs.declared.Signed.{Signed}
@@ -111,7 +112,7 @@ parts : (e : Unsigned) (v : VerbWord) (t : Unsigned) (k : Call) → callOf e v t
 unfolding Parts
 parts (Number n) (Is v) (Number m) k h =
     by-flag (ltb n 2)
-    (λ t. let e : Play (record { end = n; verb = v; clock = m }) ≡ Play k = rw t at h in (n, m, refl, ltb-true n 2 t, (cc), refl))
+    (λ t. let e : Play (record { end = asHost n; verb = v; clock = m }) ≡ Play k = rw t at h in (n, m, refl, ltb-true n 2 t, (cc), refl))
     (λ f. let e : Malformed ≡ Play k = rw f at h in absurd (let w : _≡_ {A = ℕ} 0 1 = cc in omega arith))
 parts (Number n) (Is v) NoNumber k h = absurd (let w : _≡_ {A = ℕ} 0 1 = cc in omega arith)
 parts (Number n) NoVerb t k h = absurd (let w : _≡_ {A = ℕ} 0 1 = cc in omega arith)

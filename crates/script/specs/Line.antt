@@ -7,6 +7,7 @@ use mathlib.Core.List.{List, [], _∷_}
 use Prim.Native.Nat.{ℕ}
 use lib.Dec.{ltb, leb}
 use lib.ListN.{length}
+use Rattle.message.specs.Entry.{asHost}
 use Rattle.decimal.specs.declared.Unsigned.{Unsigned}
 use Rattle.decimal.specs.declared.Unsigned.the-variants.{Number, NoNumber}
 use Rattle.decimal.specs.declared.Signed.{Signed}
@@ -74,9 +75,9 @@ hearOf NoNumber = NoVerb
 unfoldable pub verbWith : List ℕ → List ℕ → VerbWord
 verbWith v x = cond (same v send) (sendOf (signedWord x)) (cond (same v hear) (hearOf (unsignedWord x)) NoVerb)
 
--- an end, 0 or 1, with a verb and a clock
+-- an end, host 0 or 1, with a verb and a clock
 abbrev pub callAt : ℕ → Verb → ℕ → Line
-callAt e v t = cond (ltb e 2) (Play (record { end = e; verb = v; clock = t })) Malformed
+callAt e v t = cond (ltb e 2) (Play (record { end = asHost e; verb = v; clock = t })) Malformed
 
 abbrev pub callOf : Unsigned → VerbWord → Unsigned → Line
 callOf (Number e) (Is v) (Number t) = callAt e v t

@@ -2,6 +2,7 @@
 // means).
 use decimal::Signed;
 use decimal::Unsigned;
+use message::Host;
 ghost use mathlib.Core.Path.{_≡_};
 ghost use mathlib.Core.Bool.{cond};
 ghost use Prim.Native.Nat.{_≤_, _<_};
@@ -30,9 +31,9 @@ pub enum VerbWord {
     NoVerb,
 }
 
-// A line's end, 0 or 1, with its verb and its clock.
+// A line's end, host 0 or 1, with its verb and its clock.
 pub struct Call {
-    pub end: u8,
+    pub end: Host,
     pub verb: Verb,
     pub clock: u64,
 }
@@ -146,7 +147,7 @@ fn call_at(end: u64, verb: Verb, clock: u64) -> Line
 {
     if end < 2 {
         Line::Play(Call {
-            end: end as u8,
+            end: Host(end as u8),
             verb,
             clock,
         })

@@ -1,29 +1,25 @@
 -- `answers::put_line` meets its contract: the pieces are one write, of at most fifty bytes.
 use native.Mathlib.Omega.{arith}
 use Rattle.answers.specs.AnswerLine.{answerLine}
-use Rattle.answers.proofs.PutLaws.{put-both, line-put, no-line}
+use Rattle.answers.proofs.PutLaws.{put-both}
 use borrow.Author.Needs.{needs}
 use Rattle.answers.proofs.put_line.Statement.{statement}
 use Rattle.answers.proofs.put_line.Tie as tie
 
 returns : tie.Need-returns
-returns c = no-line (omega arith)
-
-returns-2 : tie.Need-returns-2
 unfolding answerLine
-returns-2 c =
+returns c =
     let t = c .before .before in
     let s = t .before .before .before .before in
     let q = put-both {most = 46} (s .spaced-clock .ensures) (t .put-ending .ensures) (omega arith) (omega arith) in
-    line-put (put-both {most = 50} (s .before .before .before .before .spaced .ensures) q (omega arith) (omega arith)) (omega arith)
+    put-both (s .before .before .before .before .spaced .ensures) q (omega arith) (omega arith)
 
 pub put-line-spec : {M : Type 1} → statement M
 put-line-spec =
     tie.close
     (tie.spec
-    returns
     (λ c κs. search needs)
     (λ c κs. search needs)
     (λ c κs. search needs)
     (λ c. search needs)
-    returns-2)
+    returns)

@@ -1,20 +1,19 @@
--- `house::main` is safe and ends: the measure is the number of turns that are left.
+-- `house::main` is safe and ends: the measure is the number of pieces that are left.
+use mathlib.Core.Path.{sym}
 use native.Mathlib.Omega.{arith}
+use lib.Seq.{length-take-le}
 use borrow.Author.Needs.{needs}
 use Rattle.house.proofs.main.Statement.{statement}
 use Rattle.house.proofs.main.Tie as tie
 
 abbrev Inv-loop : tie.InvT-loop
-Inv-loop house₀ places₀ sizes₀ input₀ place₀ line₀ out₀ turns₀ house places sizes input place line out turns = Unit {0}
+Inv-loop playing₀ pieces₀ playing pieces = Unit {0}
 
 abbrev μ-loop : tie.MeasureT-loop
-μ-loop house₀ places₀ sizes₀ input₀ place₀ line₀ out₀ turns₀ house places sizes input place line out turns = turns
+μ-loop playing₀ pieces₀ playing pieces = pieces
 
 loop-less : tie.Need-loop-less Inv-loop μ-loop
-loop-less c =
-    let p = c .before .before .before .before .before in
-    let q = p .before .before .before .before .before in
-    omega (arith, q .before .before .before .before .before .loop-test .taken)
+loop-less c = omega (arith, c .before .before .before .before .loop-test .taken)
 
 pub main-spec : {M : Type 1} → statement M
 main-spec =
@@ -22,15 +21,14 @@ main-spec =
     (tie.spec
     Inv-loop
     μ-loop
-    (λ c κs. tt)
+    (λ c κs. search needs)
     (λ c. tt)
     (λ c. omega arith)
-    (λ c κs. tt)
-    (λ c κs. tt)
-    (λ c. search needs)
-    (λ c. search needs)
-    (λ c κs. tt)
+    (λ c κs. search needs)
     loop-less
     (λ c. tt)
-    (λ c κs. tt)
+    (λ c κs. search needs)
+    (λ c. omega (arith, c .finish .ensures .1 .1))
+    (λ c. sym (length-take-le _ _ (omega (arith, c .before .finish .ensures .1 .1))))
+    (λ c κs. search needs)
     (λ c. tt))

@@ -1,23 +1,23 @@
 -- `lines::take_line` meets its contract. What is left of the bytes, taken into the line so far, is what the whole gives.
 use mathlib.Core.Path.{_≡_, refl, sym, ap, _∙_}
 use mathlib.Core.List.{List}
-use Prim.Native.Nat.{ℕ, _+_, _-_, _<_}
+use Prim.Native.Nat.{ℕ, _+_, _-_}
 use native.Mathlib.Omega.{arith}
-use lib.ListN.{length, take, drop}
+use lib.ListN.{length, drop, drop-of-length-le}
 use Rattle.lines.specs.declared.Fed.the-variants.{Whole, TooLong}
 use Rattle.lines.specs.Cut.{cutOf, lineCut}
-use Rattle.lines.proofs.CutLaws.{inside, outside, cut-more, cut-ended}
+use Rattle.lines.proofs.CutLaws.{cut-more, cut-ended}
 use borrow.Author.Needs.{needs}
 use Rattle.lines.proofs.take_line.Statement.{statement}
 use Rattle.lines.proofs.take_line.Tie as tie
 
 abbrev Inv-loop : tie.InvT-loop
-Inv-loop buffer from until line₀ len at₀ n₀ line at n =
-    (cutOf (drop at (take until buffer)) at n ≡ cutOf (drop from (take until buffer)) from len)
-    × (lineCut (drop at (take until buffer)) n line ≡ lineCut (drop from (take until buffer)) len line₀)
+Inv-loop piece from line₀ len at₀ n₀ line at n =
+    (cutOf (drop at piece) at n ≡ cutOf (drop from piece) from len)
+    × (lineCut (drop at piece) n line ≡ lineCut (drop from piece) len line₀)
 
 abbrev μ-loop : tie.MeasureT-loop
-μ-loop buffer from until line₀ len at₀ n₀ line at n = length buffer - at
+μ-loop piece from line₀ len at₀ n₀ line at n = length piece - at
 
 -- a byte was fed: the turn that it was fed in, the byte's place and what it was taken from
 abbrev turn : tie.After-feed Inv-loop μ-loop → tie.At-loop Inv-loop μ-loop
@@ -26,66 +26,38 @@ turn f = f .before .before .before .before
 abbrev place : tie.After-feed Inv-loop μ-loop → ℕ
 place f = turn f .loop .at
 
-abbrev end : tie.After-feed Inv-loop μ-loop → ℕ
-end f = turn f .before .before .args .until
-
 abbrev bytes : tie.After-feed Inv-loop μ-loop → List ℕ
-bytes f = turn f .before .before .args .buffer .now
-
-there : (f : tie.After-feed Inv-loop μ-loop) → (place f < end f) × (place f < length (bytes f))
-there f = inside (place f) (end f) (length (bytes f)) (f .before .before .before .loop-test .taken)
-
-loop-holds : tie.Need-loop-holds Inv-loop μ-loop
-loop-holds c = (refl, refl)
-
-shared-slice-read-b : tie.Need-shared-slice-read-b Inv-loop μ-loop
-shared-slice-read-b c = inside _ _ _ (c .before .loop-test .taken) .1
-
-add-at : tie.Need-add-at Inv-loop μ-loop
-add-at c =
-    let t = c .before .before in
-    let a = t .before .before .args in
-    let h = inside (t .loop .at) (a .until) (length (a .buffer .now)) (c .before .loop-test .taken) .1 in
-    omega arith
-
-loop-less : tie.Need-loop-less Inv-loop μ-loop
-loop-less c =
-    let h = there (c .before .before .before) .1 in
-    omega arith
+bytes f = turn f .before .before .args .piece .now
 
 loop-again : tie.Need-loop-again Inv-loop μ-loop
 loop-again c =
     let f = c .before .before .before in
     let l = turn f .loop in
-    let h = there f in
     let x = c .before .m .given in
-    let p = cut-more (bytes f) (end f) (place f) (l .n) (l .line) (h .0) (h .1) (x .0 .0) (sym (f .feed .ensures .0) ∙ x .1) in
-    (p .0 ∙ l .inv .0, ap (lineCut (drop (place f + 1) (take (end f) (bytes f))) (x .0 .0)) (f .feed .ensures .1) ∙ p .1 ∙ l .inv .1)
+    let p = cut-more (bytes f) (place f) (l .n) (l .line) (omega arith) (x .0 .0) (sym (f .feed .ensures .0) ∙ x .1) in
+    (p .0 ∙ l .inv .0, ap (lineCut (drop (place f + 1) (bytes f)) (x .0 .0)) (f .feed .ensures .1) ∙ p .1 ∙ l .inv .1)
 
 returns : tie.Need-returns Inv-loop μ-loop
 returns c =
     let f = c .before .before .before in
     let l = turn f .loop in
-    let h = there f in
     let x = c .before .m2 .given in
-    let p = cut-ended (bytes f) (end f) (place f) (l .n) (l .line) (h .0) (h .1) (Whole (x .0 .0)) (λ A y z. refl) (sym (f .feed .ensures .0) ∙ x .1) in
+    let p = cut-ended (bytes f) (place f) (l .n) (l .line) (omega arith) (Whole (x .0 .0)) (λ A y z. refl) (sym (f .feed .ensures .0) ∙ x .1) in
     (p .0 ∙ l .inv .0, f .feed .ensures .1 ∙ p .1 ∙ l .inv .1)
 
 returns-2 : tie.Need-returns-2 Inv-loop μ-loop
 returns-2 c =
     let f = c .before .before in
     let l = turn f .loop in
-    let h = there f in
-    let p = cut-ended (bytes f) (end f) (place f) (l .n) (l .line) (h .0) (h .1) TooLong (λ A y z. refl) (sym (f .feed .ensures .0) ∙ c .enum-told .given .1) in
+    let p = cut-ended (bytes f) (place f) (l .n) (l .line) (omega arith) TooLong (λ A y z. refl) (sym (f .feed .ensures .0) ∙ c .enum-told .given .1) in
     (p .0 ∙ l .inv .0, f .feed .ensures .1 ∙ p .1 ∙ l .inv .1)
 
 returns-3 : tie.Need-returns-3 Inv-loop μ-loop
 unfolding cutOf lineCut
 returns-3 c =
     let t = c .before in
-    let a = t .before .before .args in
     let l = t .loop in
-    let none = outside (a .buffer .now) (a .until) (l .at) (c .loop-test .left) in
+    let none = drop-of-length-le (t .before .before .args .piece .now) {i = l .at} (omega arith) in
     (sym (ap (λ (s : List ℕ). cutOf s (l .at) (l .n)) none) ∙ l .inv .0, sym (ap (λ (s : List ℕ). lineCut s (l .n) (l .line)) none) ∙ l .inv .1)
 
 pub take-line-spec : {M : Type 1} → statement M
@@ -94,12 +66,12 @@ take-line-spec =
     (tie.spec
     Inv-loop
     μ-loop
-    loop-holds
-    shared-slice-read-b
-    add-at
+    (λ c. (refl, refl))
+    (λ c. omega arith)
+    (λ c. omega arith)
     (λ c κs. search needs)
     (λ c. search needs)
-    loop-less
+    (λ c. omega arith)
     loop-again
     (λ c. search needs)
     returns

@@ -31,7 +31,7 @@ returns-3 c =
     let f = c .before .read-i16 in
     let fits : SFits w16 (f .result) = search needs in
     let focus = toZ-ofZ fits ∙ f .ensures in
-    tells _ _ (c .before .before .before .answer3 .given .1) (omega arith) (rw focus at (c .shows2 .ensures)) refl (λ _. refl)
+    tells _ _ (c .before .before .before .before .before .answer3 .given .1) (omega arith) (rw focus at (c .shows2 .ensures)) refl (λ _. refl)
 
 returns-4 : tie.Need-returns-4
 unfolding printedFor messagesFor

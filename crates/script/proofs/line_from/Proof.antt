@@ -4,7 +4,10 @@ use Rattle.script.proofs.line_from.Statement.{statement}
 use Rattle.script.proofs.line_from.Tie as tie
 
 returns-4 : tie.Need-returns-4
-returns-4 c = cc
+returns-4 c =
+    let t = c .before .before in
+    let v = t .before .before .before in
+    rw (v .before .before .before .e .given .1, v .v .given .1, t .t .given .1) (c .call-at .ensures)
 
 pub line-from-spec : {M : Type 1} → statement M
 line-from-spec =

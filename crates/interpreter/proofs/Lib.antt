@@ -1,0 +1,5 @@
+pub mod CutLaws
+pub mod FeedLaws
+pub mod HouseLaws
+pub mod Pieces
+pub mod PlayLaws

@@ -1,0 +1,2 @@
+pub mod Interpreter
+pub mod Promise

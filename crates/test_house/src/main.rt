@@ -149,6 +149,12 @@ fn same(a: &[u8], b: &[u8], n: usize) -> bool {
     true
 }
 
+fn show(bytes: &[u8], n: usize) {
+    if n <= bytes.len() {
+        io::write_all(STDOUT_FILENO, &bytes[..n]);
+    }
+}
+
 // Plays one script, and prints what it gives in pieces of every size.
 fn play_script(script: &[u8]) {
     let mut single = [0u8; 16384];
@@ -160,7 +166,7 @@ fn play_script(script: &[u8]) {
     let first = same(&single, &whole, c);
     let second = same(&seven, &whole, c);
     if (a == c) & (b == c) & first & second {
-        io::write_all(STDOUT_FILENO, &whole[..c]);
+        show(&whole, c);
     } else {
         io::write_all(STDOUT_FILENO, b"pieces differ\n");
     }

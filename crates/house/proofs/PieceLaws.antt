@@ -38,8 +38,7 @@ output-size {s} {piece} {before} {output} {r} f =
     ap length (f .output-is) ∙ length-splice 0 (prints s (take (r .taken) piece)) before (omega (arith, f .size, f .inside))
 
 module _ {s : Standing} {piece before output : List ℕ} {r : Progress} (f : Feeds s piece before output r)
-  (plays : s .stopped ≡ false) (some : 0 < length piece) (room : widest ≤ length before) where
-
+    (plays : s .stopped ≡ false) (some : 0 < length piece) (room : widest ≤ length before) where
   not-none : r .taken ≡ 0 → ⊥
   unfolding after prints
   not-none e =

@@ -1,9 +1,9 @@
 // Plays a script from standard input on two ends, hosts 0 and 1, and prints what they answer: document 01, "Cases". Here it is only read
 // and written: what a piece of the script prints, and where the script stands then, is proved of `interpreter::feed` and `finish`.
-use libc::STDIN_FILENO;
-use libc::STDOUT_FILENO;
 use interpreter::Playing;
 use interpreter::Progress;
+use libc::STDIN_FILENO;
+use libc::STDOUT_FILENO;
 ghost use mathlib.Core.Path.{_≡_};
 ghost use mathlib.Core.Bool.{false};
 ghost use Prim.Native.Nat.{_≤_, _<_};

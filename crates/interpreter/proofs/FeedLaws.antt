@@ -65,8 +65,7 @@ goes-on at piece used output stopped h =
 -- ---- one line more, and the end
 
 module _ {s : Standing} {piece before : List ℕ} {pair : Pair} {line : List ℕ} {len : ℕ} {stopped : Bool} {at used : ℕ} {output : List ℕ}
-  (f : SoFar s piece before pair line len stopped at used output) where
-
+    (f : SoFar s piece before pair line len stopped at used output) where
   pub all-taken : goes at piece used output stopped ≡ false
       → Feeds s piece before output (record { playing = record { pair = pair; line = line; len = len; stopped = stopped }; taken = at; used = used })
   all-taken h =
@@ -88,9 +87,8 @@ module _ {s : Standing} {piece before : List ℕ} {pair : Pair} {line : List ℕ
       }
 
   module _ {c : Cut} {kept output′ : List ℕ} {r : Turned} (g : Goes at piece used output stopped)
-    (is-cut : c ≡ cutOf (drop at piece) at len) (is-kept : kept ≡ lineCut (drop at piece) len line)
-    (t : Turns (c .fed) kept (houseIn pair) used output output′ r) where
-
+      (is-cut : c ≡ cutOf (drop at piece) at len) (is-kept : kept ≡ lineCut (drop at piece) len line)
+      (t : Turns (c .fed) kept (houseIn pair) used output output′ r) where
     cut : Cuts (drop at piece) at len line (houseIn pair) c kept
     cut =
         subst (λ (x : Cut). Cuts (drop at piece) at len line (houseIn pair) x kept) (sym is-cut)

@@ -76,10 +76,10 @@ fn judged(n: &mut [usize; 20], met: bool) -> bool {
 // Whether the answer is another than the line expects.
 fn is_wrong(line: &[u8; 1000], p: Parts, text: &[u8; 65536], n: &mut [usize; 20]) -> bool {
     if p.expects {
-        return judged(
-            n,
-            is_met(line, p.from, p.to, text, n[desk::FROM], n[desk::TO]),
-        );
+        let from = n[desk::FROM];
+        let to = n[desk::TO];
+        let met = is_met(line, p.from, p.to, text, from, to);
+        return judged(n, met);
     }
     false
 }
@@ -146,6 +146,15 @@ fn keep(line: &[u8; 1000], from: usize, store: &mut [u8; 17408]) {
     }
 }
 
+// One more than how many bytes a heading has from a place on, 0 where it has none. A line has at most 1,000.
+fn heading_length(len: usize, from: usize) -> usize {
+    if from <= len {
+        (len - from) % 1000 + 1
+    } else {
+        0
+    }
+}
+
 // A heading starts: the line without its `#` and one space behind it.
 pub fn head(
     line: &[u8; 1000],
@@ -162,7 +171,7 @@ pub fn head(
             1
         };
         keep(line, from, store);
-        n[desk::HEADING] = if from <= len { len - from + 1 } else { 0 };
+        n[desk::HEADING] = heading_length(len, from);
         text::flush_much(text, n);
     }
 }

@@ -1,9 +1,9 @@
 // Plays the scripts of standard input, each on a fresh house, by the same functions as the program house. A line that starts with `next`
 // comes before each script and is printed as it is. Each script is played three times, in pieces of 1 byte, of 7 bytes, and whole; what
 // is printed must be the same. The input, and what one script prints, has at most 16384 bytes. What the scripts of the stored run are for is in SCRIPTS.md.
+use interpreter::Playing;
 use libc::STDIN_FILENO;
 use libc::STDOUT_FILENO;
-use interpreter::Playing;
 ghost use mathlib.Core.Path.{_≡_};
 ghost use Prim.Native.Nat.{_≤_, _<_};
 ghost use lib.ListN.{length};
@@ -47,10 +47,7 @@ fn is_next(text: &[u8], at: usize) -> bool
     if text.len() - at < 4 {
         return false;
     }
-    (text[at] == b'n')
-        & (text[at + 1] == b'e')
-        & (text[at + 2] == b'x')
-        & (text[at + 3] == b't')
+    (text[at] == b'n') & (text[at + 1] == b'e') & (text[at + 2] == b'x') & (text[at + 3] == b't')
 }
 
 // Where the script ends that starts at `from`: before the next line that starts with `next`, or at the end of the bytes.

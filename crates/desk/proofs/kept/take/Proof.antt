@@ -4,7 +4,6 @@ use Prim.Native.Nat.{_-_}
 use Rattle.desk.proofs.kept.take.Statement.{statement}
 use Rattle.desk.proofs.kept.take.Tie as tie
 
-
 abbrev Inv-loop : tie.InvT-loop
 Inv-loop store number bytes₀ at i₀ bytes i = Unit
 

@@ -24,7 +24,7 @@ wire-holds = (refl, (refl, (refl, (refl, (refl, (refl, (refl, (refl, tt))))))))
 
 pub timed-hold : Hold timedRows
 unfolding timedRows opened
-timed-hold = (refl, (refl, (refl, (refl, (refl, (refl, (refl, (refl, (refl, tt)))))))))
+timed-hold = (refl, (refl, (refl, (refl, (refl, (refl, (refl, (refl, (refl, (refl, (refl, (refl, (refl, (refl, (refl, tt)))))))))))))))
 
 pub quiet-holds : Hold quietRows
 unfolding quietRows opened

@@ -54,7 +54,15 @@ abbrev pub gives : Params → List Call → List Outcome → Case
 gives p calls answers = case (outcomes (seen (members p) calls)) answers
 
 -- ---- "Setting round k at clock t, F = 2^(k−1), d the distance to the source, u the draw at the cue number: due = t + F×C1×d +
--- floor(F×C2×d×u/255)": round 2 at clock 100, at 40 ms, is due at 100 + 720 + floor(640×u/255)
+-- floor(F×C2×d×u/255)", with "the wait's share is floor(.. × u/65535)" of document 02, P1: round 1 at clock 32, at 40 ms, is due at
+-- 32 + 360 + floor(320×u/65535)
+abbrev pub gap : ℕ → ℕ → List Call
+gap u due = call 1 12 (Arrival message0) ∷ drawn 1 u (call 1 32 (Arrival message2)) ∷ fires 1 due
+
+abbrev pub gapGives : ℕ → List Outcome
+gapGives due = got 0 ∷ got 2 ∷ requestOut due 1
+
+-- round 2 at clock 100 is due at 100 + 720 + floor(640×u/65535)
 abbrev pub learnt : ℕ → ℕ → List Call
 learnt u due = call 1 12 (Arrival message0) ∷ drawn 1 u (call 1 100 (asks 2 99 1)) ∷ fires 1 due
 
@@ -62,13 +70,20 @@ learnt u due = call 1 12 (Arrival message0) ∷ drawn 1 u (call 1 100 (asks 2 99
 abbrev pub again : ℕ → ℕ → List Call
 again u due = call 1 12 (Arrival message0) ∷ call 1 32 (Arrival message2) ∷ drawn 1 u (call 1 392 (Else Fire)) ∷ fires 1 due
 
--- ---- "set a reply due at t + D1×d + floor(D2×d×u/255), d to the requester": with D1 3, D2 5 and D3 8 quarters, at clock 100, at 40 ms
--- and with u 128, at 100 + 120 + 100; as it goes out "reply-quiet = t + D3×d"
+-- ---- "set a reply due at t + D1×d + floor(D2×d×u/255), d to the requester", "Requests and replies both have the new share": asked at
+-- clock 100, at 40 ms, it is due at 100 + 160 + floor(160×u/65535)
+abbrev pub answering : ℕ → ℕ → List Call
+answering u due = call 0 10 (Send minusTwo) ∷ drawn 0 u (call 0 100 (asks 1 99 0)) ∷ fires 0 due
+
+abbrev pub answeringGives : ℕ → List Outcome
+answeringGives due = Did (Out message0) ∷ Did Done ∷ repairOut due 0
+
+-- with D1 3, D2 5 and D3 8 quarters and u 32896 at 100 + 120 + 100; as it goes out "reply-quiet = t + D3×d"
 abbrev pub replyParams : Params
 replyParams = record { c1 = 9; c2 = 8; c3 = 4; d1 = 3; d2 = 5; d3 = 8 }
 
 abbrev pub replied : List Call
-replied = call 0 10 (Send minusTwo) ∷ drawn 0 128 (call 0 100 (asks 1 99 0)) ∷ fires 0 320 ++ asked 0 640 0
+replied = call 0 10 (Send minusTwo) ∷ drawn 0 32896 (call 0 100 (asks 1 99 0)) ∷ fires 0 320 ++ asked 0 640 0
 
 -- ---- "an echo of oneself, by that echo's stamp and held ticks, with e = clock − stamp − held ≥ 0 sets the distance to the sender to
 -- floor(e/8), brought into 1..1000": then a gap, name 0,1, is due 9×d after the clock
@@ -99,10 +114,17 @@ reportedFirst =
 
 unfoldable pub timedRows : List Case
 timedRows =
-    -- draws of 255 and 100
-    gives houseParams (learnt 255 1460) (got 0 ∷ Did Done ∷ requestOut 1460 1)
-    ∷ gives houseParams (learnt 100 1070) (got 0 ∷ Did Done ∷ requestOut 1070 1)
-    ∷ gives houseParams (again 255 1752) (got 0 ∷ got 2 ∷ Did (Out (about RQST 1 392 1 1 [])) ∷ requestOut 1752 1)
+    -- round 1 and a reply at the draws 0, 32768 and 65535
+    gives houseParams (gap 0 392) (gapGives 392)
+    ∷ gives houseParams (gap 32768 552) (gapGives 552)
+    ∷ gives houseParams (gap 65535 712) (gapGives 712)
+    ∷ gives houseParams (answering 0 260) (answeringGives 260)
+    ∷ gives houseParams (answering 32768 340) (answeringGives 340)
+    ∷ gives houseParams (answering 65535 420) (answeringGives 420)
+    -- round 2 at the draws 65535 and 25700
+    ∷ gives houseParams (learnt 65535 1460) (got 0 ∷ Did Done ∷ requestOut 1460 1)
+    ∷ gives houseParams (learnt 25700 1070) (got 0 ∷ Did Done ∷ requestOut 1070 1)
+    ∷ gives houseParams (again 65535 1752) (got 0 ∷ got 2 ∷ Did (Out (about RQST 1 392 1 1 [])) ∷ requestOut 1752 1)
     ∷ gives replyParams replied (Did (Out message0) ∷ Did Done ∷ repairOut 320 0 ++ quietTo)
     -- "e = 80 gives 10 ms; e = 0 gives 1"; below 0 nothing is set; e = 9000 gives 1000 ms
     ∷ gives houseParams (measuring 15 5 100 10) (measuringGives 100 10)

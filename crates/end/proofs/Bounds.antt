@@ -3,6 +3,7 @@
 use Prim.Native.Nat.{ℕ, _+_, _-_, _*_, _≤_, _<_}
 use native.Mathlib.Nat.{mul-le-mul, pow-le-pow-right}
 use native.Mathlib.Omega.{arith}
+use mathlib.Core.Path.{_≡_}
 use mathlib.Core.List.{List}
 use Rattle.end.specs.declared.Moment.{Moment}
 use Rattle.end.specs.Round.{mostDraw, drawAt, factor, share, requestAt, nextRound, replyDue, quietAfterReply, halfTrip}
@@ -22,7 +23,22 @@ factor-least k = pow-le-pow-right {n = 2} (omega arith) {i = 0} {j = k - 1} (ome
 pub round-next : (k : ℕ) → 1 ≤ k → (1 ≤ nextRound k) × (nextRound k ≤ 16)
 round-next k h = (omega arith, omega arith)
 
--- a draw takes at most the whole wait
+-- the laws of `share`: nothing for draw 0, the whole wait for the greatest, never above the wait, never falling in the draw. Nothing
+-- else looks into it.
+pub share-none : (x : ℕ) → share x 0 ≡ 0
+unfolding share
+share-none x = omega arith
+
+pub share-whole : (x : ℕ) → share x mostDraw ≡ x
+unfolding share
+share-whole x = omega arith
+
+pub share-rises : (x u v : ℕ) → u ≤ v → share x u ≤ share x v
+unfolding share
+share-rises x u v h =
+    let p : x * u ≤ x * v = mul-le-mul (omega arith) h in
+    omega arith
+
 pub share-most : (x u : ℕ) → u ≤ mostDraw → share x u ≤ x
 unfolding share
 share-most x u h =

@@ -7,12 +7,12 @@ use Rattle.end.specs.declared.Request.{Request}
 use Rattle.end.specs.declared.Moment.{Moment}
 use Rattle.end.specs.Records.{place}
 
--- "64 draws, one byte each": how many they are, and the greatest value of one
+-- "Draws become 64 numbers of 16 bits" (document 02, P1): how many they are, and the greatest value of one
 abbrev pub drawCount : ℕ
 drawCount = 64
 
 abbrev pub mostDraw : ℕ
-mostDraw = 255
+mostDraw = 65535
 
 -- draws of their declared type
 abbrev pub Drawn : List ℕ → Type 0
@@ -26,11 +26,11 @@ drawAt us n = getD us (place n) 0
 unfoldable pub factor : ℕ → ℕ
 factor k = 2 ^ (k - 1)
 
--- the share of a wait that a draw takes: "floor(F×C2×d×u/255)"
+-- "the wait's share is floor(.. × u/65535)" (document 02, P1)
 unfoldable pub share : ℕ → ℕ → ℕ
 share wait u = wait * u / mostDraw
 
--- "due = t + F×C1×d + floor(F×C2×d×u/255); quiet-until = t + F×C3×d"
+-- "due = t + F×C1×d + floor(F×C2×d×u/255); quiet-until = t + F×C3×d", with the share of document 02
 abbrev pub requestWith : Moment → ℕ → ℕ → ℕ → Request
 requestWith t u d k = record {
   round = k;
@@ -45,7 +45,8 @@ requestAt t us d n k = requestWith t (drawAt us n) d k
 abbrev pub nextRound : ℕ → ℕ
 nextRound k = min (k + 1) 16
 
--- "a reply due at t + D1×d + floor(D2×d×u/255), d to the requester"
+-- "a reply due at t + D1×d + floor(D2×d×u/255), d to the requester", with the share of document 02: "Requests and replies both have the
+-- new share"
 abbrev pub replyWith : Moment → ℕ → ℕ → ℕ
 replyWith t u d = t .clock + t .params .d1 * d + share (t .params .d2 * d) u
 

@@ -6,8 +6,8 @@ use message::Host;
 use message::Name;
 use message::Verdict;
 
-// A draw: which share of a wait is taken.
-pub type Draw = u8;
+// A draw, a number of 16 bits: which share of a wait is taken.
+pub type Draw = u16;
 
 // A call brings so many draws: one for each of the numbers that an end keeps of a source.
 pub const DRAWS: usize = 64;

@@ -52,7 +52,7 @@ use Rattle.guarantees.specs.Waits.{waitIn, waitAt}
 use Rattle.guarantees.specs.Records.{slotOf, clearing, MayBecome, HeardAs}
 use Rattle.guarantees.specs.Arrivals.{hear}
 use Rattle.guarantees.specs.Fires.{OpenedFiringEnds, OpenedC3BelowC1}
-use Rattle.guarantees.specs.BackOff.{RoundsRise, SetNow, SetOrKept, Hearing, heardAll, OncePerQuiet, AlwaysDue, QuietIgnores, RoundsThrough, SetIn, DrawsAreBytes, CuesAreArrays, AlwaysSet, QuietBeforeDue, OneRoundPerQuiet}
+use Rattle.guarantees.specs.BackOff.{RoundsRise, SetNow, SetOrKept, Hearing, heardAll, OncePerQuiet, AlwaysDue, QuietIgnores, RoundsThrough, SetIn, DrawsFit, CuesAreArrays, AlwaysSet, QuietBeforeDue, OneRoundPerQuiet}
 use Rattle.guarantees.proofs.Names.{sound-waits, waits-inside, waiting-not, far}
 use Rattle.guarantees.proofs.Arrivals.{call-cases, member-not-crashed, held-stays, slots-as-heard}
 use Rattle.guarantees.proofs.Slots.{acts-may, slots-may-become, host-and-params-stay}
@@ -236,7 +236,7 @@ rounds-through (c ∷ cs) e h n q p hh most before through now =
     (omega (arith, one .0, rest .0), omega (arith, one .1, rest .1), rest .2)
 
 -- a request that waits after the calls waited before them, or one of them set it
-set-in : (cs : List OneCall) (e : End) (h n : ℕ) (p : Request) → DrawsAreBytes cs → h < 8 → slotOf (afterAll e cs) h n ≡ Waiting p → (slotOf e h n ≡ Waiting p) ⊎ SetIn h n p e cs
+set-in : (cs : List OneCall) (e : End) (h n : ℕ) (p : Request) → DrawsFit cs → h < 8 → slotOf (afterAll e cs) h n ≡ Waiting p → (slotOf e h n ≡ Waiting p) ⊎ SetIn h n p e cs
 set-in [] e h n p bytes hh now = inl now
 set-in (c ∷ cs) e h n p bytes hh now =
     ⊎-elim (λ here. ⊎-elim (λ kept. inl kept) (λ set. inr (inl (set, here))) (set-or-kept e (c .action) (c .clock) (c .room) (c .draws) h n p (bytes .0) hh here))
@@ -281,7 +281,7 @@ set-in-quiet (c ∷ cs) e h n q hh l other (inr s) =
     set-in-quiet cs (after e c) h n q hh (rw (kept .1) l) (ap (sameHost (asHost h)) (kept .0) ∙ other) s
 
 -- sound stays sound
-sound-through : (cs : List OneCall) (e : End) → DrawsAreBytes cs → CuesAreArrays cs → soundOf e ≡ true → soundOf (afterAll e cs) ≡ true
+sound-through : (cs : List OneCall) (e : End) → DrawsFit cs → CuesAreArrays cs → soundOf e ≡ true → soundOf (afterAll e cs) ≡ true
 sound-through [] e bytes cues s = s
 sound-through (c ∷ cs) e bytes cues s =
     sound-through cs (after e c) (bytes .1) (cues .1) (stays-sound e (c .action) (c .clock) (c .room) (c .draws) (bytes .0) (cues .0) s)

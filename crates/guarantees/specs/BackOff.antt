@@ -121,14 +121,14 @@ abbrev pub SetIn : ℕ → ℕ → Request → End → List OneCall → Type 0
 SetIn h n p e [] = ⊥
 SetIn h n p e (c ∷ cs) = (SetNow e (c .clock) (c .draws) h n p × (slotOf (after e c) h n ≡ Waiting p)) ⊎ SetIn h n p (after e c) cs
 
-abbrev pub DrawsAreBytes : List OneCall → Type 0
-DrawsAreBytes [] = Unit {0}
-DrawsAreBytes (c ∷ cs) = Drawn (c .draws) × DrawsAreBytes cs
+abbrev pub DrawsFit : List OneCall → Type 0
+DrawsFit [] = Unit {0}
+DrawsFit (c ∷ cs) = Drawn (c .draws) × DrawsFit cs
 
 -- After any calls on an end that was opened, every request that waits was set by one of them, and its due time lies within the bounds
 -- of `SetNow` from that call's clock.
 abbrev pub AlwaysSet : Type 0
-AlwaysSet = (me : Host) (params : Params) (cs : List OneCall) (h n : ℕ) (p : Request) → DrawsAreBytes cs → h < 8
+AlwaysSet = (me : Host) (params : Params) (cs : List OneCall) (h n : ℕ) (p : Request) → DrawsFit cs → h < 8
     → slotOf (afterAll (openingOf me params .end) cs) h n ≡ Waiting p → SetIn h n p (openingOf me params .end) cs
 
 -- a cue that is sent has the 24 bytes of its declared type
@@ -138,7 +138,7 @@ CuesAreArrays (c ∷ cs) = CueArray (c .action) × CuesAreArrays cs
 
 -- On such an end the quiet-until of a request lies before its due time.
 abbrev pub QuietBeforeDue : Type 0
-QuietBeforeDue = (me : Host) (params : Params) (cs : List OneCall) (h n : ℕ) (q : Request) → DrawsAreBytes cs → CuesAreArrays cs → h < 8
+QuietBeforeDue = (me : Host) (params : Params) (cs : List OneCall) (h n : ℕ) (q : Request) → DrawsFit cs → CuesAreArrays cs → h < 8
     → slotOf (afterAll (openingOf me params .end) cs) h n ≡ Waiting q → q .quiet < q .due
 
 -- none of the calls is later than t

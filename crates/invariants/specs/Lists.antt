@@ -15,7 +15,7 @@ unfoldable pub through : World → List Call → World
 through w [] = w
 through w (c ∷ cs) = through (worldAfter w (c .host) (resultOf w c)) cs
 
--- lists of calls on eight ends, with arguments of their declared types: draws are bytes, and a cue that is sent has 24 of them
+-- lists of calls on eight ends, with arguments of their declared types: draws are numbers of 16 bits, and a cue that is sent has 24 bytes
 abbrev pub Declared : List Call → Type 0
 Declared [] = Unit {0}
 Declared (c ∷ cs) = (c .host < 8) × Drawn (c .draws) × CueArray (c .action) × Declared cs

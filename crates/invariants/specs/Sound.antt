@@ -17,7 +17,7 @@ abbrev pub OpensSound : Type 0
 OpensSound = (h : Host) (p : Params) → soundOf (openingOf h p .end) ≡ true
 
 -- Every call on a sound state leaves a sound state: every event, with any bytes that arrive, refused or not. Of its arguments it takes
--- only what their declared types give: draws are bytes, and a cue that is sent has 24 of them.
+-- only what their declared types give: draws are numbers of 16 bits, and a cue that is sent has 24 bytes.
 abbrev pub StaysSound : Type 0
 StaysSound = (e : End) (a : Action) (clock room : ℕ) (draws : List ℕ) → Drawn draws → CueArray a
     → soundOf e ≡ true → soundOf (eventOf e a clock room draws .left) ≡ true

@@ -12,6 +12,7 @@ use Rattle.roundtrip.proofs.RoundTrip.{reads-back, very-bytes, rewritten, at-mo
 use Rattle.numbers.proofs.NumberLaws.{value-digits, digits-value}
 use Rattle.numbers.proofs.SignedLaws.{signed-back, two-bytes-back}
 use Rattle.message.proofs.CueLaws.{cue-fields-back}
+use Rattle.end.proofs.Bounds.{share-none, share-whole, share-most, share-rises}
 use Rattle.end.proofs.Service.Ends.{service}
 use Rattle.end.proofs.Reasons.{ignored-for-the-first-reason}
 use Rattle.cases.proofs.Shown.{service-shown}
@@ -70,6 +71,10 @@ promises = record {
     distances-stay = distances-stay;
   };
   back-off = record {
+    share-none = share-none;
+    share-whole = share-whole;
+    share-most = share-most;
+    share-rises = share-rises;
     slots-may-become = slots-may-become;
     waits-until-held = waits-until-held;
     held-until-cleared = held-until-cleared;

@@ -15,7 +15,7 @@ use Rattle.end.specs.declared.End.{End}
 use Rattle.end.specs.State.{distanceTo, withClock}
 use Rattle.end.specs.Records.{isHeld}
 use Rattle.end.specs.Sound.{timeLimit, soundOf}
-use Rattle.end.specs.Round.{Drawn, factor, requestAt}
+use Rattle.end.specs.Round.{Drawn, factor, share, requestAt}
 use Rattle.end.specs.Answer.{Out, Ignored, Did}
 use Rattle.end.specs.Arrival.{messageName}
 use Rattle.end.specs.Event.{Action, Arrival, questionOf, eventOf}
@@ -25,9 +25,14 @@ use Rattle.guarantees.specs.Calls.{momentAt, OneCall, after, afterAll}
 use Rattle.guarantees.specs.Records.{recordOf, slotOf, clearing, MayBecome}
 use Rattle.guarantees.specs.Arrivals.{hear}
 use Rattle.guarantees.specs.Fires.{fire, FireTaken}
-use Rattle.guarantees.specs.BackOff.{SetNow, Hearing, heardAll, AllBy, WaitsThrough, SetIn, DrawsAreBytes, CuesAreArrays, NoneAfter}
+use Rattle.guarantees.specs.BackOff.{SetNow, Hearing, heardAll, AllBy, WaitsThrough, SetIn, DrawsFit, CuesAreArrays, NoneAfter}
 
 pub record BackOffKept : Type 0 where
+  -- The share of a wait (document 02, P1): nothing for draw 0, the whole wait for draw 65535, never above the wait, never falling in the draw.
+  pub share-none : (wait : ℕ) → share wait 0 ≡ 0
+  pub share-whole : (wait : ℕ) → share wait 65535 ≡ wait
+  pub share-most : (wait u : ℕ) → u ≤ 65535 → share wait u ≤ wait
+  pub share-rises : (wait u v : ℕ) → u ≤ v → share wait u ≤ share wait v
   -- Every call of every event changes a slot only as `MayBecome` says.
   pub slots-may-become : (e : End) (a : Action) (clock room : ℕ) (draws : List ℕ) (h n : ℕ) → h < 8
       → MayBecome (clearing a) (momentAt e clock) draws (distanceTo e (asHost h)) n (slotOf e h n) (slotOf (eventOf e a clock room draws .left) h n)
@@ -66,10 +71,10 @@ pub record BackOffKept : Type 0 where
       → slotOf (afterAll e cs) h n ≡ Waiting p → (q .round ≤ p .round) × (p .round ≤ q .round + length cs) × (p .round ≤ 16)
   -- After any calls on an end that was opened, every request that waits was set by one of them, and its due time lies within the bounds
   -- of `SetNow` from that call's clock.
-  pub always-set : (me : Host) (params : Params) (cs : List OneCall) (h n : ℕ) (p : Request) → DrawsAreBytes cs → h < 8
+  pub always-set : (me : Host) (params : Params) (cs : List OneCall) (h n : ℕ) (p : Request) → DrawsFit cs → h < 8
       → slotOf (afterAll (openingOf me params .end) cs) h n ≡ Waiting p → SetIn h n p (openingOf me params .end) cs
   -- On such an end the quiet-until of a request lies before its due time.
-  pub quiet-before-due : (me : Host) (params : Params) (cs : List OneCall) (h n : ℕ) (q : Request) → DrawsAreBytes cs → CuesAreArrays cs → h < 8
+  pub quiet-before-due : (me : Host) (params : Params) (cs : List OneCall) (h n : ℕ) (q : Request) → DrawsFit cs → CuesAreArrays cs → h < 8
       → slotOf (afterAll (openingOf me params .end) cs) h n ≡ Waiting q → q .quiet < q .due
   -- So through any calls up to its quiet-until, Fire among them, a request that still waits is the very same: one round in a quiet time.
   -- The quiet-until lies before the due time, as on every opened end (`QuietBeforeDue`); the name waits after each of the calls.

@@ -28,7 +28,7 @@ pub record StatesKept : Type 0 where
   -- Every opening, refused or not, gives a sound state, whatever host and parameters it is given.
   pub opens-sound : (h : Host) (p : Params) → soundOf (openingOf h p .end) ≡ true
   -- Every call on a sound state leaves a sound state: every event, with any bytes that arrive, refused or not. Of its arguments it takes
-  -- only what their declared types give: draws are bytes, and a cue that is sent has 24 of them.
+  -- only what their declared types give: draws are numbers of 16 bits, and a cue that is sent has 24 bytes.
   pub stays-sound : (e : End) (a : Action) (clock room : ℕ) (draws : List ℕ) → Drawn draws → CueArray a
       → soundOf e ≡ true → soundOf (eventOf e a clock room draws .left) ≡ true
   -- After every list of calls on eight ends from openings that were not refused each of these is sound.

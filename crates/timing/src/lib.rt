@@ -10,7 +10,7 @@ ghost use Rattle.end.specs.Round.{factor, share, requestWith, nextRound, replyW
 ghost use Rattle.end.specs.Ready.{Ranges};
 
 // The greatest value of a draw.
-const MOST_DRAW: u64 = 255;
+const MOST_DRAW: u64 = 65535;
 
 // The factor of round k, worked out and not stored: 2^(k-1).
 fn round_factor(k: u8) -> u64

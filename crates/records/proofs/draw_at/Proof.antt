@@ -6,6 +6,10 @@ use Rattle.records.proofs.draw_at.Tie as tie
 place-requires : tie.Need-place-requires
 place-requires c κs = search needs
 
+-- a draw has two bytes, and where it starts is a number of 64 bits
+mul-result : tie.Need-mul-result
+mul-result c = search needs
+
 shared-slice-read-result : tie.Need-shared-slice-read-result
 shared-slice-read-result c = search needs
 
@@ -13,4 +17,4 @@ returns : tie.Need-returns
 returns c = rw (c .before .place .ensures)
 
 pub draw-at-spec : {M : Type 1} → statement M
-draw-at-spec = tie.close (tie.spec place-requires shared-slice-read-result returns)
+draw-at-spec = tie.close (tie.spec place-requires mul-result shared-slice-read-result returns)

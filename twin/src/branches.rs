@@ -1,5 +1,5 @@
-//! How often each sentence of document 01 decided something. The list below is in the
-//! document's order and mostly in its words; a rule says which of its branches was
+//! How often each sentence of document 01, and of document 02's requests, decided
+//! something. The list below is in document 01's order and mostly in the papers' words; a rule says which of its branches was
 //! taken by one call of `take`, `when` or `unless`. Nothing is counted before `count`.
 
 use std::cell::{Cell, RefCell};
@@ -176,6 +176,14 @@ branches! {
     RoundNext "next round: 2..15",
     RoundSixteen "next round: 16 after 15",
     RoundStays "next round: after 16 comes 16",
+
+    // The wait's share: document 02, P1
+    RoundNoShare "a round's share: draw 0",
+    RoundShare "a round's share: draw 1..65534",
+    RoundWholeShare "a round's share: draw 65535",
+    ReplyNoShare "a reply's share: draw 0",
+    ReplyShare "a reply's share: draw 1..65534",
+    ReplyWholeShare "a reply's share: draw 65535",
 
     // DATA
     DataNoFirst "DATA: no first: first = last = the number, Got",

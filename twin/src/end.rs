@@ -3,7 +3,7 @@
 use crate::branches::{self, take, unless, when, Branch};
 use crate::cue::Cue;
 use crate::message::{self, Echo, Message, Name, Report};
-use crate::{CLOCK_MAX, DRAWS, HOSTS, NUMBERS, OUTPUT_LEN};
+use crate::{Draw, CLOCK_MAX, DRAWS, HOSTS, NUMBERS, OUTPUT_LEN};
 
 /// "due and quiet times are below 2^48+2^32".
 pub const TIME_LIMIT: u64 = (1 << 48) + (1 << 32);
@@ -293,9 +293,15 @@ fn fresh_sources(host: u8) -> [Source; HOSTS as usize] {
     })
 }
 
-/// "floor(F×C2×d×u/255)" and "floor(D2×d×u/255)": the drawn part of a delay.
-fn drawn(longest: u64, draw: u8) -> u64 {
-    longest * u64::from(draw) / 255
+/// Document 02, P1: "the wait's share is floor(.. × u/65535)", "Requests and replies both":
+/// floor(F×C2×d×u/65535) and floor(D2×d×u/65535).
+fn share(longest: u64, draw: Draw, [none, part, whole]: [Branch; 3]) -> u64 {
+    take(match draw {
+        0 => none,
+        Draw::MAX => whole,
+        _ => part,
+    });
+    longest * u64::from(draw) / u64::from(Draw::MAX)
 }
 
 /// The opening.
@@ -446,7 +452,7 @@ impl End {
 impl End {
     /// "Each call stops at its first no. A refusal gives only its number; state, clock
     /// and buffers keep every byte."
-    pub fn event(&mut self, event: &Event, clock: u64, draws: &[u8], out: &mut [u8]) -> Answer {
+    pub fn event(&mut self, event: &Event, clock: u64, draws: &[Draw], out: &mut [u8]) -> Answer {
         match self.questions(event, clock, draws, out) {
             Err(number) => Answer::Refused(number),
             Ok(arrived) => self.unrefused(event, arrived, clock, draws, out),
@@ -458,7 +464,7 @@ impl End {
         &self,
         event: &Event,
         clock: u64,
-        draws: &[u8],
+        draws: &[Draw],
         out: &[u8],
     ) -> Result<Option<Message>, u8> {
         self.questions_of_any(clock, draws, out)?;
@@ -469,10 +475,10 @@ impl End {
         }
     }
 
-    /// "Any event: Has the output at least 128 bytes? 1. Are there 64 draws, one byte
-    /// each? 2. Is the state sound? 3. Is the clock at most 2^48−1? 4. Is it at least
-    /// the state's? 5."
-    fn questions_of_any(&self, clock: u64, draws: &[u8], out: &[u8]) -> Result<(), u8> {
+    /// "Any event: Has the output at least 128 bytes? 1. Are there 64 draws [...]? 2. Is
+    /// the state sound? 3. Is the clock at most 2^48−1? 4. Is it at least the state's?
+    /// 5."
+    fn questions_of_any(&self, clock: u64, draws: &[Draw], out: &[u8]) -> Result<(), u8> {
         message::ask(out.len() >= OUTPUT_LEN, 1)?;
         let enough = unless(draws.len() >= DRAWS, Branch::FewDraws);
         message::ask(enough && unless(draws.len() <= DRAWS, Branch::ManyDraws), 2)?;
@@ -500,7 +506,7 @@ impl End {
         event: &Event,
         arrived: Option<Message>,
         clock: u64,
-        draws: &[u8],
+        draws: &[Draw],
         out: &mut [u8],
     ) -> Answer {
         if when(self.status == Status::Crashed, Branch::CrashedIgnored) {
@@ -582,7 +588,7 @@ impl End {
     }
 
     /// "Fire: of all waits with due ≤ clock the earliest [...]. None due: Nothing."
-    fn fire(&mut self, draws: &[u8], out: &mut [u8]) -> Answer {
+    fn fire(&mut self, draws: &[Draw], out: &mut [u8]) -> Answer {
         match self.earliest_wait() {
             Some(earliest @ (due, wait, source, number)) if due <= self.clock => {
                 self.take_others_due(earliest);
@@ -637,7 +643,7 @@ impl End {
     }
 
     /// "A request goes out as RQST and its next round is set."
-    fn fire_request(&mut self, source: u8, number: u8, draws: &[u8], out: &mut [u8]) -> Answer {
+    fn fire_request(&mut self, source: u8, number: u8, draws: &[Draw], out: &mut [u8]) -> Answer {
         if let Body::Waiting(request) = self.record(source, number).body {
             take(Branch::FireRequest);
             when(request.round == LAST_ROUND, Branch::FireSixteen);
@@ -675,7 +681,7 @@ impl End {
 /// Arrivals.
 impl End {
     /// "an arrival whose sender is oneself: Ignored."
-    fn arrival(&mut self, message: &Message, draws: &[u8], out: &mut [u8]) -> Answer {
+    fn arrival(&mut self, message: &Message, draws: &[Draw], out: &mut [u8]) -> Answer {
         if when(message.sender == self.host, Branch::OwnMessage) {
             return Answer::Ignored;
         }
@@ -689,7 +695,7 @@ impl End {
 
     /// "DATA: no first: first = last = the number, Got. Below first or held: Ignored.
     /// Otherwise hold it, drop its request, Got".
-    fn data(&mut self, name: &Name, cue: Cue, draws: &[u8], out: &mut [u8]) -> Answer {
+    fn data(&mut self, name: &Name, cue: Cue, draws: &[Draw], out: &mut [u8]) -> Answer {
         const TAKES: [Branch; 3] = [Branch::DataWaiting, Branch::DataNext, Branch::DataGap];
         let kept = self.source_mut(name.source);
         if when(kept.first.is_none(), Branch::DataNoFirst) {
@@ -707,7 +713,7 @@ impl End {
 
     /// "Otherwise hold it, drop its request, Got; if it is above last, each number
     /// between gets round 1 and last rises."; "Got (name, and its cue in the first 24)".
-    fn hand_out(&mut self, name: &Name, cue: Cue, draws: &[u8], out: &mut [u8]) -> Answer {
+    fn hand_out(&mut self, name: &Name, cue: Cue, draws: &[Draw], out: &mut [u8]) -> Answer {
         self.raise_last(name.source, name.number, draws);
         self.record_mut(name.source, name.number).hold(cue);
         out[..cue.0.len()].copy_from_slice(&cue.0);
@@ -729,7 +735,7 @@ impl End {
 
     /// "RQST: no first, below first, or own above last: Ignored. Held: [...] Not held
     /// and above last: [...] Not held up to last: [...]".
-    fn rqst(&mut self, name: &Name, draws: &[u8]) -> Answer {
+    fn rqst(&mut self, name: &Name, draws: &[Draw]) -> Answer {
         const IGNORED: [Branch; 3] = [Branch::RqstNoFirst, Branch::RqstBelow, Branch::RqstOwnAbove];
         if self.out_of_reach(name, IGNORED) {
             return Answer::Ignored;
@@ -742,8 +748,14 @@ impl End {
     }
 
     /// "Held: with no reply waiting and clock ≥ reply-quiet, set a reply due at
-    /// t + D1×d + floor(D2×d×u/255), d to the requester, Done; otherwise Ignored."
-    fn rqst_held(&mut self, name: &Name, draws: &[u8]) -> Answer {
+    /// t + D1×d + floor(D2×d×u/255), d to the requester, Done; otherwise Ignored." The
+    /// share is P1's.
+    fn rqst_held(&mut self, name: &Name, draws: &[Draw]) -> Answer {
+        const SHARES: [Branch; 3] = [
+            Branch::ReplyNoShare,
+            Branch::ReplyShare,
+            Branch::ReplyWholeShare,
+        ];
         let record = self.record(name.source, name.number);
         if when(record.reply.is_some(), Branch::RqstReplyWaits)
             || when(self.clock < record.reply_quiet, Branch::RqstReplyQuiet)
@@ -756,14 +768,10 @@ impl End {
             Branch::RqstReplyOther
         });
         let d = self.distance(name.host);
-        let due = self.clock
-            + u64::from(self.params.d1) * d
-            + drawn(
-                u64::from(self.params.d2) * d,
-                draws[usize::from(name.number)],
-            );
+        let longest = u64::from(self.params.d2) * d;
+        let share = share(longest, draws[usize::from(name.number)], SHARES);
         let reply = Reply {
-            due,
+            due: self.clock + u64::from(self.params.d1) * d + share,
             requester: name.host,
         };
         self.record_mut(name.source, name.number).reply = Some(reply);
@@ -772,7 +780,7 @@ impl End {
 
     /// "Not held and above last: numbers between get round 1, this one round 2, last
     /// rises, Done." In a sound state a name in reach with nothing is one above last.
-    fn rqst_above(&mut self, name: &Name, draws: &[u8]) -> Answer {
+    fn rqst_above(&mut self, name: &Name, draws: &[Draw]) -> Answer {
         // The name is above last, so the first of the three is never taken.
         self.take_rise(name, [Branch::RqstNext, Branch::RqstNext, Branch::RqstGap]);
         self.raise_last(name.source, name.number, draws);
@@ -782,7 +790,7 @@ impl End {
 
     /// "Not held up to last: clock above quiet-until (lemma 4.24 is strict) sets the next
     /// round, Done; otherwise Ignored."
-    fn rqst_waiting(&mut self, name: &Name, request: Request, draws: &[u8]) -> Answer {
+    fn rqst_waiting(&mut self, name: &Name, request: Request, draws: &[Draw]) -> Answer {
         if when(self.clock < request.quiet_until, Branch::RqstQuiet)
             || when(self.clock == request.quiet_until, Branch::RqstAtQuiet)
         {
@@ -797,7 +805,7 @@ impl End {
     /// "REPL: Ignored as RQST's first line has it; a repair never opens a source. Not
     /// held: as DATA, Got; held: Done. Either way its waiting reply goes and reply-quiet
     /// = t + D3×d, d to the requester."
-    fn repl(&mut self, name: &Name, cue: Cue, draws: &[u8], out: &mut [u8]) -> Answer {
+    fn repl(&mut self, name: &Name, cue: Cue, draws: &[Draw], out: &mut [u8]) -> Answer {
         const IGNORED: [Branch; 3] = [Branch::ReplNoFirst, Branch::ReplBelow, Branch::ReplOwnAbove];
         if self.out_of_reach(name, IGNORED) {
             return Answer::Ignored;
@@ -823,7 +831,7 @@ impl End {
 
     /// "SESS: Done. For each report [...]. After that, an echo of oneself [...]. The
     /// sender's stamp is kept as heard now."
-    fn sess(&mut self, message: &Message, draws: &[u8]) -> Answer {
+    fn sess(&mut self, message: &Message, draws: &[Draw]) -> Answer {
         for report in &message.reports {
             self.hear_report(report, draws);
         }
@@ -842,19 +850,18 @@ impl End {
 
     /// "For each report of another, opened source above its last, the new numbers get
     /// round 1 and last rises."
-    fn hear_report(&mut self, report: &Report, draws: &[u8]) {
+    fn hear_report(&mut self, report: &Report, draws: &[Draw]) {
         if when(report.source == self.host, Branch::SessOwn) {
             return;
         }
         let kept = self.source(report.source);
-        take(if kept.first.is_none() {
-            Branch::SessNoFirst
-        } else if kept.is_above_last(report.last) {
-            Branch::SessRises
-        } else {
-            Branch::SessAtMost
-        });
+        let above = kept.is_above_last(report.last);
+        if when(kept.first.is_none(), Branch::SessNoFirst) || when(!above, Branch::SessAtMost) {
+            return;
+        }
+        take(Branch::SessRises);
         self.raise_last(report.source, report.last, draws);
+        self.set_round(report.source, report.last, 1, draws);
     }
 
     /// "an echo of oneself, by that echo's stamp and held ticks, with e = clock − stamp −
@@ -878,23 +885,25 @@ impl End {
 
 /// What the events share.
 impl End {
-    /// "the new numbers get round 1 and last rises", where the source is opened and the
-    /// number is above its last; else nothing. An arrived cue or a request's round 2 then
-    /// takes the place of the new last's own round 1.
-    fn raise_last(&mut self, source: u8, to: u8, draws: &[u8]) {
+    /// "each number between gets round 1 and last rises", where the source is opened and
+    /// the number is above its last; else nothing. The new last's own record is the
+    /// caller's to fill: with an arrived cue, a request's round 2 or a report's round 1.
+    fn raise_last(&mut self, source: u8, to: u8, draws: &[Draw]) {
         let Some(last) = self.source(source).last.filter(|&last| last < to) else {
             return;
         };
         for number in last + 1..=to {
             // Nothing was kept of it: its record starts blank, free cue bytes too.
             *self.record_mut(source, number) = Record::EMPTY;
+        }
+        for number in last + 1..to {
             self.set_round(source, number, 1, draws);
         }
         self.source_mut(source).last = Some(to);
     }
 
     /// The round after the one that waits.
-    fn set_next_round(&mut self, source: u8, number: u8, request: Request, draws: &[u8]) {
+    fn set_next_round(&mut self, source: u8, number: u8, request: Request, draws: &[Draw]) {
         take(match request.next_round() {
             LAST_ROUND if request.round == LAST_ROUND => Branch::RoundStays,
             LAST_ROUND => Branch::RoundSixteen,
@@ -905,13 +914,19 @@ impl End {
 
     /// "Setting round k at clock t, F = 2^(k−1), d the distance to the source, u the draw
     /// at the cue number: due = t + F×C1×d + floor(F×C2×d×u/255); quiet-until = t +
-    /// F×C3×d (001, lemma 4.24: for every round)."
-    fn set_round(&mut self, source: u8, number: u8, round: u8, draws: &[u8]) {
+    /// F×C3×d (001, lemma 4.24: for every round)." The share is P1's.
+    fn set_round(&mut self, source: u8, number: u8, round: u8, draws: &[Draw]) {
+        const SHARES: [Branch; 3] = [
+            Branch::RoundNoShare,
+            Branch::RoundShare,
+            Branch::RoundWholeShare,
+        ];
         let fd = (1 << (round - 1)) * self.distance(source);
-        let drawn = drawn(fd * u64::from(self.params.c2), draws[usize::from(number)]);
+        let longest = fd * u64::from(self.params.c2);
+        let share = share(longest, draws[usize::from(number)], SHARES);
         let request = Request {
             round,
-            due: self.clock + fd * u64::from(self.params.c1) + drawn,
+            due: self.clock + fd * u64::from(self.params.c1) + share,
             quiet_until: self.clock + fd * u64::from(self.params.c3),
         };
         self.record_mut(source, number).body = Body::Waiting(request);

@@ -1,5 +1,5 @@
-//! A twin of the cue link: document 01 read a second time and written down as
-//! plain Rust, so that another implementation can be compared with it call by
+//! A twin of the cue link: document 01, with the requests of document 02 that have
+//! landed, read a second time and written down as plain Rust, so that another implementation can be compared with it call by
 //! call. It favours being easy to hold against the document over being fast.
 //!
 //! Host numbers and cue numbers are both plain `u8` here, because a state must be
@@ -31,5 +31,8 @@ pub const CLOCK_MAX: u64 = (1 << 48) - 1;
 /// "Has the output at least 128 bytes?"
 pub const OUTPUT_LEN: usize = 128;
 
-/// "Are there 64 draws, one byte each?"
+/// "Are there 64 draws", by document 02, P1, "64 numbers of 16 bits".
 pub const DRAWS: usize = 64;
+
+/// A draw: one of the "numbers of 16 bits".
+pub type Draw = u16;

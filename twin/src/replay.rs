@@ -10,9 +10,9 @@ use crate::digest::digest;
 use crate::end::{Answer, Body, End, Event, Heard, Params, Record, Status};
 use crate::message::{self, Message};
 use crate::text::Hex;
+use crate::trace::{row_of_draws, BUFFER, ENDS, MOST_DRAWS};
 use crate::trace::{Asked, At, Brought, Composed, Does, Field, InWords, Kind, Line, Row, Verb};
-use crate::trace::{BUFFER, ENDS, MOST_DRAWS};
-use crate::{DRAWS, HOSTS, NUMBERS, OUTPUT_LEN};
+use crate::{Draw, DRAWS, HOSTS, NUMBERS, OUTPUT_LEN};
 
 /// What is printed.
 #[derive(Clone, Copy, Debug, PartialEq, Eq)]
@@ -202,7 +202,7 @@ impl<'a> Player<'a> {
 /// The ends, and what surrounds a call.
 struct Bench {
     ends: Vec<End>,
-    draws: [u8; MOST_DRAWS as usize],
+    draws: [Draw; MOST_DRAWS as usize],
     draw_count: usize,
     buffer: [u8; BUFFER as usize],
     room: usize,
@@ -267,8 +267,7 @@ impl Bench {
             Does::Show { end } => return Some(Outcome::Shown(*end)),
             Does::Start => *self = Bench::start(),
             Does::Draws { count, first, step } => {
-                let draw = |place: u8| first.wrapping_add(place.wrapping_mul(*step));
-                self.take_draws(&(0..*count).map(draw).collect::<Vec<u8>>());
+                self.take_draws(&row_of_draws(*count, *first, *step));
             }
             Does::Draw { place, value } => self.draws[usize::from(*place)] = *value,
             Does::Each(values) => self.take_draws(values),
@@ -280,7 +279,7 @@ impl Bench {
         Some(Outcome::Quiet)
     }
 
-    fn take_draws(&mut self, draws: &[u8]) {
+    fn take_draws(&mut self, draws: &[Draw]) {
         self.draw_count = draws.len();
         self.draws[..draws.len()].copy_from_slice(draws);
     }

@@ -6,7 +6,7 @@ use crate::cue::{Cue, CUE_LEN};
 use crate::end::{Heard, Params, Reply, Request, Status};
 use crate::message::{self, Echo, Message, Name, Report};
 use crate::text::{decimal, hexadecimal, signed, Hex};
-use crate::{HOSTS, NUMBERS};
+use crate::{Draw, HOSTS, NUMBERS};
 
 /// "END is a place 0..9."
 pub const ENDS: u8 = 10;
@@ -46,9 +46,9 @@ pub struct Row {
 #[derive(Clone, Debug, PartialEq, Eq)]
 pub enum Does {
     Start,
-    Draws { count: u8, first: u8, step: u8 },
-    Draw { place: u8, value: u8 },
-    Each(Vec<u8>),
+    Draws { count: u8, first: Draw, step: Draw },
+    Draw { place: u8, value: Draw },
+    Each(Vec<Draw>),
     Room(u8),
     Fill(u8),
     Open { end: u8, host: u8, params: Params },
@@ -210,6 +210,10 @@ impl<'a> Words<'a> {
         u8::try_from(self.number()?).ok()
     }
 
+    fn draw(&mut self) -> Option<Draw> {
+        Draw::try_from(self.number()?).ok()
+    }
+
     fn bytes(&mut self) -> Option<Vec<u8>> {
         hexadecimal(self.word()?).filter(|bytes| bytes.len() <= MESSAGE)
     }
@@ -344,12 +348,12 @@ impl Does {
             "start" => Does::Start,
             "draws" => Does::Draws {
                 count: words.below(MOST_DRAWS + 1)?,
-                first: words.byte()?,
-                step: words.byte()?,
+                first: words.draw()?,
+                step: words.draw()?,
             },
             "draw" => Does::Draw {
                 place: words.below(MOST_DRAWS)?,
-                value: words.byte()?,
+                value: words.draw()?,
             },
             "each" => each(&mut words)?,
             "room" => Does::Room(words.below(BUFFER + 1)?),
@@ -378,11 +382,17 @@ impl Does {
 
 /// `each VALUE VALUE ..`, "at most 66", at least one.
 fn each(words: &mut Words) -> Option<Does> {
-    let mut values = vec![words.byte()?];
+    let mut values = vec![words.draw()?];
     while !words.are_over() {
-        values.push(words.byte()?);
+        values.push(words.draw()?);
     }
     (values.len() <= usize::from(MOST_DRAWS)).then_some(Does::Each(values))
+}
+
+/// "draw i is (FIRST + i × STEP) modulo 65536".
+pub fn row_of_draws(count: u8, first: Draw, step: Draw) -> Vec<Draw> {
+    let draw = |place: u8| first.wrapping_add(step.wrapping_mul(place.into()));
+    (0..count).map(draw).collect()
 }
 
 fn on_end(end: u8, words: &mut Words) -> Option<Does> {

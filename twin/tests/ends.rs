@@ -5,7 +5,7 @@ use twin::end::{
     Answer, Body, End, Event, Heard, Params, Record, Reply, Request, Status, TIME_LIMIT,
 };
 use twin::message::{self, Echo, Message, Name, Report, DATA, REPL, RQST, SESS};
-use twin::CLOCK_MAX;
+use twin::{Draw, CLOCK_MAX};
 
 const UNTOUCHED: u8 = 0xA5;
 
@@ -39,11 +39,11 @@ fn member(host: u8) -> End {
 }
 
 /// An event with the same draw everywhere, and the bytes it wrote.
-fn step(end: &mut End, event: Event, clock: u64, draw: u8) -> (Answer, Vec<u8>) {
+fn step(end: &mut End, event: Event, clock: u64, draw: Draw) -> (Answer, Vec<u8>) {
     stepped(end, &event, clock, &[draw; 64])
 }
 
-fn stepped(end: &mut End, event: &Event, clock: u64, draws: &[u8]) -> (Answer, Vec<u8>) {
+fn stepped(end: &mut End, event: &Event, clock: u64, draws: &[Draw]) -> (Answer, Vec<u8>) {
     let before = end.clone();
     let mut out = [UNTOUCHED; 130];
     let answer = end.event(event, clock, draws, &mut out);
@@ -61,7 +61,7 @@ fn stepped(end: &mut End, event: &Event, clock: u64, draws: &[u8]) -> (Answer, V
     (answer, out[..written].to_vec())
 }
 
-fn hear(end: &mut End, message: &Message, clock: u64, draw: u8) -> Answer {
+fn hear(end: &mut End, message: &Message, clock: u64, draw: Draw) -> Answer {
     step(end, Event::Arrival(bytes(message)), clock, draw).0
 }
 
@@ -499,11 +499,11 @@ fn data_opens_fills_and_is_ignored() {
 #[test]
 fn draws_are_taken_at_the_cue_number() {
     let mut end = holder();
-    let draws: Vec<u8> = (0..64).map(|number| number * 4).collect();
+    let draws: Vec<Draw> = (0..64).map(|number| number * 1000).collect();
     let arrival = Event::Arrival(bytes(&data(0, 63)));
     assert_eq!(stepped(&mut end, &arrival, 100, &draws).0, got(0, 63));
     for number in 5..63 {
-        let due = 100 + 360 + 320 * (number * 4) / 255;
+        let due = 100 + 360 + 320 * (number * 1000) / 65535;
         assert_eq!(
             record(&mut end, 0, number as usize).body,
             waiting(1, due, 260)
@@ -535,15 +535,16 @@ fn request_for_a_held_cue() {
     let mut end = holder();
     end.sources[2].distance = 7;
     record(&mut end, 0, 4).reply_quiet = 100;
-    assert_eq!(hear(&mut end, &rqst(0, 4, 2), 99, 200), Answer::Ignored);
+    assert_eq!(hear(&mut end, &rqst(0, 4, 2), 99, 51_400), Answer::Ignored);
     assert_eq!(record(&mut end, 0, 4).reply, None);
-    assert_eq!(hear(&mut end, &rqst(0, 4, 2), 100, 200), Answer::Done);
+    assert_eq!(hear(&mut end, &rqst(0, 4, 2), 100, 51_400), Answer::Done);
+    // 28 × 51400 = 1439200 is 21 × 65535 and 62965 more.
     let reply = Reply {
-        due: 100 + 4 * 7 + 4 * 7 * 200 / 255,
+        due: 100 + 4 * 7 + 21,
         requester: 2,
     };
     assert_eq!(record(&mut end, 0, 4).reply, Some(reply));
-    assert_eq!(hear(&mut end, &rqst(0, 4, 3), 101, 200), Answer::Ignored);
+    assert_eq!(hear(&mut end, &rqst(0, 4, 3), 101, 51_400), Answer::Ignored);
     assert_eq!(record(&mut end, 0, 4).reply, Some(reply));
 }
 
@@ -551,7 +552,7 @@ fn request_for_a_held_cue() {
 fn request_above_last() {
     let mut end = holder();
     end.sources[2].distance = 7;
-    assert_eq!(hear(&mut end, &rqst(0, 6, 2), 100, 255), Answer::Done);
+    assert_eq!(hear(&mut end, &rqst(0, 6, 2), 100, 65535), Answer::Done);
     assert_eq!(
         record(&mut end, 0, 5).body,
         waiting(1, 100 + 360 + 320, 100 + 160)
@@ -583,7 +584,10 @@ fn the_last_round_at_the_last_clock() {
     };
     end.sources[0].distance = 1000;
     record(&mut end, 0, 3).body = waiting(16, TIME_LIMIT - 1, 0);
-    assert_eq!(hear(&mut end, &rqst(0, 3, 2), CLOCK_MAX, 255), Answer::Done);
+    assert_eq!(
+        hear(&mut end, &rqst(0, 3, 2), CLOCK_MAX, 65535),
+        Answer::Done
+    );
     let long = (1 << 15) * 32 * 1000;
     let quiet = (1 << 15) * 31 * 1000;
     assert_eq!(
@@ -592,10 +596,11 @@ fn the_last_round_at_the_last_clock() {
     );
     record(&mut end, 0, 3).body = waiting(15, 5, 0);
     assert_eq!(
-        step(&mut end, Event::Fire, CLOCK_MAX, 254).0,
+        step(&mut end, Event::Fire, CLOCK_MAX, 65534).0,
         Answer::Out(15)
     );
-    let due = CLOCK_MAX + long + long * 254 / 255;
+    // 1048576000 / 65535 is 16000 and a part: so much and that part is missing.
+    let due = CLOCK_MAX + long + long - 16_001;
     assert_eq!(
         record(&mut end, 0, 3).body,
         waiting(16, due, CLOCK_MAX + quiet)
@@ -1002,7 +1007,7 @@ fn long_runs() {
                     Event::Arrival(messages[messages.len() - 1 - recent].clone())
                 }
             };
-            let draws: Vec<u8> = (0..64).map(|_| dice.below(256) as u8).collect();
+            let draws: Vec<Draw> = (0..64).map(|_| dice.below(65536) as Draw).collect();
             let end = &mut ends[host];
             let full = end.next == 64 && end.status == Status::Member;
             let (answer, out) = stepped(end, &event, clock, &draws);

@@ -5,7 +5,7 @@ use twin::cue::Cue;
 use twin::end::{End, Event, Params};
 
 fn call(e: &mut End, event: &Event, clock: u64) {
-    let draws = [0u8; 64];
+    let draws = [0u16; 64];
     let mut out = [0u8; 128];
     black_box(e.event(event, clock, &draws, &mut out));
     black_box(&out);
@@ -82,7 +82,7 @@ fn run(kind: &str, n: u64) -> u64 {
             }
         }
         _ => {
-            let draws = [0u8; 63];
+            let draws = [0u16; 63];
             for i in 0..n {
                 let mut out = [0u8; 128];
                 black_box(e.event(&Event::Fire, i, &draws, &mut out));

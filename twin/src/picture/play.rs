@@ -4,8 +4,8 @@ use super::story::{Did, Step, Story};
 use crate::end::{Answer, End, Event, Params};
 use crate::message;
 use crate::replay::set;
-use crate::trace::{Brought, Does, Line, Verb, BUFFER, ENDS, MOST_DRAWS};
-use crate::{DRAWS, HOSTS, OUTPUT_LEN};
+use crate::trace::{row_of_draws, Brought, Does, Line, Verb, BUFFER, ENDS, MOST_DRAWS};
+use crate::{Draw, DRAWS, HOSTS, OUTPUT_LEN};
 
 /// The stories of a trace, and the number of the line that is bad, if one is.
 pub fn play(trace: &[u8]) -> (Vec<Story>, Option<usize>) {
@@ -35,7 +35,7 @@ struct Bench {
     ends: Vec<End>,
     /// Each end as it was left by what was last told of it.
     told: Vec<End>,
-    draws: Vec<u8>,
+    draws: Vec<Draw>,
     draw_count: usize,
     room: usize,
     messages: Vec<Vec<u8>>,
@@ -90,8 +90,7 @@ impl Player {
                 self.turn_page();
             }
             Does::Draws { count, first, step } => {
-                let draw = |place: u8| first.wrapping_add(place.wrapping_mul(*step));
-                bench.set_draws(&(0..*count).map(draw).collect::<Vec<u8>>());
+                bench.set_draws(&row_of_draws(*count, *first, *step));
             }
             Does::Draw { place, value } => bench.draws[usize::from(*place)] = *value,
             Does::Each(values) => bench.set_draws(values),
@@ -177,7 +176,7 @@ impl Player {
 }
 
 impl Bench {
-    fn set_draws(&mut self, draws: &[u8]) {
+    fn set_draws(&mut self, draws: &[Draw]) {
         self.draw_count = draws.len();
         self.draws[..draws.len()].copy_from_slice(draws);
     }

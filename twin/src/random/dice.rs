@@ -1,5 +1,7 @@
 //! Drawn numbers: a 64-bit generator (splitmix64) and ways to choose by it.
 
+use crate::Draw;
+
 pub struct Dice(u64);
 
 impl Dice {
@@ -29,6 +31,14 @@ impl Dice {
 
     pub fn byte(&mut self) -> u8 {
         self.small(256)
+    }
+
+    /// A draw of a call; one in four is at an end of its range.
+    pub fn draw(&mut self) -> Draw {
+        match self.one_in(4) {
+            true => self.pick(&[0, 1, 65534, 65535]),
+            false => self.below(65536) as Draw,
+        }
     }
 
     pub fn bytes(&mut self, count: usize) -> Vec<u8> {

@@ -124,15 +124,15 @@ impl Run {
             false => 64,
         };
         if values(&draws).len() != usize::from(count) || dice.one_in(8) {
-            let (first, step) = match dice.below(5) {
-                0 => (0, 0),
-                1 => (255, 0),
-                _ => (dice.byte(), dice.byte()),
+            let (first, step) = match dice.below(6) {
+                0 | 1 => (dice.pick(&[0, 1, 65534, 65535]), 0),
+                2 => (dice.draw(), 0),
+                _ => (dice.draw(), dice.draw()),
             };
             draws = Does::Draws { count, first, step };
         }
         if odd && dice.one_in(200) {
-            draws = Does::Each(dice.bytes(64));
+            draws = Does::Each((0..64).map(|_| dice.draw()).collect());
         }
         let room = match odd {
             true => dice.weighted(&[(100, 128), (2, 127), (1, 0), (2, 200), (2, 129)]),

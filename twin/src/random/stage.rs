@@ -4,8 +4,8 @@ use std::fmt::Write;
 
 use crate::end::{Answer, Body, End, Event, Params, Record};
 use crate::replay;
-use crate::trace::{At, Brought, Does, Field, Verb, BUFFER};
-use crate::{DRAWS, OUTPUT_LEN};
+use crate::trace::{row_of_draws, At, Brought, Does, Field, Verb, BUFFER};
+use crate::{Draw, DRAWS, OUTPUT_LEN};
 
 /// The end that no book follows, and the one that is used for a few calls and dropped.
 pub const SPARE: usize = 8;
@@ -23,11 +23,9 @@ pub struct Surroundings {
 }
 
 /// The draws that a line gives.
-pub fn values(draws: &Does) -> Vec<u8> {
+pub fn values(draws: &Does) -> Vec<Draw> {
     match draws {
-        Does::Draws { count, first, step } => (0..*count)
-            .map(|place| first.wrapping_add(place.wrapping_mul(*step)))
-            .collect(),
+        Does::Draws { count, first, step } => row_of_draws(*count, *first, *step),
         Does::Each(values) => values.clone(),
         _ => Vec::new(),
     }

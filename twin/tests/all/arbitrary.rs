@@ -150,7 +150,7 @@ fn sound_states_stay_sound() {
         for _ in 0..4 {
             let event = any_event(&mut rng);
             let clock = CLOCK_MAX.min(end.clock + rng.below(3000));
-            let draws = rng.bytes(DRAWS);
+            let draws = rng.draws(DRAWS);
             let full = end.status == Status::Member && end.next == 64;
             let (answer, _) = watched(&mut end, &event, clock, &draws, OUTPUT_LEN);
             match answer {

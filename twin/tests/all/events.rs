@@ -163,12 +163,12 @@ fn send_holds_and_puts_out_data() {
 
 #[test]
 fn rounds() {
-    // Parameters 9,8,4: F×C1×d and floor(F×C2×d×u/255), quiet F×C3×d, at every
+    // Parameters 9,8,4: F×C1×d and floor(F×C2×d×u/65535), quiet F×C3×d, at every
     // round, with the draw at the cue number and the distance to the source.
     let mut end = opened_at_3();
     end.sources[0].distance = 7;
     let mut draws = [0; DRAWS];
-    draws[4] = 100;
+    draws[4] = 25_699;
     let arrival = Event::Arrival(bytes(&data(0, 5, C)));
     let answer = watched(&mut end, &arrival, 1000, &draws, OUTPUT_LEN).0;
     assert_eq!(answer, got(0, 5));
@@ -178,14 +178,49 @@ fn rounds() {
         let f = 1u64 << (round - 1);
         let expected = Request {
             round: round as u8,
-            due: clock + f * 9 * 7 + f * 8 * 7 * 100 / 255,
+            due: clock + f * 9 * 7 + f * 8 * 7 * 25_699 / 65535,
             quiet_until: clock + f * 4 * 7,
         };
         assert_eq!(request(&end, 0, 4), expected);
+        // 56 × 25699 = 1439144; 32768 times that is 719582 × 65535 and 64222 more.
+        match round {
+            1 => assert_eq!(expected.due, clock + 63 + 21),
+            16 => assert_eq!(expected.due, clock + 2_064_384 + 719_582),
+            _ => {}
+        }
         // The next round is set at the clock of the Fire, here later than due.
         clock = expected.due + 3;
         let answer = watched(&mut end, &Event::Fire, clock, &draws, OUTPUT_LEN).0;
         assert_eq!(answer, Answer::Out(15));
+    }
+}
+
+/// "the wait's share is floor(.. × u/65535)": at distance 40 a first round's is of 320, a
+/// reply's of 160.
+#[test]
+fn shares_of_a_wait() {
+    for (draw, of_round, of_reply) in [
+        (0, 0, 0),
+        // 320 × 204 = 65280, 320 × 205 = 65600.
+        (204, 0, 0),
+        (205, 1, 0),
+        // 160 × 409 = 65440, 160 × 410 = 65600.
+        (409, 1, 0),
+        (410, 2, 1),
+        // The half of 65535 is no whole number.
+        (32767, 159, 79),
+        (32768, 160, 80),
+        (65534, 319, 159),
+        (65535, 320, 160),
+    ] {
+        let mut end = opened_at_3();
+        for message in [data(0, 5, C), rqst(2, 0, 3)] {
+            let arrival = Event::Arrival(bytes(&message));
+            watched(&mut end, &arrival, 1000, &[draw; DRAWS], OUTPUT_LEN);
+        }
+        assert_eq!(request(&end, 0, 4).due, 1000 + 360 + of_round, "{draw}");
+        let reply = end.sources[0].names[3].reply.unwrap();
+        assert_eq!(reply.due, 1000 + 160 + of_reply, "{draw}");
     }
 }
 
@@ -204,7 +239,7 @@ fn largest_due_stays_below_the_limit() {
         quiet_until: 0,
     });
     let heard = Event::Arrival(bytes(&rqst(2, 0, 1)));
-    let answer = watched(&mut end, &heard, CLOCK_MAX, &[255; DRAWS], OUTPUT_LEN).0;
+    let answer = watched(&mut end, &heard, CLOCK_MAX, &[65535; DRAWS], OUTPUT_LEN).0;
     assert_eq!(answer, Answer::Done);
     assert_eq!(
         request(&end, 0, 1),
@@ -287,7 +322,7 @@ fn rqst_of_a_held_cue() {
     end.sources[2].distance = 10;
     end.sources[0].names[3].reply_quiet = 100;
     let mut draws = [0; DRAWS];
-    draws[3] = 101;
+    draws[3] = 26_000;
     let heard = Event::Arrival(bytes(&rqst(2, 0, 3)));
     let mut at = |clock| watched(&mut end, &heard, clock, &draws, OUTPUT_LEN).0;
     // "clock ≥ reply-quiet": not before, but at that clock.
@@ -295,10 +330,11 @@ fn rqst_of_a_held_cue() {
     assert_eq!(at(100), Answer::Done);
     // A reply waits.
     assert_eq!(at(5000), Answer::Ignored);
+    // 40 × 26000 = 1040000 is 15 × 65535 and 56975 more.
     assert_eq!(
         end.sources[0].names[3].reply,
         Some(Reply {
-            due: 100 + 4 * 10 + 4 * 10 * 101 / 255,
+            due: 100 + 4 * 10 + 15,
             requester: 2,
         })
     );

@@ -89,7 +89,7 @@ fn send_and_arrival_ask_in_every_status() {
 
 #[test]
 fn draws_may_have_any_value() {
-    for draw in [0, 1, 254, 255] {
+    for draw in [0, 1, 255, 256, 65534, 65535] {
         let mut end = member(0);
         let answer = watched(&mut end, &Event::Fire, 0, &[draw; DRAWS], OUTPUT_LEN).0;
         assert_eq!(answer, Answer::Nothing);

@@ -101,7 +101,7 @@ fn run(seed: u64, calls: u32, calm: u64, start: u64, pace: u64, seen: &mut Seen)
         };
         let output = OUTPUT_LEN - usize::from(rng.once_in(40));
         let draws = DRAWS - usize::from(rng.once_in(40));
-        let draws = rng.bytes(draws);
+        let draws = rng.draws(draws);
         let (answer, out) = watched(end, &event, clock, &draws, output);
         let call = Call {
             host,

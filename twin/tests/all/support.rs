@@ -3,7 +3,7 @@
 use twin::cue::Cue;
 use twin::end::{Answer, Body, End, Event, Params, Request, Status};
 use twin::message::{self, Echo, Message, Name, Report};
-use twin::{DRAWS, OUTPUT_LEN};
+use twin::{Draw, DRAWS, OUTPUT_LEN};
 
 /// The byte that fills outputs before a call, to see which ones it wrote.
 pub const FILL: u8 = 0xA5;
@@ -39,6 +39,16 @@ impl Rng {
 
     pub fn bytes(&mut self, length: usize) -> Vec<u8> {
         (0..length).map(|_| self.byte()).collect()
+    }
+
+    /// Draws, the least and the greatest often among them.
+    pub fn draws(&mut self, count: usize) -> Vec<Draw> {
+        let mut draw = || match self.below(8) {
+            0 => 0,
+            1 => Draw::MAX,
+            _ => self.next() as Draw,
+        };
+        (0..count).map(|_| draw()).collect()
     }
 
     /// A cue in range, free bytes included.
@@ -181,7 +191,7 @@ pub fn watched(
     end: &mut End,
     event: &Event,
     clock: u64,
-    draws: &[u8],
+    draws: &[Draw],
     output: usize,
 ) -> (Answer, Vec<u8>) {
     let before = end.clone();

@@ -6,7 +6,7 @@ use twin::cue::Cue;
 use twin::end::{Heard, Params, Reply, Request, Status};
 use twin::message::{Message, DATA};
 use twin::replay::{play, Mode};
-use twin::trace::{Asked, At, Brought, Composed, Does, Field, Line, Row, Verb};
+use twin::trace::{row_of_draws, Asked, At, Brought, Composed, Does, Field, Line, Row, Verb};
 
 fn parse(line: &str) -> Option<Line> {
     Line::parse(line.as_bytes())
@@ -50,10 +50,10 @@ const AT: At = At {
 /// One line of each form, each as it is printed.
 const LINES: [&str; 74] = [
     "start",
-    "draws 66 255 7",
+    "draws 66 65535 7",
     "draws 0 0 0",
-    "draw 65 255",
-    "each 1 2 3",
+    "draw 65 65535",
+    "each 1 2 65535",
     "room 200",
     "fill 165",
     "0 open 255 9 8 4 4 4 8",
@@ -252,14 +252,14 @@ const MALFORMED: [&str; 98] = [
     "0 join 0 =done",
     " = done",
     "draws 67 0 0",
-    "draws 64 256 0",
-    "draws 64 0 256",
+    "draws 64 65536 0",
+    "draws 64 0 65536",
     "draws 64 0",
     "draws 64 0 0 = done",
     "draw 66 0",
-    "draw 0 256",
+    "draw 0 65536",
     "each",
-    "each 256",
+    "each 65536",
     "room 201",
     "room 0 = 0",
     "fill 256",
@@ -342,7 +342,7 @@ fn lengths_of_lines_and_bytes() {
     let bytes = |count: usize| format!("read {}", "00".repeat(count));
     assert!(parse(&bytes(256)).is_some());
     assert_eq!(parse(&bytes(257)), None);
-    let each = |count: usize| format!("each{}", " 7".repeat(count));
+    let each = |count: usize| format!("each{}", " 65535".repeat(count));
     assert!(parse(&each(66)).is_some());
     assert_eq!(parse(&each(67)), None);
     let reports = |count: usize| format!("write sess 0 0{}", " report 0 0".repeat(count));
@@ -494,10 +494,21 @@ fn what_surrounds_a_call() {
     ] {
         assert_eq!(last(&format!("{member}{before}0 report 0\n")), answer);
     }
-    // The draw at cue number 1 is (250 + 1 × 10) modulo 256 = 4.
-    let gap = "draws 64 250 10\n1 set status member\n1 hear 0 data 0 0 name 0 0 0 cue 0 0 0 0 0\n\
+    // The draw at cue number 1 is (65000 + 1 × 1000) modulo 65536 = 464, and 320 × 464 =
+    // 148480 is 2 × 65535 and 17410 more.
+    let gap =
+        "draws 64 65000 1000\n1 set status member\n1 hear 0 data 0 0 name 0 0 0 cue 0 0 0 0 0\n\
                1 hear 0 data 0 0 name 0 2 0 cue 0 0 0 0 0\n1 ask record 0 1\n";
-    assert!(last(gap).starts_with(&format!("waits 1 {} 160 hush 0 ", 360 + 320 * 4 / 255)));
+    assert!(last(gap).starts_with("waits 1 362 160 hush 0 "));
+}
+
+#[test]
+fn a_row_of_draws() {
+    assert_eq!(row_of_draws(3, 7, 2), [7, 9, 11]);
+    assert_eq!(row_of_draws(0, 7, 2), []);
+    let row = row_of_draws(66, 65535, 65535);
+    // (65535 + 65 × 65535) modulo 65536 is 66 below 65536.
+    assert_eq!((row[0], row[1], row[65]), (65535, 65534, 65470));
 }
 
 #[test]
@@ -683,6 +694,9 @@ fn branches_are_counted_from_when_they_are_asked_for() {
     assert_eq!(taken("RQST: held, set a reply: own cue"), 1);
     assert_eq!(taken("REPL: not held: as DATA, Got"), 1);
     assert_eq!(taken("Fire: none due: Nothing"), 1);
+    // The gap's round 1, and the round after the request; the request's reply.
+    assert_eq!(taken("a round's share: draw 0"), 2);
+    assert_eq!(taken("a reply's share: draw 0"), 1);
 }
 
 #[test]
@@ -701,7 +715,7 @@ fn each_branch_has_its_own_words() {
 /// is printed as it is read, and no state or argument that a line can say stops the twin.
 #[test]
 fn changed_lines() {
-    const NUMBERS: [&str; 14] = [
+    const NUMBERS: [&str; 16] = [
         "0",
         "1",
         "2",
@@ -712,6 +726,8 @@ fn changed_lines() {
         "128",
         "255",
         "1000",
+        "65535",
+        "65536",
         "281474976710655",
         "281479271677952",
         "18446744073709551615",

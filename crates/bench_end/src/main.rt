@@ -1,6 +1,7 @@
 // The benchmark's half in Rattle: one kind of event, many times over the public calls. The first argument is the kind's letter, the
 // second how often, in the form of a digit d for 10^d times. The twin's half, twin/src/bin/pace.rs, makes the same calls; bench/run
 // times both. Outputs are cleared before each call. The last clock is printed, so that no call can be left out.
+use end::Draw;
 use end::End;
 use end::Params;
 use message::Host;
@@ -22,7 +23,7 @@ fn opened(host: u8) -> End {
 
 fn member(host: u8) -> End {
     let e = opened(host);
-    let draws: [u8; 64] = [0; 64];
+    let draws: [Draw; 64] = [0; 64];
     let mut out: [u8; 128] = [0; 128];
     let s = link::join(e, 0, &draws, &mut out);
     let e1 = s.end;
@@ -31,7 +32,7 @@ fn member(host: u8) -> End {
 }
 
 fn cycle(e: End, clock: u64) -> End {
-    let draws: [u8; 64] = [0; 64];
+    let draws: [Draw; 64] = [0; 64];
     let mut out: [u8; 128] = [0; 128];
     let s = link::join(e, clock, &draws, &mut out);
     let e1 = s.end;
@@ -55,7 +56,7 @@ fn moves(n: u64) -> u64 {
 }
 
 fn sent(e: End, clock: u64) -> End {
-    let draws: [u8; 64] = [0; 64];
+    let draws: [Draw; 64] = [0; 64];
     let cue: [u8; 24] = [0; 24];
     let mut out: [u8; 128] = [0; 128];
     let s = link::send(e, clock, &draws, cue, &mut out);
@@ -79,7 +80,7 @@ fn sends(n: u64) -> u64 {
 fn heard(e: End, clock: u64, bytes: &[u8], len: usize) -> End
     requires { ⌜ len ≤ length (now bytes) ⌝ }
 {
-    let draws: [u8; 64] = [0; 64];
+    let draws: [Draw; 64] = [0; 64];
     let mut out: [u8; 128] = [0; 128];
     let s = link::arrival(e, clock, &draws, &bytes[..len], &mut out);
     s.end
@@ -118,7 +119,7 @@ fn hears(n: u64, session: bool) -> u64 {
 }
 
 // f: Fire with nothing due. x: with 63 draws, refused as 2 before the state is looked at.
-fn fires(n: u64, draws: &[u8]) -> u64 {
+fn fires(n: u64, draws: &[Draw]) -> u64 {
     let mut e = member(0);
     let mut i: u64 = 0;
     while i < n {
@@ -132,7 +133,7 @@ fn fires(n: u64, draws: &[u8]) -> u64 {
 
 // r: Report.
 fn reports(n: u64) -> u64 {
-    let draws: [u8; 64] = [0; 64];
+    let draws: [Draw; 64] = [0; 64];
     let mut e = member(0);
     let mut i: u64 = 0;
     while i < n {

@@ -89,7 +89,7 @@ pub fn start(n: &mut [usize; 20], draws: &mut [end::Draw; 66]) {
 }
 
 // How many values a draw has.
-const DRAW_VALUES: u64 = 256;
+const DRAW_VALUES: u64 = 65536;
 
 // The draws from a first one on in steps.
 fn same_draws(draws: &mut [end::Draw; 66], first: u64, step: u64) {

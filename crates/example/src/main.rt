@@ -9,7 +9,8 @@ use libc::STDOUT_FILENO;
 use message::Host;
 use message::Verdict;
 
-// The draws of a call. A controller takes 64 new random bytes for each call; here they are 0, so that the output is always the same.
+// The draws of a call. A controller takes 64 new random numbers of 16 bits for each call; here they are 0, so that the output is always
+// the same.
 fn draws() -> [Draw; 64] {
     [0; 64]
 }

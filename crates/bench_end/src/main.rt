@@ -159,8 +159,8 @@ fn times(d: u8) -> u64 {
 }
 
 fn run(kind: u8, n: u64) -> u64 {
-    let all: [u8; 64] = [0; 64];
-    let few: [u8; 63] = [0; 63];
+    let all: [Draw; 64] = [0; 64];
+    let few: [Draw; 63] = [0; 63];
     match kind {
         109 => moves(n),
         115 => sends(n),

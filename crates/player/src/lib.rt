@@ -2,6 +2,7 @@
 // gives) and House.antt (what is printed, for a line and for a whole script).
 use answers::Shown;
 use end::Answer;
+use end::Draw;
 use end::End;
 use end::Stepped;
 use message::Host;
@@ -77,7 +78,7 @@ fn event(e: End, verb: Verb, clock: u64, bytes: &[u8], out: &mut [u8]) -> Steppe
     ensures { λ r. ⌜ r ≡ calledOf (eventOf e (eventFor verb (now (bytes .entry))) clock (length (now (out .entry))) draws) ⌝ }
     ensures { λ _. ⌜ now (out .exit) ≡ bufferOf (eventOf e (eventFor verb (now (bytes .entry))) clock (length (now (out .entry))) draws .outcome) (now (out .entry)) ⌝ }
 {
-    let none = [0u8; 64];
+    let none: [Draw; 64] = [0; 64];
     match verb {
         Verb::Join => link::join(e, clock, &none, out),
         Verb::Joined => link::joined(e, clock, &none, out),

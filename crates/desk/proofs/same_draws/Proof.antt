@@ -16,6 +16,9 @@ loop-holds c = tt
 cast-draws : tie.Need-cast-draws Inv-loop μ-loop
 cast-draws c = omega arith
 
+mul-draws : tie.Need-mul-draws Inv-loop μ-loop
+mul-draws c = omega arith
+
 element-write-draws : tie.Need-element-write-draws Inv-loop μ-loop
 element-write-draws c = omega arith
 
@@ -42,6 +45,7 @@ same-draws-spec =
     μ-loop
     loop-holds
     cast-draws
+    mul-draws
     element-write-draws
     add-v
     add-i

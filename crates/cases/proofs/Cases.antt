@@ -5,7 +5,7 @@ use Rattle.cases.specs.Rows.{rows}
 use Rattle.cases.specs.Answers.{answerRows}
 use Rattle.cases.specs.Moves.{moveRows}
 use Rattle.cases.specs.Wire.{wireRows}
-use Rattle.cases.specs.Timed.{timedRows}
+use Rattle.cases.specs.Timed.{timedRows, halfTripRows}
 use Rattle.cases.specs.Quiet.{quietRows}
 use Rattle.cases.specs.Stage.{stageRows}
 use Rattle.cases.proofs.Opened.{opened}
@@ -24,7 +24,11 @@ wire-holds = (refl, (refl, (refl, (refl, (refl, (refl, (refl, (refl, tt))))))))
 
 pub timed-hold : Hold timedRows
 unfolding timedRows opened
-timed-hold = (refl, (refl, (refl, (refl, (refl, (refl, (refl, (refl, (refl, (refl, (refl, (refl, (refl, (refl, (refl, tt)))))))))))))))
+timed-hold = (refl, (refl, (refl, (refl, (refl, (refl, (refl, (refl, (refl, (refl, (refl, (refl, (refl, (refl, (refl, (refl, tt))))))))))))))))
+
+pub half-trips-hold : Hold halfTripRows
+unfolding halfTripRows
+half-trips-hold = (refl, (refl, (refl, (refl, (refl, (refl, (refl, (refl, (refl, (refl, tt))))))))))
 
 pub quiet-holds : Hold quietRows
 unfolding quietRows opened

@@ -3,12 +3,14 @@
 use Prim.Native.Nat.{ℕ, _+_, _-_, _*_}
 use mathlib.Core.List.{List, [], _∷_, _++_}
 use lib.ListN.{replicate, set}
+use Rattle.message.specs.Limit.{ticksLimit}
 use Rattle.message.specs.Entry.{asHost, asNumber}
 use Rattle.message.specs.Message.{RQST, REPL, SESS, bytesOf}
 use Rattle.message.specs.declared.Report.{Report}
 use Rattle.end.specs.declared.Params.{Params}
 use Rattle.end.specs.declared.Status.the-variants.{Member}
 use Rattle.end.specs.State.{freshEnd}
+use Rattle.end.specs.Round.{halfTrip}
 use Rattle.end.specs.Answer.{Out, Done, Ignored, Nothing}
 use Rattle.end.specs.Event.{Action, Send, Arrival, Else, Fire}
 use Rattle.end.specs.Answer.{Outcome, Did}
@@ -85,8 +87,8 @@ replyParams = record { c1 = 9; c2 = 8; c3 = 4; d1 = 3; d2 = 5; d3 = 8 }
 abbrev pub replied : List Call
 replied = call 0 10 (Send minusTwo) ∷ drawn 0 32896 (call 0 100 (asks 1 99 0)) ∷ fires 0 320 ++ asked 0 640 0
 
--- ---- "an echo of oneself, by that echo's stamp and held ticks, with e = clock − stamp − held ≥ 0 sets the distance to the sender to
--- floor(e/8), brought into 1..1000": then a gap, name 0,1, is due 9×d after the clock
+-- ---- "an echo of oneself, by that echo's stamp and held ticks, with e = clock − stamp − held ≥ 0 sets the distance to the sender ..", as
+-- document 02, P2, rounds it: then a gap, name 0,1, is due 9×d after the clock
 abbrev pub tells : ℕ → ℕ → List Report → Action
 tells stamp held reports = Arrival (bytesOf (record {
   kind = SESS;
@@ -126,10 +128,27 @@ timedRows =
     ∷ gives houseParams (learnt 25700 1070) (got 0 ∷ Did Done ∷ requestOut 1070 1)
     ∷ gives houseParams (again 65535 1752) (got 0 ∷ got 2 ∷ Did (Out (about RQST 1 392 1 1 [])) ∷ requestOut 1752 1)
     ∷ gives replyParams replied (Did (Out message0) ∷ Did Done ∷ repairOut 320 0 ++ quietTo)
-    -- "e = 80 gives 10 ms; e = 0 gives 1"; below 0 nothing is set; e = 9000 gives 1000 ms
+    -- "e = 80 gives 10 ms; e = 0 gives 1"; "So e = 87 gives 11, e = 80 still 10"; below 0 nothing is set; e = 9000 gives 1000 ms
     ∷ gives houseParams (measuring 15 5 100 10) (measuringGives 100 10)
+    ∷ gives houseParams (measuring 8 5 100 11) (measuringGives 100 11)
     ∷ gives houseParams (measuring 60 40 100 1) (measuringGives 100 1)
     ∷ gives houseParams (measuring 60 41 100 40) (measuringGives 100 40)
     ∷ gives houseParams (measuring 0 0 9000 1000) (measuringGives 9000 1000)
     ∷ gives houseParams reportedFirst (got 0 ∷ Did Done ∷ requestOut 460 1)
+    ∷ []
+
+-- "The distance is now the least whole number of milliseconds that is at least e/8, then brought into 1..1000." (document 02, P2): the half
+-- trips of some e
+unfoldable pub halfTripRows : List Case
+halfTripRows =
+    case (halfTrip 87) 11
+    ∷ case (halfTrip 80) 10
+    ∷ case (halfTrip 0) 1
+    ∷ case (halfTrip 1) 1
+    ∷ case (halfTrip 8) 1
+    ∷ case (halfTrip 9) 2
+    ∷ case (halfTrip 7993) 1000
+    ∷ case (halfTrip 8000) 1000
+    ∷ case (halfTrip 8001) 1000
+    ∷ case (halfTrip (ticksLimit - 1)) 1000
     ∷ []

@@ -6,7 +6,7 @@ use native.Mathlib.Omega.{arith}
 use mathlib.Core.Path.{_≡_}
 use mathlib.Core.List.{List}
 use Rattle.end.specs.declared.Moment.{Moment}
-use Rattle.end.specs.Round.{mostDraw, drawAt, factor, share, requestAt, nextRound, replyDue, quietAfterReply, halfTrip}
+use Rattle.end.specs.Round.{mostDraw, drawAt, factor, share, requestAt, nextRound, replyDue, quietAfterReply, eighthUp, halfTrip, LeastMilliseconds}
 use Rattle.end.specs.Sound.{timeLimit}
 use Rattle.end.specs.Ready.{Ranges}
 
@@ -85,3 +85,7 @@ module _ (t : Moment) (us : List ℕ) (d : ℕ) (r : Ranges t d) (n : ℕ) (draw
 -- a distance that is measured is 1..1000
 pub half-trip-in : (e : ℕ) → (1 ≤ halfTrip e) × (halfTrip e ≤ 1000)
 half-trip-in e = (omega arith, omega arith)
+
+-- and before that it is the least whole number of milliseconds that is at least e/8
+pub least-milliseconds : LeastMilliseconds
+least-milliseconds e = (omega arith, λ ms h. omega arith)

@@ -1,5 +1,5 @@
--- When a request and a reply are due, and how far a host is. Document 01, "Events": "Setting round k at clock t", "RQST", "SESS". The
--- moment has the parameters and the clock; the draws stand beside it.
+-- When a request and a reply are due, and how far a host is. Document 01, "Events": "Setting round k at clock t", "RQST", "SESS"; document
+-- 02, P1 and P2. The moment has the parameters and the clock; the draws stand beside it.
 use Prim.Native.Nat.{ℕ, _+_, _-_, _*_, _/_, _^_, _≤_, min, max}
 use mathlib.Core.List.{List}
 use lib.ListN.{getD}
@@ -57,6 +57,13 @@ replyDue t us d n = replyWith t (drawAt us n) d
 abbrev pub quietAfterReply : Moment → ℕ → ℕ
 quietAfterReply t d = t .clock + t .params .d3 * d
 
--- "floor(e/8), brought into 1..1000"
+-- "The distance is now the least whole number of milliseconds that is at least e/8, then brought into 1..1000." (document 02, P2)
+abbrev pub eighthUp : ℕ → ℕ
+eighthUp e = (e + 7) / 8
+
 abbrev pub halfTrip : ℕ → ℕ
-halfTrip e = max 1 (min 1000 (e / 8))
+halfTrip e = max 1 (min 1000 (eighthUp e))
+
+-- that `eighthUp` is the request's sentence: e/8 is at most it, and no smaller whole number has that
+abbrev pub LeastMilliseconds : Type 0
+LeastMilliseconds = (e : ℕ) → (e ≤ 8 * eighthUp e) × ((ms : ℕ) → e ≤ 8 * ms → eighthUp e ≤ ms)

@@ -29,7 +29,7 @@ allReported t us [] e = e
 allReported t us (r ∷ rs) e = allReported t us rs (onSource e (r .source) (reportedSource t us r))
 
 -- "an echo of oneself, by that echo's stamp and held ticks, with e = clock − stamp − held ≥ 0 sets the distance to the sender to
--- floor(e/8), brought into 1..1000": the distance after the echoes, from what it was
+-- floor(e/8), brought into 1..1000", which document 02, P2, rounds up: the distance after the echoes, from what it was
 unfoldable pub measured : Host → ℕ → List Echo → ℕ → ℕ
 measured me clock [] d = d
 measured me clock (x ∷ xs) d =

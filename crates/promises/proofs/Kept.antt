@@ -1,4 +1,5 @@
 -- Every promise is kept: one term of the type `Promises`. What is below may be proved in any way; what it proves stands in specs/.
+use mathlib.Core.Path.{refl}
 use Rattle.invariants.proofs.Stays.{opens-sound, stays-sound}
 use Rattle.invariants.proofs.Lists.{ends-stay-sound, never-refused-as-3, clocks-never-fall, never-heard-later}
 use Rattle.invariants.proofs.Clocks.{clock-never-falls, heard-by-now}
@@ -12,11 +13,11 @@ use Rattle.roundtrip.proofs.RoundTrip.{reads-back, very-bytes, rewritten, at-mo
 use Rattle.numbers.proofs.NumberLaws.{value-digits, digits-value}
 use Rattle.numbers.proofs.SignedLaws.{signed-back, two-bytes-back}
 use Rattle.message.proofs.CueLaws.{cue-fields-back}
-use Rattle.end.proofs.Bounds.{share-none, share-whole, share-most, share-rises}
+use Rattle.end.proofs.Bounds.{share-none, share-whole, share-most, share-rises, least-milliseconds}
 use Rattle.end.proofs.Service.Ends.{service}
 use Rattle.end.proofs.Reasons.{ignored-for-the-first-reason}
 use Rattle.cases.proofs.Shown.{service-shown}
-use Rattle.cases.proofs.Cases.{cases-hold, answers-hold, moves-hold, wire-holds, timed-hold, stage-holds, quiet-holds}
+use Rattle.cases.proofs.Cases.{cases-hold, answers-hold, moves-hold, wire-holds, timed-hold, half-trips-hold, stage-holds, quiet-holds}
 use Rattle.promises.specs.Promises.{Promises}
 
 pub promises : Promises
@@ -75,6 +76,8 @@ promises = record {
     share-whole = share-whole;
     share-most = share-most;
     share-rises = share-rises;
+    least-milliseconds = least-milliseconds;
+    half-trip = λ e. refl;
     slots-may-become = slots-may-become;
     waits-until-held = waits-until-held;
     held-until-cleared = held-until-cleared;
@@ -89,5 +92,5 @@ promises = record {
     one-round-per-quiet = one-round-per-quiet;
   };
   first-reason = ignored-for-the-first-reason;
-  cases = record { starred = cases-hold; answers = answers-hold; moves = moves-hold; wire = wire-holds; timed = timed-hold; stage = stage-holds; quiet = quiet-holds };
+  cases = record { starred = cases-hold; answers = answers-hold; moves = moves-hold; wire = wire-holds; timed = timed-hold; half-trips = half-trips-hold; stage = stage-holds; quiet = quiet-holds };
 }

@@ -3,7 +3,7 @@ use mathlib.Core.Path.{_≡_}
 use mathlib.Core.Bool.{true, false}
 use mathlib.Core.List.{List, [], _∷_}
 use mathlib.Core.Logic.{_⊎_}
-use Prim.Native.Nat.{ℕ, _+_, _*_, _≤_, _<_}
+use Prim.Native.Nat.{ℕ, _+_, _*_, _≤_, _<_, min, max}
 use lib.ListN.{length}
 use Rattle.message.specs.declared.Host.{Host}
 use Rattle.message.specs.Entry.{asHost}
@@ -15,7 +15,7 @@ use Rattle.end.specs.declared.End.{End}
 use Rattle.end.specs.State.{distanceTo, withClock}
 use Rattle.end.specs.Records.{isHeld}
 use Rattle.end.specs.Sound.{timeLimit, soundOf}
-use Rattle.end.specs.Round.{Drawn, factor, share, requestAt}
+use Rattle.end.specs.Round.{Drawn, factor, share, requestAt, eighthUp, halfTrip}
 use Rattle.end.specs.Answer.{Out, Ignored, Did}
 use Rattle.end.specs.Arrival.{messageName}
 use Rattle.end.specs.Event.{Action, Arrival, questionOf, eventOf}
@@ -33,6 +33,10 @@ pub record BackOffKept : Type 0 where
   pub share-whole : (wait : ℕ) → share wait 65535 ≡ wait
   pub share-most : (wait u : ℕ) → u ≤ 65535 → share wait u ≤ wait
   pub share-rises : (wait u v : ℕ) → u ≤ v → share wait u ≤ share wait v
+  -- A half trip (document 02, P2), before it is brought into 1..1000: the least whole number of milliseconds that is at least e/8.
+  pub least-milliseconds : (e : ℕ) → (e ≤ 8 * eighthUp e) × ((ms : ℕ) → e ≤ 8 * ms → eighthUp e ≤ ms)
+  -- And the distance that a SESS sets is that, brought into 1..1000.
+  pub half-trip : (e : ℕ) → halfTrip e ≡ max 1 (min 1000 (eighthUp e))
   -- Every call of every event changes a slot only as `MayBecome` says.
   pub slots-may-become : (e : End) (a : Action) (clock room : ℕ) (draws : List ℕ) (h n : ℕ) → h < 8
       → MayBecome (clearing a) (momentAt e clock) draws (distanceTo e (asHost h)) n (slotOf e h n) (slotOf (eventOf e a clock room draws .left) h n)

@@ -16,7 +16,7 @@ use Rattle.cases.specs.Rows.{rows}
 use Rattle.cases.specs.Answers.{answerRows}
 use Rattle.cases.specs.Moves.{moveRows}
 use Rattle.cases.specs.Wire.{wireRows}
-use Rattle.cases.specs.Timed.{timedRows}
+use Rattle.cases.specs.Timed.{timedRows, halfTripRows}
 use Rattle.cases.specs.Stage.{stageRows}
 use Rattle.cases.specs.Quiet.{quietRows}
 use Rattle.promises.specs.Wire.{WireKept}
@@ -34,6 +34,7 @@ pub record CasesKept : Type 0 where
   pub moves : Hold moveRows
   pub wire : Hold wireRows
   pub timed : Hold timedRows
+  pub half-trips : Hold halfTripRows
   pub stage : Hold stageRows
   pub quiet : Hold quietRows
 

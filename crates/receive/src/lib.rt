@@ -179,7 +179,7 @@ fn report(t: Moment, draws: &[Draw], r: Report, s: Source) -> Source
 
 // The distance after an echo, from what it was: an echo of oneself measures half the round trip.
 fn by_echo(me: Host, clock: u64, x: Echo, d: u64) -> u64
-    requires { ⌜ (x .stamp < ticksLimit) × (x .held < ticksLimit) ⌝ }
+    requires { ⌜ (x .stamp < ticksLimit) × (x .held < ticksLimit) × (clock < ticksLimit) ⌝ }
     ensures { λ r. ⌜ r ≡ cond (sameHost (x .host) me && leb (x .stamp + x .held) clock) (halfTrip (clock - (x .stamp + x .held))) d ⌝ }
 {
     let gone = x.stamp + x.held;
@@ -192,7 +192,7 @@ fn by_echo(me: Host, clock: u64, x: Echo, d: u64) -> u64
 
 // The distance after all echoes.
 fn measure(me: Host, clock: u64, echoes: [Echo; 7], count: usize, d: u64) -> u64
-    requires { ⌜ (count ≤ echoPlaces) × (all echoIn (take count echoes) ≡ true) ⌝ }
+    requires { ⌜ (count ≤ echoPlaces) × (all echoIn (take count echoes) ≡ true) × (clock < ticksLimit) ⌝ }
     ensures { λ r. ⌜ r ≡ measured me clock (take count echoes) d ⌝ }
 {
     let mut out = d;
@@ -209,6 +209,7 @@ fn measure(me: Host, clock: u64, echoes: [Echo; 7], count: usize, d: u64) -> u64
 fn hear(t: Moment, m: Message, s: Source) -> Source
     requires { ⌜ m .counts .echoes ≤ echoPlaces ⌝ }
     requires { ⌜ inRange (meaningOf m) ≡ true ⌝ }
+    requires { ⌜ t .clock < ticksLimit ⌝ }
     ensures { λ r. ⌜ r ≡ heardFrom t (meaningOf m) s ⌝ }
 {
     let count = m.counts.echoes;

@@ -6,6 +6,7 @@ use end::Moment;
 use end::Request;
 ghost use mathlib.Core.Path.{_≡_};
 ghost use Prim.Native.Nat.{_*_, _≤_, _<_};
+ghost use Rattle.message.specs.Limit.{ticksLimit};
 ghost use Rattle.end.specs.Round.{factor, share, requestWith, nextRound, replyWith, quietAfterReply, halfTrip};
 ghost use Rattle.end.specs.Ready.{Ranges};
 
@@ -98,11 +99,13 @@ pub fn quiet_after_reply(t: Moment, d: u64) -> u64
     t.clock + reply_wait(t.params.d3, d)
 }
 
-// Half a round trip of e ticks, in whole milliseconds, brought into 1..1000.
+// Half a round trip of e ticks, rounded up to whole milliseconds and brought into 1..1000. The clock's limit keeps the sum from wrapping:
+// it is below 2^49.
 pub fn half_trip(e: u64) -> u64
+    requires { ⌜ e < ticksLimit ⌝ }
     ensures { λ r. ⌜ r ≡ halfTrip e ⌝ }
 {
-    let ms = e / 8;
+    let ms = (e + 7) / 8;
     if ms < 1 {
         return 1;
     }

@@ -1,7 +1,9 @@
 -- `receive::by_echo` meets its contract: the test says whether the echo measures.
-use Prim.Native.Nat.{_+_}
+use Prim.Native.Nat.{_+_, _<_}
+use native.Mathlib.Omega.{arith}
 use lib.Dec.{eqb}
 use borrow.Author.Tests.{leb-true}
+use Rattle.message.specs.Limit.{ticksLimit}
 use Rattle.message.proofs.QuestionLaws.{and-both}
 use borrow.Author.Needs.{needs}
 use Rattle.receive.proofs.by_echo.Statement.{statement}
@@ -10,13 +12,19 @@ use Rattle.receive.proofs.by_echo.Tie as tie
 add-gone : tie.Need-add-gone
 add-gone c = search needs
 
+-- the call, where the echo measures
+abbrev start : tie.Then1 → tie.Start
+start c = c .before .before .before .before
+
 sub-half-trip : tie.Need-sub-half-trip
 sub-half-trip c =
-    let a = c .before .before .before .before .args in
+    let a = start c .args in
     leb-true (a .x .stamp + a .x .held) (a .clock) (and-both (eqb (a .x .host .0) (a .me .0)) _ (c .if1 .taken) .1)
 
 half-trip-requires : tie.Need-half-trip-requires
-half-trip-requires c κs = search needs
+half-trip-requires c κs =
+    let ticks : start c .args .clock < ticksLimit = start c .pre .2 in
+    omega arith
 
 returns : tie.Need-returns
 returns c = rw (c .before .if1 .taken) (c .half-trip .ensures)

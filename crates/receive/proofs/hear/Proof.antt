@@ -8,7 +8,7 @@ use Rattle.receive.proofs.hear.Tie as tie
 measure-requires : tie.Need-measure-requires
 measure-requires c κs =
     let start = c .before in
-    (start .pre .0, in-range (meaningOf (start .args .m)) (start .pre .1) .echoes)
+    (start .pre .0, in-range (meaningOf (start .args .m)) (start .pre .1 .0) .echoes, start .pre .1 .1)
 
 with-heard-requires : tie.Need-with-heard-requires
 with-heard-requires c κs = search needs

@@ -34,7 +34,8 @@ by-echo-requires c κs =
     let s = c .before .before .before in
     let i = c .before .before .loop .i in
     let k : length (s .args .t3) ≡ 7 = search needs in
-    echo-in (getD (s .args .t3) i blankEcho) (used-at echoIn (s .args .count) (s .args .t3) i blankEcho (s .pre .1) (omega arith) (omega arith))
+    let ticks = echo-in (getD (s .args .t3) i blankEcho) (used-at echoIn (s .args .count) (s .args .t3) i blankEcho (s .pre .1) (omega arith) (omega arith)) in
+    (ticks .0, ticks .1, s .pre .2)
 
 add-i : tie.Need-add-i Inv-loop μ-loop
 add-i c = omega arith

@@ -49,7 +49,7 @@ returns-2 c =
 hear-requires : tie.Need-hear-requires
 hear-requires c κs =
     let start = call (c .before .before) in
-    (counts-small (start .args .m .kind) (start .args .m .counts) (start .pre .passed .counts-in) .echoes, start .pre .passed .ranges-in)
+    (counts-small (start .args .m .kind) (start .args .m .counts) (start .pre .passed .counts-in) .echoes, (start .pre .passed .ranges-in, start .pre .source .clock))
 
 returns-3 : tie.Need-returns-3
 returns-3 c =

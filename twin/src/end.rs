@@ -304,6 +304,21 @@ fn share(longest: u64, draw: Draw, [none, part, whole]: [Branch; 3]) -> u64 {
     longest * u64::from(draw) / u64::from(Draw::MAX)
 }
 
+/// Document 02, P2: "The distance is now the least whole number of milliseconds that is at
+/// least e/8, then brought into 1..1000."
+fn half_trip(e: u64) -> u64 {
+    let whole = e / 8;
+    let at_least = if whole * 8 < e { whole + 1 } else { whole };
+    take(match at_least {
+        ..DISTANCE_MIN => Branch::SessEchoOne,
+        DISTANCE_MAX if whole < DISTANCE_MAX => Branch::SessEchoUpToThousand,
+        ..=DISTANCE_MAX if at_least > whole => Branch::SessEchoUp,
+        ..=DISTANCE_MAX => Branch::SessEchoWhole,
+        _ => Branch::SessEchoThousand,
+    });
+    at_least.clamp(DISTANCE_MIN, DISTANCE_MAX)
+}
+
 /// The opening.
 impl End {
     /// "Opening: is the host below 8? 12. Are parameters in range and constrained as
@@ -865,7 +880,7 @@ impl End {
     }
 
     /// "an echo of oneself, by that echo's stamp and held ticks, with e = clock − stamp −
-    /// held ≥ 0 sets the distance to the sender to floor(e/8), brought into 1..1000."
+    /// held ≥ 0 sets the distance to the sender"; what it is set to is P2's.
     fn hear_echo(&mut self, sender: u8, echo: &Echo) {
         if when(echo.host != self.host, Branch::SessEchoOther) {
             return;
@@ -874,12 +889,7 @@ impl End {
         let Some(e) = since_stamp.and_then(|ticks| ticks.checked_sub(echo.held)) else {
             return take(Branch::SessEchoAhead);
         };
-        take(match e / 8 {
-            ..DISTANCE_MIN => Branch::SessEchoOne,
-            DISTANCE_MIN..=DISTANCE_MAX => Branch::SessEcho,
-            _ => Branch::SessEchoThousand,
-        });
-        self.source_mut(sender).distance = (e / 8).clamp(DISTANCE_MIN, DISTANCE_MAX);
+        self.source_mut(sender).distance = half_trip(e);
     }
 }
 

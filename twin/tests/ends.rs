@@ -707,7 +707,7 @@ fn session_reports_use_the_distance_before_the_echo() {
 fn session_echoes() {
     for (clock, stamp, held, distance) in [
         (100, 10, 10, 10),
-        (100, 10, 3, 10),
+        (100, 10, 3, 11),
         (100, 10, 90, 1),
         (100, 10, 91, 40),
         (100, 101, 0, 40),
@@ -735,6 +735,30 @@ fn session_echoes() {
         );
         assert_eq!(end.sources[6].distance, distance);
         assert_eq!((end.sources[0].distance, end.sources[1].distance), (40, 0));
+    }
+}
+
+/// "The distance is now the least whole number of milliseconds that is at least e/8, then
+/// brought into 1..1000. So e = 87 gives 11, e = 80 still 10."
+#[test]
+fn half_trips_are_rounded_up() {
+    let all = (0..=8100).chain([CLOCK_MAX - 1, CLOCK_MAX]);
+    for e in all {
+        let mut end = member(1);
+        let (host, stamp, held) = (1, CLOCK_MAX - e, 0);
+        let heard = session(6, 0, vec![], vec![Echo { host, stamp, held }]);
+        assert_eq!(hear(&mut end, &heard, CLOCK_MAX, 0), Answer::Done);
+        let distance = end.sources[6].distance;
+        let least = (0..1000).find(|ms| 8 * ms >= e).unwrap_or(1000);
+        assert_eq!(distance, least.max(1), "e = {e}");
+        match e {
+            87 => assert_eq!(distance, 11),
+            80 => assert_eq!(distance, 10),
+            0 | 1 | 8 => assert_eq!(distance, 1),
+            9 => assert_eq!(distance, 2),
+            7993.. => assert_eq!(distance, 1000),
+            _ => {}
+        }
     }
 }
 

@@ -255,8 +255,10 @@ impl Run {
         let ticks = match self.dice.below(8) {
             0 => self.dice.below(CLOCK_MAX + 1),
             1 | 2 => self.dice.below(20_000),
+            3 => 8 * self.dice.below(1002) + self.dice.pick(&[0, 1, 7]),
             _ => self.dice.pick(&[
-                0, 1, 7, 8, 15, 16, 80, 87, 88, 7_999, 8_000, 8_007, 8_008, 8_016,
+                0, 1, 7, 8, 9, 15, 16, 80, 81, 87, 88, 7_992, 7_993, 7_999, 8_000, 8_001, 8_007,
+                8_008, 8_016, CLOCK_MAX,
             ]),
         };
         if self.dice.one_in(6) {

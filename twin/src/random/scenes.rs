@@ -103,12 +103,16 @@ fn last_rounds(run: &mut Run) {
     }
 }
 
-/// "e = clock − stamp − held ≥ 0 sets the distance to the sender to floor(e/8), brought into 1..1000", after the reports.
+/// "e = clock − stamp − held ≥ 0 sets the distance to the sender" to "the least whole number of milliseconds that is at least e/8, then
+/// brought into 1..1000" (document 02, P2), after the reports. Now and then at the last clock, so that e can be as great as it gets.
 fn echo_of_oneself(run: &mut Run) {
     let me = run.me();
     let sender = run.dice.host_but(&[me]);
     let ticks = run.dice.below(40);
-    let clock = run.after(ticks);
+    let clock = match run.dice.one_in(24) {
+        true => CLOCK_MAX,
+        false => run.after(ticks),
+    };
     let (stamp, held) = run.echoed(clock);
     let mut reports = Vec::new();
     if run.dice.one_in(2) {

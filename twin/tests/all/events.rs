@@ -116,7 +116,7 @@ fn leave_and_crash_clear() {
         hear(&mut end, &rqst(2, 0, 9), 3);
         hear(&mut end, &repl(2, 0, 3, 4, C), 3);
         hear(&mut end, &sess(5, 1, &[], &[(1, 0, 0)]), 900);
-        assert_eq!(end.sources[5].distance, 112);
+        assert_eq!(end.sources[5].distance, 113);
         assert_eq!(act(&mut end, &event, 901), Answer::Done);
         // "The next own number stays."
         let mut after = idle(1);

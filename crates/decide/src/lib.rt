@@ -13,6 +13,7 @@ use end::Says;
 use end::Slot;
 use end::Source;
 use end::Span;
+use end::Why;
 use end::Word;
 use state::Change;
 ghost use mathlib.Core.Path.{_≡_};
@@ -26,6 +27,8 @@ ghost use Rattle.end.specs.Records.{isClosed};
 ghost use Rattle.end.specs.Round.{nextRound};
 ghost use Rattle.end.specs.Names.{setRound, hold};
 ghost use Rattle.end.specs.Decide.{number, unless, decideData, reached, decideReply, decideRound, decideRequest, decideRepair, decideAs, risen, opened, apply, effectOf};
+ghost use Rattle.end.specs.Reasons.{reasonOf};
+ghost use Rattle.end.specs.Why.{because};
 ghost use Rattle.decide.specs.Step.{Heeded, stepped};
 
 // ---- what is decided
@@ -225,6 +228,22 @@ fn answer_of(w: Word, d: Decision) -> Answer
         Decision::Replies => Answer::Done,
         Decision::Learns => Answer::Done,
         Decision::BacksOff(_) => Answer::Done,
+    }
+}
+
+// Why a message is ignored, if that is decided.
+pub fn reason_of(d: Decision) -> Why
+    ensures { λ r. ⌜ r ≡ because (reasonOf d) ⌝ }
+{
+    match d {
+        Decision::Ignores(reason) => Why::Because(reason),
+        Decision::Opens => Why::NoReason,
+        Decision::Takes => Why::NoReason,
+        Decision::Repairs => Why::NoReason,
+        Decision::Hushes => Why::NoReason,
+        Decision::Replies => Why::NoReason,
+        Decision::Learns => Why::NoReason,
+        Decision::BacksOff(_) => Why::NoReason,
     }
 }
 

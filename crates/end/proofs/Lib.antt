@@ -9,4 +9,5 @@ pub mod Facts
 pub mod Readings
 pub mod Grounds
 pub mod Reasons
+pub mod ReasonLaws
 pub mod Service

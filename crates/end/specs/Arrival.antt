@@ -2,6 +2,7 @@
 use Prim.Native.Nat.{ℕ}
 use mathlib.Core.Bool.{cond}
 use mathlib.Core.List.{List}
+use mathlib.Core.Option.{Option, none, some}
 use lib.ListN.{getD}
 use lib.Dec.{eqb}
 use Rattle.message.specs.declared.Host.{Host}
@@ -42,6 +43,14 @@ wordOf says m e = record {
   distance = distanceTo e (requesterIn says m);
   cue = messageCue m;
 }
+
+-- the word of a message about a name, by its kind; a SESS is about none
+abbrev pub aboutName : Meaning → End → Option Word
+aboutName m e =
+    cond (eqb (m .kind) DATA) (some (wordOf Data m e))
+    (cond (eqb (m .kind) RQST) (some (wordOf Rqst m e))
+    (cond (eqb (m .kind) REPL) (some (wordOf Repl m e))
+    none))
 
 -- ---- a message by its kind, at the moment of the end's clock
 abbrev pub wordStep : List ℕ → Says → Meaning → End → Step

@@ -146,9 +146,11 @@ stepOf clock us a e = cond (isCrashed (e .status)) (give Ignored e) (actOf us a 
 
 -- "Any event: Has the output at least 128 bytes? 1. Are there 64 draws, one byte each? 2. Is the state sound? 3. Is the clock at
 -- most 2^48−1? 4. Is it at least the state's? 5." The draws are now "64 numbers of 16 bits" (document 02, P1): they are counted as numbers
+abbrev pub stateQuestions : End → ℕ → List Question
+stateQuestions e clock = ask (soundOf e) 3 ∷ ask (ticksIn clock) 4 ∷ ask (leb (e .clock) clock) 5 ∷ []
+
 abbrev pub anyQuestions : End → ℕ → ℕ → ℕ → List Question
-anyQuestions e clock room draws =
-    ask (leb roomNeeded room) 1 ∷ ask (eqb draws drawCount) 2 ∷ ask (soundOf e) 3 ∷ ask (ticksIn clock) 4 ∷ ask (leb (e .clock) clock) 5 ∷ []
+anyQuestions e clock room draws = ask (leb roomNeeded room) 1 ∷ ask (eqb draws drawCount) 2 ∷ stateQuestions e clock
 
 -- "Send: are offsets and lamp in range? 6. For a member, is the next number below 64? 7." Arrival asks the reader's questions
 abbrev pub ownQuestions : Action → End → List Question

@@ -12,6 +12,7 @@ pub mod Session
 pub mod Arrival
 pub mod Fire
 pub mod Event
+pub mod Why
 pub mod Opening
 pub mod Book
 pub mod Run

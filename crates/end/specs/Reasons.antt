@@ -1,5 +1,5 @@
--- Why a message about a name is ignored: document 02, P3, each reason that lies in the name's source as a test, and their order. A message
--- is ignored for the first of them that holds, and only if one does.
+-- Why a message about a name is ignored: document 02, P3, each reason that lies in the name's source as a test, and the order of all ten. A
+-- message is ignored for the first of them that holds, and only if one does. The reason of any event, by the same list: Why.antt.
 use mathlib.Core.Path.{_≡_}
 use Prim.Native.Nat.{ℕ}
 use mathlib.Core.Bool.{Bool, true, false, cond, not, _&&_}
@@ -17,7 +17,7 @@ use Rattle.end.specs.declared.Says.{Says}
 use Rattle.end.specs.declared.Says.the-variants.{Data, Rqst, Repl}
 use Rattle.end.specs.declared.Word.{Word}
 use Rattle.end.specs.declared.Reason.{Reason}
-use Rattle.end.specs.declared.Reason.the-variants.{NotOpen, BelowFirst, OwnAboveLast, AlreadyHeld, ReplyWaiting, ReplyQuiet, RequestQuiet}
+use Rattle.end.specs.declared.Reason.the-variants.{Crashed, WrongStatus, OwnMessage, NotOpen, BelowFirst, OwnAboveLast, AlreadyHeld, ReplyWaiting, ReplyQuiet, RequestQuiet}
 use Rattle.end.specs.declared.Decision.{Decision}
 use Rattle.end.specs.declared.Decision.the-variants.{Ignores, Opens, Takes, Repairs, Hushes, Replies, Learns, BacksOff}
 use Rattle.end.specs.Records.{isClosed, isBelow, isAbove, isHeld, isNo, replyIn}
@@ -39,19 +39,52 @@ isQuiet clock Empty = true
 isQuiet clock (Held reply) = true
 isQuiet clock (Waiting q) = leb clock (q .quiet)
 
--- "source not open (RQST, REPL); below first (DATA, RQST, REPL); own number above last (RQST, REPL); already held (DATA); reply waiting,
--- then reply-quiet (RQST of a held cue); request quiet (RQST of a cue not held, up to last)"
-abbrev pub holds : Says → Moment → Word → Record → Span → Reason → Bool
-holds says t w r x NotOpen = not (isData says) && isClosed x
-holds says t w r x BelowFirst = isBelow x (number w)
-holds says t w r x OwnAboveLast = not (isData says) && (sameHost (w .name .source) (t .me) && isAbove x (number w))
-holds says t w r x AlreadyHeld = isData says && isHeld (r .slot)
-holds says t w r x ReplyWaiting = isRequest says && (isHeld (r .slot) && not (isNo (replyIn (r .slot))))
-holds says t w r x ReplyQuiet = isRequest says && (isHeld (r .slot) && ltb (t .clock) (r .hush))
-holds says t w r x RequestQuiet = isRequest says && (not (isHeld (r .slot)) && (not (isAbove x (number w)) && isQuiet (t .clock) (r .slot)))
+-- ---- the reasons that lie in the name's source, each a sentence about what the reader has of the name: `x` is first and last of its
+-- source, `r` its record
 
+-- "source not open (RQST, REPL)"
+abbrev pub sourceNotOpen : Says → Span → Bool
+sourceNotOpen says x = not (isData says) && isClosed x
+
+-- "below first (DATA, RQST, REPL)"
+abbrev pub belowFirst : Word → Span → Bool
+belowFirst w x = isBelow x (number w)
+
+-- "own number above last (RQST, REPL)"
+abbrev pub ownNumberAboveLast : Says → Moment → Word → Span → Bool
+ownNumberAboveLast says t w x = not (isData says) && (sameHost (w .name .source) (t .me) && isAbove x (number w))
+
+-- "already held (DATA)"
+abbrev pub alreadyHeld : Says → Record → Bool
+alreadyHeld says r = isData says && isHeld (r .slot)
+
+-- "reply waiting, then reply-quiet (RQST of a held cue)"
+abbrev pub replyWaiting : Says → Record → Bool
+replyWaiting says r = isRequest says && (isHeld (r .slot) && not (isNo (replyIn (r .slot))))
+
+abbrev pub replyQuiet : Says → Moment → Record → Bool
+replyQuiet says t r = isRequest says && (isHeld (r .slot) && ltb (t .clock) (r .hush))
+
+-- "request quiet (RQST of a cue not held, up to last)"
+abbrev pub requestQuiet : Says → Moment → Word → Record → Span → Bool
+requestQuiet says t w r x = isRequest says && (not (isHeld (r .slot)) && (not (isAbove x (number w)) && isQuiet (t .clock) (r .slot)))
+
+-- whether a reason lies in the name's source; the first three lie elsewhere (Why.antt)
+abbrev pub holds : Says → Moment → Word → Record → Span → Reason → Bool
+holds says t w r x Crashed = false
+holds says t w r x WrongStatus = false
+holds says t w r x OwnMessage = false
+holds says t w r x NotOpen = sourceNotOpen says x
+holds says t w r x BelowFirst = belowFirst w x
+holds says t w r x OwnAboveLast = ownNumberAboveLast says t w x
+holds says t w r x AlreadyHeld = alreadyHeld says r
+holds says t w r x ReplyWaiting = replyWaiting says r
+holds says t w r x ReplyQuiet = replyQuiet says t r
+holds says t w r x RequestQuiet = requestQuiet says t w r x
+
+-- ---- the list, in document 02's order
 abbrev pub reasons : List Reason
-reasons = NotOpen ∷ BelowFirst ∷ OwnAboveLast ∷ AlreadyHeld ∷ ReplyWaiting ∷ ReplyQuiet ∷ RequestQuiet ∷ []
+reasons = Crashed ∷ WrongStatus ∷ OwnMessage ∷ NotOpen ∷ BelowFirst ∷ OwnAboveLast ∷ AlreadyHeld ∷ ReplyWaiting ∷ ReplyQuiet ∷ RequestQuiet ∷ []
 
 abbrev pub firstThat : (Reason → Bool) → List Reason → Option Reason
 firstThat f [] = none

@@ -1,6 +1,6 @@
 // The types of one SRM end, in the forms that document 01 names. All rules of the end are definitions on these types, in specs/: State,
-// Records, Round, Names, Answer, Messages, Sound, Ready, Decide, Reasons, Session, Arrival, Fire, Event, Opening, in this order; then the
-// service: Book, Run.
+// Records, Round, Names, Answer, Messages, Sound, Ready, Decide, Reasons, Session, Arrival, Fire, Event, Why, Opening, in this order; then
+// the service: Book, Run.
 use message::CueNumber;
 use message::Host;
 use message::Name;
@@ -135,8 +135,12 @@ pub struct Word {
     pub cue: [u8; 24],
 }
 
-// Why a message about a name is ignored: document 02, P3, the reasons that lie in the name's source.
+// Why an event is Ignored: document 02, P3, in its order. A decision on a message about a name has one of those from NotOpen on, which lie
+// in the name's source.
 pub enum Reason {
+    Crashed,
+    WrongStatus,
+    OwnMessage,
     NotOpen,
     BelowFirst,
     OwnAboveLast,
@@ -144,6 +148,14 @@ pub enum Reason {
     ReplyWaiting,
     ReplyQuiet,
     RequestQuiet,
+}
+
+// What the reason call gives: the number of the question that would refuse the event, or why it would be Ignored, or that it would be
+// neither.
+pub enum Why {
+    Refused(u8),
+    Because(Reason),
+    NoReason,
 }
 
 // What is decided on a message about a name: one for each thing that a DATA, RQST or REPL may do. BacksOff has the round that waits.

@@ -36,7 +36,7 @@ read-verdict Fire bytes = tt
 read-verdict Report bytes = tt
 
 -- the message that is read from accepted bytes
-record Heard (s : List ℕ) (m : Message) : Type 0 where
+pub record Heard (s : List ℕ) (m : Message) : Type 0 where
   pub passing : Passing m
   pub means : meaningOf m ≡ meaningFrom s
 
@@ -50,7 +50,7 @@ held-as s h =
     let back : meaningOf (heldAs M) ≡ M = held-back M (counts-small (getD s 0 0) (countsOf M) (a9 .0) .cues) in
     record { passing = record { counts-in = a9 .0; ranges-in = ap inRange back ∙ a10 .0 }; means = back }
 
-heard : (s : List ℕ) (m : Message) → m ≡ readOf s .message → readRefusal s ≡ 0 → Heard s m
+pub heard : (s : List ℕ) (m : Message) → m ≡ readOf s .message → readRefusal s ≡ 0 → Heard s m
 unfolding readOf
 heard s m p h = rw (p ∙ ap (λ (k : ℕ). messageFor k (meaningFrom s)) h) (held-as s h)
 

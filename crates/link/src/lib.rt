@@ -1,4 +1,4 @@
-// The calls of the product: opening an end, and its nine events. No call asks anything of its caller: what is
+// The calls of the product: opening an end, its nine events, and why one would be ignored. No call asks anything of its caller: what is
 // bad is refused by its number, and a refusal changes no byte. All events are one call, `event`, and have one `frame`: the questions, the
 // crashed end, the clock, membership. Each contract gives the answer and the end by `gives` and the output by `leaves`:
 // the crate end, specs/Event.antt. The last says document 01's number of the answer, 0 where the call was not refused, and its values:
@@ -10,8 +10,10 @@ use end::Event;
 use end::Move;
 use end::Opened;
 use end::Params;
+use end::Reason;
 use end::Status;
 use end::Stepped;
+use end::Why;
 use message::Host;
 use message::Message;
 use message::Reading;
@@ -27,7 +29,10 @@ ghost use Rattle.end.specs.declared.Move.the-variants.{Join, Joined, Leave, Lef
 ghost use Rattle.end.specs.Answer.{Did, done, answerOf, calledOf, bufferOf};
 ghost use Rattle.end.specs.Opening.{openRefusal, openingOf};
 ghost use Rattle.end.specs.Event.{Moves, Send, Arrival, Else, Fire, Report, actionOf, gives, leaves};
+ghost use Rattle.end.specs.State.{withClock};
+ghost use Rattle.end.specs.Why.{refusedAs, because, whyOf, whyRefusal};
 ghost use Rattle.link.specs.Promise.{AnswerIs, Promised};
+ghost use Rattle.link.specs.Reason.{suits, Heard, memberReason, firstReason};
 ghost use Rattle.link.specs.Frame.{nothingRead, readingFor, Brought, takes, acted, untakenFor, Acting};
 
 // Opens an end: questions 12 and 13. Refused, it gives host 0's crashed end beside the number.
@@ -161,6 +166,70 @@ pub fn event(
 {
     let reading = reading_for(what, bytes);
     frame(e, clock, draws, what, cue, reading, out)
+}
+
+// ---- the reason call
+
+// Whether the end's status lets it do what the event asks.
+fn suits(what: Event, status: Status) -> bool
+    ensures { λ r. ⌜ r ≡ suits what status ⌝ }
+{
+    let member = state::is_member(status);
+    match what {
+        Event::Moves(m) => membership::may_move(m, status),
+        Event::Send => member,
+        Event::Arrival => member,
+        Event::Fire => member,
+        Event::Report => member,
+    }
+}
+
+// Of a member's events only an arrival may be ignored.
+fn member_reason(end: End, what: Event, message: Message) -> Why
+    requires { ⌜ Heard what message ⌝ }
+    ensures { λ r. ⌜ r ≡ because (memberReason what (meaningOf message) end) ⌝ }
+{
+    match what {
+        Event::Moves(_) => Why::NoReason,
+        Event::Send => Why::NoReason,
+        Event::Arrival => receive::reason(end, message),
+        Event::Fire => Why::NoReason,
+        Event::Report => Why::NoReason,
+    }
+}
+
+// Why an event that is not refused is ignored, if it is.
+fn unrefused_reason(e: End, clock: u64, what: Event, message: Message) -> Why
+    requires { ⌜ Heard what message ⌝ }
+    ensures { λ r. ⌜ r ≡ because (firstReason what (meaningOf message) (withClock e clock)) ⌝ }
+{
+    let status = e.status;
+    if state::is_crashed(status) {
+        return Why::Because(Reason::Crashed);
+    }
+    if suits(what, status) {
+        let end = state::with_clock(e, clock);
+        member_reason(end, what, message)
+    } else {
+        Why::Because(Reason::WrongStatus)
+    }
+}
+
+// Why an event would be ignored, or the number that would refuse it. Nothing is lent to write, and there are neither an output nor draws, so
+// questions 1 and 2 are not asked.
+pub fn reason(e: End, clock: u64, what: Event, cue: [u8; 24], bytes: &[u8]) -> Why
+    ensures { λ r. ⌜ r ≡ whyOf e clock (actionOf what cue (now (bytes .entry))) ⌝ }
+    ensures { λ r. ⌜ whyRefusal r ≡ refusedAs e clock (actionOf what cue (now (bytes .entry))) ⌝ }
+{
+    let reading = reading_for(what, bytes);
+    let verdict = reading.verdict;
+    let message = reading.message;
+    let q = questions::refused_as(e, clock, what, cue, verdict);
+    if q == 0 {
+        unrefused_reason(e, clock, what, message)
+    } else {
+        Why::Refused(q)
+    }
 }
 
 // ---- the calls

@@ -192,7 +192,7 @@ fn may_crash(status: Status) -> bool
     }
 }
 
-fn may_move(m: Move, status: Status) -> bool
+pub fn may_move(m: Move, status: Status) -> bool
     ensures { λ r. ⌜ r ≡ moves m status ⌝ }
 {
     match m {

@@ -15,6 +15,7 @@ ghost use lib.Dec.{leb};
 ghost use Rattle.message.specs.Question.{firstNo, ticksIn, refusalOf};
 ghost use Rattle.end.specs.Sound.{soundOf};
 ghost use Rattle.end.specs.Event.{Send, actionOf, ownQuestions, questionOf};
+ghost use Rattle.end.specs.Why.{refusedAs};
 ghost use Rattle.questions.specs.Read.{ReadAs};
 
 // One question before others whose first no is `rest`.
@@ -64,6 +65,14 @@ fn state_refusal(e: End, clock: u64, rest: u8) -> u8
     let five = asked(e.clock <= clock, 5, rest);
     let four = asked(clock < TICKS_LIMIT, 4, five);
     asked(sound::sound(e), 3, four)
+}
+
+// The first no of those that need neither output nor draws: the reason call's.
+pub fn refused_as(e: End, clock: u64, what: Event, cue: [u8; 24], verdict: Verdict) -> u8
+    ensures { λ r. ⌜ ((bytes : List ℕ) → ReadAs what verdict bytes → r ≡ refusedAs e clock (actionOf what cue bytes)) ⌝ }
+{
+    let own = own_refusal(e, what, cue, verdict);
+    state_refusal(e, clock, own)
 }
 
 // The first no of a call, 0 where every answer is yes. `verdict` is the reader's where the event is an arrival. The state is tested

@@ -3,3 +3,4 @@ pub mod Lists
 pub mod Passes
 pub mod Reports
 pub mod Whole
+pub mod Reasons

@@ -9,9 +9,11 @@ use end::Draw;
 use end::End;
 use end::Heard;
 use end::Moment;
+use end::Reason;
 use end::Says;
 use end::Source;
 use end::Stepped;
+use end::Why;
 use end::Word;
 use message::CueNumber;
 use message::DATA;
@@ -40,9 +42,11 @@ ghost use Rattle.end.specs.Answer.{Did, answerOf, done, calledOf, bufferOf};
 ghost use Rattle.end.specs.Ready.{Ranges, Numbered};
 ghost use Rattle.end.specs.Decide.{decide, effectOf};
 ghost use Rattle.end.specs.Session.{reportedSource, measured, heardFrom};
+ghost use Rattle.end.specs.Why.{because};
 ghost use Rattle.end.specs.Arrival.{messageCue, requesterIn, arrivalOf};
 ghost use Rattle.decide.specs.Step.{Heeded, stepped};
 ghost use Rattle.receive.specs.Steps.{isNamed, saysIn, askerIn, wordIn, subjectOf, effectOn, leftOn, isGot};
+ghost use Rattle.receive.specs.Reason.{namedReason, reasonFor};
 ghost use Rattle.receive.specs.Hearing.{Hearing, HearingOn};
 
 // ---- what a message says
@@ -256,6 +260,38 @@ fn about_name(t: Moment, draws: &[Draw], w: Word, s: Source, out: &mut [u8]) -> 
     let cue = w.cue;
     emit(answer, &cue, out);
     change
+}
+
+// ---- why a message is ignored
+
+// What is decided on a message about a name, if it is that the message is ignored. No distance is looked at.
+fn named_reason(e: End, m: Message) -> Why
+    requires { ⌜ inRange (meaningOf m) ≡ true ⌝ }
+    ensures { λ r. ⌜ r ≡ because (namedReason (meaningOf m) e) ⌝ }
+{
+    let t = state::moment_of(e);
+    let w = word_in(m, 0);
+    let at = w.name.source.0 as usize;
+    let s = e.sources[at];
+    let known = records::record_at(s, w.name.number);
+    let span = s.span;
+    let d = decide::decide(t, w, known, span);
+    decide::reason_of(d)
+}
+
+// The reasons of a member, its clock set: a message of one's own, or what is decided on a message about a name.
+pub fn reason(e: End, m: Message) -> Why
+    requires { ⌜ inRange (meaningOf m) ≡ true ⌝ }
+    ensures { λ r. ⌜ r ≡ because (reasonFor (meaningOf m) e) ⌝ }
+{
+    if m.sender.0 == e.host.0 {
+        return Why::Because(Reason::OwnMessage);
+    }
+    if is_named(m.kind) {
+        named_reason(e, m)
+    } else {
+        Why::NoReason
+    }
 }
 
 // ---- a message of any kind

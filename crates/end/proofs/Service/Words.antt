@@ -24,7 +24,7 @@ use Rattle.end.specs.declared.Moment.{Moment}
 use Rattle.end.specs.declared.Says.{Says}
 use Rattle.end.specs.declared.Says.the-variants.{Data, Rqst, Repl}
 use Rattle.end.specs.declared.Word.{Word}
-use Rattle.end.specs.declared.Reason.the-variants.{NotOpen, BelowFirst, OwnAboveLast, AlreadyHeld, ReplyWaiting, ReplyQuiet, RequestQuiet}
+use Rattle.end.specs.declared.Reason.the-variants.{Crashed, WrongStatus, OwnMessage, NotOpen, BelowFirst, OwnAboveLast, AlreadyHeld, ReplyWaiting, ReplyQuiet, RequestQuiet}
 use Rattle.end.specs.declared.Decision.{Decision}
 use Rattle.end.specs.declared.Decision.the-variants.{Ignores, Opens, Takes, Repairs, Hushes, Replies, Learns, BacksOff}
 use Rattle.end.specs.State.{sourceAt, isMember, withSource, momentOf}
@@ -141,6 +141,9 @@ module _ (t : Moment) (w : Word) (r : Record) (x : Span) where
 
   right : (d : Decision) → Grounds t w r x d → (hands d ≡ true → own ≡ false) → (x ≡ Closed → isHeld (r .slot) ≡ false) → book ≡ hands d
   unfolding Grounds hands
+  right (Ignores Crashed) g mine bare = clash′ g
+  right (Ignores WrongStatus) g mine bare = clash′ g
+  right (Ignores OwnMessage) g mine bare = clash′ g
   right (Ignores NotOpen) g mine bare = let a = and-both (not (isData (w .says))) (isClosed x) g in simp (not-true (isData (w .says)) (a .0), a .1, and-false)
   right (Ignores BelowFirst) g mine bare = simp (g, and-false)
   right (Ignores OwnAboveLast) g mine bare = let a = and-both (not (isData (w .says))) _ g in simp (and-both own _ (a .1) .0, and-false)

@@ -1,0 +1,201 @@
+-- What the reason call says of an event is so: specs/Why.antt.
+use mathlib.Core.Path.{_≡_, refl, sym, ap, _∙_}
+use Prim.Native.Nat.{ℕ, zero, suc, _+_, _-_, _≤_, _<_}
+use native.Mathlib.Omega.{arith}
+use mathlib.Core.Bool.{Bool, true, false, cond, not}
+use mathlib.Core.List.{List, [], _∷_}
+use mathlib.Core.Option.{Option, none, some}
+use lib.ListN.{length, getD}
+use lib.Dec.{eqb, leb}
+use borrow.Author.Tests.{le-leb, eq-eqb, eqb-true}
+use Rattle.message.specs.Limit.{roomNeeded}
+use Rattle.message.specs.Message.{Meaning, DATA, RQST, REPL, meaningFrom}
+use Rattle.message.specs.Question.{sameHost}
+use Rattle.end.specs.declared.Slot.{Slot}
+use Rattle.end.specs.declared.Slot.the-variants.{Empty, Held, Waiting}
+use Rattle.end.specs.declared.Reply.the-variants.{No, Due}
+use Rattle.end.specs.declared.Record.{Record}
+use Rattle.end.specs.declared.Span.{Span}
+use Rattle.end.specs.declared.Span.the-variants.{Closed}
+use Rattle.end.specs.declared.Says.{Says}
+use Rattle.end.specs.declared.Says.the-variants.{Data, Rqst, Repl}
+use Rattle.end.specs.declared.Word.{Word}
+use Rattle.end.specs.declared.Reason.{Reason}
+use Rattle.end.specs.declared.Reason.the-variants.{Crashed, WrongStatus, OwnMessage, NotOpen, BelowFirst, OwnAboveLast, AlreadyHeld, ReplyWaiting, ReplyQuiet, RequestQuiet}
+use Rattle.end.specs.declared.Why.{Why}
+use Rattle.end.specs.declared.Why.the-variants as why
+use Rattle.end.specs.declared.Decision.{Decision}
+use Rattle.end.specs.declared.Decision.the-variants.{Ignores, Opens, Takes, Repairs, Hushes, Replies, Learns, BacksOff}
+use Rattle.end.specs.declared.Earliest.{Earliest}
+use Rattle.end.specs.declared.Earliest.the-variants.{NoWait, First}
+use Rattle.end.specs.declared.Source.{Source}
+use Rattle.end.specs.declared.Move.{Move}
+use Rattle.end.specs.declared.End.{End}
+use Rattle.end.specs.State.{sourceAt, isMember, isCrashed, momentOf, withClock}
+use Rattle.end.specs.Records.{within, recordAt, isHeld}
+use Rattle.end.specs.Sound.{allBelow}
+use Rattle.end.specs.Round.{drawCount}
+use Rattle.end.specs.Answer.{Effect, Out, Done, Ignored, Nothing, Step, give, Outcome, Refused, Did, Result, done}
+use Rattle.end.specs.Decide.{number, known, decide, effectOf, stepAt}
+use Rattle.end.specs.Reasons.{reasons, firstThat, reasonOf}
+use Rattle.end.specs.Session.{sessionOf}
+use Rattle.end.specs.Arrival.{wordOf, aboutName, messageStep, arrivalOf}
+use Rattle.end.specs.Fire.{fireAt, fired, earliest}
+use Rattle.end.specs.Event.{Other, Fire, Report, Action, Moves, Send, Arrival, Else, moves, moveOf, otherOf, actOf, stepOf, questionOf, eventOf}
+use Rattle.end.specs.Why.{wrongStatus, ownMessage, saidBy, holdsOf, reasonHolds, refusedAs, because, whyOf, reasonNumber, isIgnored, ReasonIsFirst, Foretells, WhyForetells}
+use Rattle.end.proofs.Tools.{byCond, byTest, clash, clash′}
+use Rattle.end.proofs.RecordLaws.{at-outside}
+use Rattle.end.proofs.SoundLaws.{all-at}
+use Rattle.end.proofs.Reasons.{ignored-for-the-first-reason}
+
+-- ---- the first of the list that holds: it holds, and those before it do not
+
+-- the reason at a place of the list
+abbrev at : List Reason → ℕ → Reason
+at l i = getD l i Crashed
+
+record FirstAt (f : Reason → Bool) (l : List Reason) (reason : Reason) : Type 0 where
+  pub index : ℕ
+  pub short : index < length l
+  pub there : at l index ≡ reason
+  pub true-there : f reason ≡ true
+  pub false-before : (j : ℕ) → j < index → f (at l j) ≡ false
+
+first-at : (f : Reason → Bool) (l : List Reason) (reason : Reason) → firstThat f l ≡ some reason → FirstAt f l reason
+first-at f [] reason = λ p. let z : _≡_ {A = ℕ} 0 1 = cc in absurd (omega arith)
+first-at f (x ∷ l) reason = byCond (λ o. o ≡ some reason → FirstAt f (x ∷ l) reason) (f x)
+    (λ h p.
+    let same : x ≡ reason = cc in
+    record { index = 0; short = omega arith; there = same; true-there = sym (ap f same) ∙ h; false-before = λ j k. absurd (omega arith) })
+    (λ h p.
+    let rest = first-at f l reason p in
+    record { index = suc (rest .index); short = omega (arith, rest .short); there = rest .there; true-there = rest .true-there; false-before = before h (rest .index) (rest .false-before) })
+  where
+    before : f x ≡ false → (i : ℕ) → ((j : ℕ) → j < i → f (at l j) ≡ false) → (j : ℕ) → j < suc i → f (at (x ∷ l) j) ≡ false
+    before h i g zero k = h
+    before h i g (suc j) k = g j (omega arith)
+
+-- a reason's number is its place in the list, from 1
+numbered : (reason : Reason) → (1 ≤ reasonNumber reason) × (at reasons (reasonNumber reason - 1) ≡ reason)
+numbered Crashed = (omega arith, refl)
+numbered WrongStatus = (omega arith, refl)
+numbered OwnMessage = (omega arith, refl)
+numbered NotOpen = (omega arith, refl)
+numbered BelowFirst = (omega arith, refl)
+numbered OwnAboveLast = (omega arith, refl)
+numbered AlreadyHeld = (omega arith, refl)
+numbered ReplyWaiting = (omega arith, refl)
+numbered ReplyQuiet = (omega arith, refl)
+numbered RequestQuiet = (omega arith, refl)
+
+placed : (i : ℕ) → i < length reasons → reasonNumber (at reasons i) ≡ suc i
+unfolding allBelow
+placed i h = eqb-true _ _ (all-at (λ i. eqb (reasonNumber (at reasons i)) (suc i)) 10 i refl h)
+
+first-holds : (f : Reason → Bool) (reason : Reason) → firstThat f reasons ≡ some reason
+    → (f reason ≡ true) × ((other : Reason) → reasonNumber other < reasonNumber reason → f other ≡ false)
+first-holds f reason p =
+    let w = first-at f reasons reason p in
+    let n : reasonNumber reason ≡ suc (w .index) = ap reasonNumber (sym (w .there)) ∙ placed (w .index) (w .short) in (
+      w .true-there,
+      λ other l.
+          let k = numbered other in
+          sym (ap f (k .1)) ∙ w .false-before (reasonNumber other - 1) (omega (arith, k .0, l, n)),
+    )
+
+because-some : (o : Option Reason) (reason : Reason) → because o ≡ why.Because reason → o ≡ some reason
+because-some none reason p = cc
+because-some (some x) reason p = cc
+
+pub reason-is-first : ReasonIsFirst
+unfolding whyOf
+reason-is-first e clock a reason = byCond (λ (x : Why). x ≡ why.Because reason → (reasonHolds e clock a reason ≡ true)
+    × ((other : Reason) → reasonNumber other < reasonNumber reason → reasonHolds e clock a other ≡ false)) (eqb (refusedAs e clock a) 0)
+    (λ t p. first-holds (reasonHolds e clock a) reason (because-some _ reason p))
+    (λ t p. let z : _≡_ {A = ℕ} 0 1 = cc in absurd (omega arith))
+
+-- ---- what the event gives
+
+-- a decision is ignored where it has a reason
+decided : (w : Word) (d : Decision) → Foretells (because (reasonOf d)) (Did (effectOf w d))
+unfolding effectOf
+decided w (Ignores reason) = refl
+decided w Opens = (_, refl, refl)
+decided w Takes = (_, refl, refl)
+decided w Repairs = (_, refl, refl)
+decided w Hushes = (_, refl, refl)
+decided w Replies = (_, refl, refl)
+decided w Learns = (_, refl, refl)
+decided w (BacksOff k) = (_, refl, refl)
+
+-- the reasons from the fourth on, by what is said of a name
+abbrev pub later : End → Option Word → Option Reason
+later e o = firstThat (λ reason. holdsOf e reason o) (NotOpen ∷ BelowFirst ∷ OwnAboveLast ∷ AlreadyHeld ∷ ReplyWaiting ∷ ReplyQuiet ∷ RequestQuiet ∷ [])
+
+closed-bare : (w : Word) (s : Source) → s .span ≡ Closed → isHeld (known w s .slot) ≡ false
+closed-bare w s p = ap (λ (r : Record). isHeld (r .slot)) (at-outside s (number w) (ap (λ (x : Span). within x (number w)) p))
+
+pub later-decided : (e : End) (w : Word) → later e (some w) ≡ reasonOf (decide (momentOf e) w (sourceAt e (w .name .source)))
+later-decided e w =
+    let s = sourceAt e (w .name .source) in
+    sym (ignored-for-the-first-reason (momentOf e) w (known w s) (s .span) (closed-bare w s))
+
+-- a message at a member, from another
+module _ (us : List ℕ) (m : Meaning) (e : End) where
+  about : (says : Says) → Foretells (because (later e (some (wordOf says m e)))) (Did (stepAt (momentOf e) us (wordOf says m e) e .effect))
+  unfolding stepAt
+  about says = rw (later-decided e (wordOf says m e)) (decided (wordOf says m e) (decide (momentOf e) (wordOf says m e) (sourceAt e (wordOf says m e .name .source))))
+
+  message-told : Foretells (because (later e (aboutName m e))) (Did (messageStep us m e .effect))
+  unfolding messageStep sessionOf
+  message-told = byTest (eqb (m .kind) DATA) (λ d. rw d (about Data))
+      (λ d. byTest (eqb (m .kind) RQST) (λ r. rw (d, r) (about Rqst))
+      (λ r. byTest (eqb (m .kind) REPL) (λ p. rw (d, r, p) (about Repl))
+      (λ p. rw (d, r, p) (_, refl, refl))))
+
+  arrival-told : Foretells (because (cond (sameHost (m .sender) (e .host)) (some OwnMessage) (later e (aboutName m e)))) (Did (arrivalOf us m e .effect))
+  unfolding arrivalOf
+  arrival-told = byTest (sameHost (m .sender) (e .host)) (λ o. rw o) (λ o. rw o message-told)
+
+-- Fire is never Ignored
+fire-at : (us : List ℕ) (e : End) (x : Earliest) → isIgnored (fired us e x .effect) ≡ false
+unfolding fired fireAt
+fire-at us e NoWait = refl
+fire-at us e (First w) = go (recordAt (sourceAt e (w .name .source)) (w .name .number .0) .slot)
+  where
+    go : (slot : Slot) → isIgnored (fireAt us (w .name) e slot .effect) ≡ false
+    go Empty = refl
+    go (Waiting q) = refl
+    go (Held No) = refl
+    go (Held (Due due requester)) = refl
+
+other-told : (us : List ℕ) (o : Other) (e : End) → isIgnored (otherOf us o e .effect) ≡ false
+other-told us Fire e = fire-at us e (earliest e 8)
+other-told us Report e = refl
+
+-- an event on an end that is not crashed and whose clock is set
+module _ (us : List ℕ) (e : End) where
+  abbrev first : Action → Option Reason
+  first a = cond (wrongStatus a (e .status)) (some WrongStatus) (cond (ownMessage a (e .host)) (some OwnMessage) (later e (saidBy a e)))
+
+  act-told : (a : Action) → Foretells (because (first a)) (Did (actOf us a e .effect))
+  unfolding actOf moveOf
+  act-told (Moves m) = byTest (moves m (e .status)) (λ t. rw t (_, refl, refl)) (λ t. rw t)
+  act-told (Send cue) = byTest (isMember (e .status)) (λ t. rw t (_, refl, refl)) (λ t. rw t)
+  act-told (Arrival bytes) = byTest (isMember (e .status)) (λ t. rw t (arrival-told us (meaningFrom bytes) e)) (λ t. rw t)
+  act-told (Else o) = byTest (isMember (e .status)) (λ t. rw t (_, refl, other-told us o e)) (λ t. rw t)
+
+step-told : (e : End) (clock : ℕ) (us : List ℕ) (a : Action) → Foretells (because (firstThat (reasonHolds e clock a) reasons)) (Did (stepOf clock us a e .effect))
+unfolding stepOf
+step-told e clock us a = byTest (isCrashed (e .status)) (λ t. rw t) (λ t. rw t (act-told us (withClock e clock) a))
+
+-- with an output and draws as they must be, the questions asked are the same
+asked : (e : End) (clock room draws : ℕ) (a : Action) → roomNeeded ≤ room → draws ≡ drawCount → questionOf e a clock room draws ≡ refusedAs e clock a
+unfolding questionOf
+asked e clock room draws a r d = rw (le-leb roomNeeded room r, eq-eqb draws drawCount d)
+
+pub why-foretells : WhyForetells
+unfolding whyOf eventOf
+why-foretells e clock room draws a r d =
+    let q : questionOf e a clock room (length draws) ≡ refusedAs e clock a = asked e clock room (length draws) a r d in
+    byTest (eqb (refusedAs e clock a) 0) (λ t. rw (q, t) (step-told e clock draws a)) (λ t. rw (q, t))

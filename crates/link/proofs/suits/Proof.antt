@@ -1,0 +1,57 @@
+-- `link::suits` meets its contract: the event that was matched has this test.
+use borrow.Author.Needs.{needs}
+use Rattle.link.proofs.suits.Statement.{statement}
+use Rattle.link.proofs.suits.Tie as tie
+
+is-member-requires : tie.Need-is-member-requires
+is-member-requires c κs = search needs
+
+enum-known-what : tie.Need-enum-known-what
+enum-known-what c = search needs
+
+may-move-requires : tie.Need-may-move-requires
+may-move-requires c κs = search needs
+
+enum-told : tie.Need-enum-told
+enum-told c = search needs
+
+enum-told-2 : tie.Need-enum-told-2
+enum-told-2 c = search needs
+
+enum-told-3 : tie.Need-enum-told-3
+enum-told-3 c = search needs
+
+enum-told-4 : tie.Need-enum-told-4
+enum-told-4 c = search needs
+
+returns : tie.Need-returns
+returns c = rw (c .before .before .what .given .1) (c .may-move .ensures)
+
+returns-2 : tie.Need-returns-2
+returns-2 c = search needs
+
+returns-3 : tie.Need-returns-3
+returns-3 c = search needs
+
+returns-4 : tie.Need-returns-4
+returns-4 c = search needs
+
+returns-5 : tie.Need-returns-5
+returns-5 c = search needs
+
+pub suits-spec : {M : Type 1} → statement M
+suits-spec =
+    tie.close
+    (tie.spec
+    is-member-requires
+    enum-known-what
+    may-move-requires
+    enum-told
+    enum-told-2
+    enum-told-3
+    enum-told-4
+    returns
+    returns-2
+    returns-3
+    returns-4
+    returns-5)

@@ -1,0 +1,42 @@
+-- Why an event that is not refused is ignored, as the code finds it: crashed, wrong status, and of an arrival what the message's reason is.
+use mathlib.Core.Path.{_≡_}
+use mathlib.Core.Bool.{Bool, true, cond}
+use mathlib.Core.Option.{Option, none, some}
+use Rattle.message.specs.declared.Message.{Message}
+use Rattle.message.specs.Message.{Meaning, meaningOf}
+use Rattle.message.specs.Question.{inRange}
+use Rattle.end.specs.declared.Status.{Status}
+use Rattle.end.specs.declared.Reason.{Reason}
+use Rattle.end.specs.declared.Reason.the-variants.{Crashed, WrongStatus}
+use Rattle.end.specs.declared.Event.{Event}
+use Rattle.end.specs.declared.Event.the-variants.{Moves, Send, Arrival, Fire, Report}
+use Rattle.end.specs.declared.End.{End}
+use Rattle.end.specs.State.{isMember, isCrashed}
+use Rattle.end.specs.Event.{moves}
+use Rattle.receive.specs.Reason.{reasonFor}
+
+-- the status lets the end do what the event asks
+abbrev pub suits : Event → Status → Bool
+suits (Moves m) status = moves m status
+suits Send status = isMember status
+suits Arrival status = isMember status
+suits Fire status = isMember status
+suits Report status = isMember status
+
+-- the message of an arrival has passed question 10
+abbrev pub Heard : Event → Message → Type 0
+Heard (Moves m) message = Unit {0}
+Heard Send message = Unit {0}
+Heard Arrival message = inRange (meaningOf message) ≡ true
+Heard Fire message = Unit {0}
+Heard Report message = Unit {0}
+
+abbrev pub memberReason : Event → Meaning → End → Option Reason
+memberReason (Moves m) M e = none
+memberReason Send M e = none
+memberReason Arrival M e = reasonFor M e
+memberReason Fire M e = none
+memberReason Report M e = none
+
+abbrev pub firstReason : Event → Meaning → End → Option Reason
+firstReason what M e = cond (isCrashed (e .status)) (some Crashed) (cond (suits what (e .status)) (memberReason what M e) (some WrongStatus))

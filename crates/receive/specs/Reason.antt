@@ -1,0 +1,21 @@
+-- Why a member ignores a message, as the code finds it: by what is decided on it. That this is the first of document 02's reasons that
+-- holds is the crate end's (proofs/ReasonLaws.antt).
+use mathlib.Core.Bool.{cond}
+use mathlib.Core.Option.{Option, none, some}
+use Rattle.message.specs.Message.{Meaning}
+use Rattle.message.specs.Question.{sameHost}
+use Rattle.end.specs.declared.Reason.{Reason}
+use Rattle.end.specs.declared.Reason.the-variants.{OwnMessage}
+use Rattle.end.specs.declared.End.{End}
+use Rattle.end.specs.State.{sourceAt, momentOf}
+use Rattle.end.specs.Decide.{decide}
+use Rattle.end.specs.Reasons.{reasonOf}
+use Rattle.end.specs.Arrival.{messageName}
+use Rattle.receive.specs.Steps.{isNamed, wordIn}
+
+-- the distance to the requester is not looked at, and stands as 0
+abbrev pub namedReason : Meaning → End → Option Reason
+namedReason m e = reasonOf (decide (momentOf e) (wordIn m 0) (sourceAt e (messageName m .source)))
+
+abbrev pub reasonFor : Meaning → End → Option Reason
+reasonFor m e = cond (sameHost (m .sender) (e .host)) (some OwnMessage) (cond (isNamed (m .kind)) (namedReason m e) none)

@@ -6,6 +6,7 @@ use Rattle.cases.specs.Answers.{answerRows}
 use Rattle.cases.specs.Moves.{moveRows}
 use Rattle.cases.specs.Wire.{wireRows}
 use Rattle.cases.specs.Timed.{timedRows, halfTripRows}
+use Rattle.cases.specs.Reasons.{reasonRows}
 use Rattle.cases.specs.Quiet.{quietRows}
 use Rattle.cases.specs.Stage.{stageRows}
 use Rattle.cases.proofs.Opened.{opened}
@@ -41,3 +42,7 @@ stage-holds = (refl, (refl, tt))
 pub answers-hold : Hold answerRows
 unfolding answerRows opened
 answers-hold = (refl, (refl, (refl, (refl, (refl, (refl, (refl, (refl, (refl, (refl, (refl, (refl, (refl, (refl, (refl, (refl, (refl, tt)))))))))))))))))
+
+pub reasons-hold : Hold reasonRows
+unfolding reasonRows opened
+reasons-hold = (refl, (refl, (refl, (refl, (refl, (refl, (refl, (refl, (refl, (refl, (refl, (refl, (refl, (refl, (refl, (refl, (refl, (refl, (refl, (refl, (refl, (refl, (refl, (refl, (refl, (refl, (refl, (refl, (refl, tt)))))))))))))))))))))))))))))

@@ -12,3 +12,4 @@ pub mod Stage
 pub mod NotRuns
 pub mod GotLimits
 pub mod CallLimits
+pub mod Reasons

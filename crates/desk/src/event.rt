@@ -2,6 +2,7 @@
 use crate::answer;
 use crate::codec;
 use crate::kept;
+use crate::why;
 use end::Answer;
 use end::Draw;
 use end::End;
@@ -162,7 +163,7 @@ fn told(
     rest(text, n, out, after);
 }
 
-fn cue_for(word: u64, line: &[u8; 1000], end: usize, at: &mut usize) -> [u8; 24] {
+pub fn cue_for(word: u64, line: &[u8; 1000], end: usize, at: &mut usize) -> [u8; 24] {
     if word == words::SEND {
         trace::cue(line, end, at)
     } else {
@@ -196,7 +197,7 @@ fn brought(
     codec::written(trace::composed::composed(line, end, at), bytes)
 }
 
-fn bring(
+pub fn bring(
     word: u64,
     n: &[usize; 20],
     store: &[u8; 17408],
@@ -221,7 +222,7 @@ fn is_event(word: u64) -> bool {
 }
 
 // The clock of an event; no other word stands before one.
-fn clock_of(word: u64, line: &[u8; 1000], end: usize, at: &mut usize) -> u64 {
+pub fn clock_of(word: u64, line: &[u8; 1000], end: usize, at: &mut usize) -> u64 {
     if !is_event(word) {
         trace::spoil(at);
     }
@@ -246,6 +247,7 @@ pub fn event(
     let mut bytes = [0u8; 256];
     let len = bring(word, n, store, line, end, at, &mut bytes);
     crate::begin(n, out);
+    let reason = why::of(e, word, clock, cue, &bytes, len);
     let s = call_with(
         e,
         word,
@@ -261,6 +263,8 @@ pub fn event(
     let a = s.answer;
     let after = s.end;
     told(e, a, after, n, out, store, text);
+    text::sign(text, n, b';');
+    why::say(text, n, reason);
     after
 }
 

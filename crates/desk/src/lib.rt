@@ -7,6 +7,7 @@ pub mod ask;
 pub mod codec;
 pub mod event;
 pub mod kept;
+pub mod why;
 
 // How much of the text is used is at picture::text::USED, place 0. How many draws there are, how many bytes the output has, and what it is
 // filled with.

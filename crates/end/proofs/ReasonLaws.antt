@@ -39,10 +39,10 @@ use Rattle.end.specs.Answer.{Effect, Out, Done, Ignored, Nothing, Step, 
 use Rattle.end.specs.Decide.{number, known, decide, effectOf, stepAt}
 use Rattle.end.specs.Reasons.{reasons, firstThat, reasonOf}
 use Rattle.end.specs.Session.{sessionOf}
-use Rattle.end.specs.Arrival.{wordOf, aboutName, messageStep, arrivalOf}
+use Rattle.end.specs.Arrival.{wordOf, saidIn, messageStep, arrivalOf}
 use Rattle.end.specs.Fire.{fireAt, fired, earliest}
 use Rattle.end.specs.Event.{Other, Fire, Report, Action, Moves, Send, Arrival, Else, moves, moveOf, otherOf, actOf, stepOf, questionOf, eventOf}
-use Rattle.end.specs.Why.{wrongStatus, ownMessage, saidBy, holdsOf, reasonHolds, refusedAs, because, whyOf, reasonNumber, isIgnored, ReasonIsFirst, Foretells, WhyForetells}
+use Rattle.end.specs.Why.{wrongStatus, ownMessage, saidBy, holdsOf, reasonHolds, refusedAs, because, whyOf, reasonNumber, isIgnored, ReasonIsFirst, NumberExactly, ReasonExactly, NoneExactly}
 use Rattle.end.proofs.Tools.{byCond, byTest, clash, clash′}
 use Rattle.end.proofs.RecordLaws.{at-outside}
 use Rattle.end.proofs.SoundLaws.{all-at}
@@ -116,6 +116,12 @@ reason-is-first e clock a reason = byCond (λ (x : Why). x ≡ why.Because reaso
 
 -- ---- what the event gives
 
+-- what the reason call says of an outcome; the three cases exclude each other
+abbrev Foretells : Why → Outcome → Type 0
+Foretells (why.Refused k) o = o ≡ Refused k
+Foretells (why.Because reason) o = o ≡ Did Ignored
+Foretells why.NoReason o = (x : Effect) × (o ≡ Did x) × (isIgnored x ≡ false)
+
 -- a decision is ignored where it has a reason
 decided : (w : Word) (d : Decision) → Foretells (because (reasonOf d)) (Did (effectOf w d))
 unfolding effectOf
@@ -146,14 +152,14 @@ module _ (us : List ℕ) (m : Meaning) (e : End) where
   unfolding stepAt
   about says = rw (later-decided e (wordOf says m e)) (decided (wordOf says m e) (decide (momentOf e) (wordOf says m e) (sourceAt e (wordOf says m e .name .source))))
 
-  message-told : Foretells (because (later e (aboutName m e))) (Did (messageStep us m e .effect))
+  message-told : Foretells (because (later e (saidIn m e))) (Did (messageStep us m e .effect))
   unfolding messageStep sessionOf
   message-told = byTest (eqb (m .kind) DATA) (λ d. rw d (about Data))
       (λ d. byTest (eqb (m .kind) RQST) (λ r. rw (d, r) (about Rqst))
       (λ r. byTest (eqb (m .kind) REPL) (λ p. rw (d, r, p) (about Repl))
       (λ p. rw (d, r, p) (_, refl, refl))))
 
-  arrival-told : Foretells (because (cond (sameHost (m .sender) (e .host)) (some OwnMessage) (later e (aboutName m e)))) (Did (arrivalOf us m e .effect))
+  arrival-told : Foretells (because (cond (sameHost (m .sender) (e .host)) (some OwnMessage) (later e (saidIn m e)))) (Did (arrivalOf us m e .effect))
   unfolding arrivalOf
   arrival-told = byTest (sameHost (m .sender) (e .host)) (λ o. rw o) (λ o. rw o message-told)
 
@@ -194,8 +200,62 @@ asked : (e : End) (clock room draws : ℕ) (a : Action) → roomNeeded ≤ room 
 unfolding questionOf
 asked e clock room draws a r d = rw (le-leb roomNeeded room r, eq-eqb draws drawCount d)
 
-pub why-foretells : WhyForetells
+foretells : (e : End) (clock room : ℕ) (draws : List ℕ) (a : Action) → roomNeeded ≤ room → length draws ≡ drawCount
+    → Foretells (whyOf e clock a) (eventOf e a clock room draws .outcome)
 unfolding whyOf eventOf
-why-foretells e clock room draws a r d =
+foretells e clock room draws a r d =
     let q : questionOf e a clock room (length draws) ≡ refusedAs e clock a = asked e clock room (length draws) a r d in
     byTest (eqb (refusedAs e clock a) 0) (λ t. rw (q, t) (step-told e clock draws a)) (λ t. rw (q, t))
+
+-- ---- so each of the three comes exactly where the outcome is its
+
+never : {P : Type 0} → _≡_ {A = ℕ} 0 1 → P
+never z = absurd (omega arith)
+
+-- a number
+number-then : (w : Why) (o : Outcome) (k : ℕ) → Foretells w o → w ≡ why.Refused k → o ≡ Refused k
+number-then (why.Refused x) o k f p = f ∙ cc
+number-then (why.Because x) o k f p = never cc
+number-then why.NoReason o k f p = never cc
+
+then-number : (w : Why) (o : Outcome) (k : ℕ) → Foretells w o → o ≡ Refused k → w ≡ why.Refused k
+then-number (why.Refused x) o k f p = cc
+then-number (why.Because x) o k f p = never cc
+then-number why.NoReason o k f p = let q = f .1 in never cc
+
+pub number-exactly : NumberExactly
+number-exactly e clock a k room draws r d =
+    let f = foretells e clock room draws a r d in
+    (number-then _ _ k f, then-number _ _ k f)
+
+-- a reason
+reason-then : (w : Why) (o : Outcome) (reason : Reason) → Foretells w o → w ≡ why.Because reason → o ≡ Did Ignored
+reason-then (why.Refused x) o reason f p = never cc
+reason-then (why.Because x) o reason f p = f
+reason-then why.NoReason o reason f p = never cc
+
+then-reason : (w : Why) (o : Outcome) → Foretells w o → o ≡ Did Ignored → (reason : Reason) × (w ≡ why.Because reason)
+then-reason (why.Refused x) o f p = never cc
+then-reason (why.Because x) o f p = (x, refl)
+then-reason why.NoReason o f p = let q : Did (f .0) ≡ Did Ignored = sym (f .1) ∙ p in let same : f .0 ≡ Ignored = cc in clash (sym (ap isIgnored same) ∙ f .2)
+
+pub reason-exactly : ReasonExactly
+reason-exactly e clock a room draws r d =
+    let f = foretells e clock room draws a r d in
+    (λ reason. reason-then _ _ reason f, then-reason _ _ f)
+
+-- none
+none-then : (w : Why) (o : Outcome) → Foretells w o → w ≡ why.NoReason → (x : Effect) × (o ≡ Did x) × (isIgnored x ≡ false)
+none-then (why.Refused x) o f p = never cc
+none-then (why.Because x) o f p = never cc
+none-then why.NoReason o f p = f
+
+then-none : (w : Why) (o : Outcome) → Foretells w o → (x : Effect) → o ≡ Did x → isIgnored x ≡ false → w ≡ why.NoReason
+then-none (why.Refused y) o f x p n = never cc
+then-none (why.Because y) o f x p n = let same : x ≡ Ignored = cc in clash (sym (ap isIgnored same) ∙ n)
+then-none why.NoReason o f x p n = refl
+
+pub none-exactly : NoneExactly
+none-exactly e clock a room draws r d =
+    let f = foretells e clock room draws a r d in
+    (none-then _ _ f, then-none _ _ f)

@@ -24,7 +24,7 @@ use Rattle.end.specs.Round.{drawCount}
 use Rattle.end.specs.Answer.{Effect, Out, Got, Done, Ignored, Nothing, Outcome, Refused, Did}
 use Rattle.end.specs.Decide.{known}
 use Rattle.end.specs.Reasons.{holds, reasons, firstThat}
-use Rattle.end.specs.Arrival.{aboutName}
+use Rattle.end.specs.Arrival.{saidIn}
 use Rattle.end.specs.Event.{Action, Moves, Send, Arrival, Else, moves, stateQuestions, ownQuestions, eventOf}
 
 -- ---- the reasons
@@ -47,7 +47,7 @@ ownMessage (Else o) me = false
 abbrev pub saidBy : Action → End → Option Word
 saidBy (Moves m) e = none
 saidBy (Send cue) e = none
-saidBy (Arrival bytes) e = aboutName (meaningFrom bytes) e
+saidBy (Arrival bytes) e = saidIn (meaningFrom bytes) e
 saidBy (Else o) e = none
 
 -- a reason that lies in the name's source, at the end's clock
@@ -149,13 +149,20 @@ abbrev pub ReasonIsFirst : Type 0
 ReasonIsFirst = (e : End) (clock : ℕ) (a : Action) (reason : Reason) → whyOf e clock a ≡ why.Because reason
     → (reasonHolds e clock a reason ≡ true) × ((other : Reason) → reasonNumber other < reasonNumber reason → reasonHolds e clock a other ≡ false)
 
--- what the event then gives, with an output and draws as they must be: "It gives "none" exactly where the event would be neither refused nor
--- Ignored"; "An event that would be refused as 3 to 11 yields that number." The three cases of an outcome exclude each other, so each is exact
-abbrev pub Foretells : Why → Outcome → Type 0
-Foretells (why.Refused k) o = o ≡ Refused k
-Foretells (why.Because reason) o = o ≡ Did Ignored
-Foretells why.NoReason o = (x : Effect) × (o ≡ Did x) × (isIgnored x ≡ false)
+-- what the event gives, with an output and draws as they must be
+abbrev pub Gives : End → ℕ → Action → (Outcome → Type 0) → Type 0
+Gives e clock a P = (room : ℕ) (draws : List ℕ) → roomNeeded ≤ room → length draws ≡ drawCount → P (eventOf e a clock room draws .outcome)
 
-abbrev pub WhyForetells : Type 0
-WhyForetells = (e : End) (clock room : ℕ) (draws : List ℕ) (a : Action) → roomNeeded ≤ room → length draws ≡ drawCount
-    → Foretells (whyOf e clock a) (eventOf e a clock room draws .outcome)
+-- "An event that would be refused as 3 to 11 yields that number.": exactly where the event is refused with that number
+abbrev pub NumberExactly : Type 0
+NumberExactly = (e : End) (clock : ℕ) (a : Action) (k : ℕ) → Gives e clock a (λ o. (whyOf e clock a ≡ why.Refused k → o ≡ Refused k) × (o ≡ Refused k → whyOf e clock a ≡ why.Refused k))
+
+-- one of the ten is named exactly where the event is Ignored
+abbrev pub ReasonExactly : Type 0
+ReasonExactly = (e : End) (clock : ℕ) (a : Action)
+    → Gives e clock a (λ o. ((reason : Reason) → whyOf e clock a ≡ why.Because reason → o ≡ Did Ignored) × (o ≡ Did Ignored → (reason : Reason) × (whyOf e clock a ≡ why.Because reason)))
+
+-- "It gives "none" exactly where the event would be neither refused nor Ignored."
+abbrev pub NoneExactly : Type 0
+NoneExactly = (e : End) (clock : ℕ) (a : Action)
+    → Gives e clock a (λ o. (whyOf e clock a ≡ why.NoReason → (x : Effect) × (o ≡ Did x) × (isIgnored x ≡ false)) × ((x : Effect) → o ≡ Did x → isIgnored x ≡ false → whyOf e clock a ≡ why.NoReason))

@@ -24,7 +24,7 @@ use Rattle.end.specs.Sound.{soundOf}
 use Rattle.end.specs.Event.{Action, moves, actionOf, ownQuestions, stateQuestions}
 use Rattle.end.specs.Why.{reasonHolds, refusedAs, because, whyOf, whyRefusal}
 use Rattle.end.proofs.Tools.{byTest, byCond}
-use Rattle.end.specs.Arrival.{aboutName}
+use Rattle.end.specs.Arrival.{saidIn}
 use Rattle.end.proofs.ReasonLaws.{later}
 use Rattle.receive.specs.Reason.{reasonFor}
 use Rattle.receive.proofs.Reasons.{named-later}
@@ -61,7 +61,7 @@ module _ (e : End) (clock : ℕ) (cue bytes : List ℕ) (message : Message) wher
   Crash o = cond (isCrashed (e .status)) (some Crashed) o
 
   arrival-first : (m : Meaning) → firstReason Arrival m (withClock e clock)
-      ≡ Crash (cond (not (isMember (e .status))) (some WrongStatus) (cond (sameHost (m .sender) (e .host)) (some OwnMessage) (later (withClock e clock) (aboutName m (withClock e clock)))))
+      ≡ Crash (cond (not (isMember (e .status))) (some WrongStatus) (cond (sameHost (m .sender) (e .host)) (some OwnMessage) (later (withClock e clock) (saidIn m (withClock e clock)))))
   arrival-first m =
       ap Crash (by-member (isMember (e .status)) (reasonFor m (withClock e clock)) _
       (ap (λ (o : Option Reason). cond (sameHost (m .sender) (e .host)) (some OwnMessage) o) (named-later m (withClock e clock))))

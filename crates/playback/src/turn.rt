@@ -204,6 +204,10 @@ fn played(
             desk::ask::ask(e, other, line, end, at, n, text);
             e
         }
+        words::WHY => {
+            desk::why::why(e, line, end, at, n, out, store, text);
+            e
+        }
         words::SHOW => {
             n[desk::AFTER] = desk::SHOWS;
             e

@@ -16,8 +16,9 @@ use Rattle.message.proofs.CueLaws.{cue-fields-back}
 use Rattle.end.proofs.Bounds.{share-none, share-whole, share-most, share-rises, least-milliseconds}
 use Rattle.end.proofs.Service.Ends.{service}
 use Rattle.end.proofs.Reasons.{ignored-for-the-first-reason}
+use Rattle.end.proofs.ReasonLaws.{reason-is-first, number-exactly, reason-exactly, none-exactly}
 use Rattle.cases.proofs.Shown.{service-shown}
-use Rattle.cases.proofs.Cases.{cases-hold, answers-hold, moves-hold, wire-holds, timed-hold, half-trips-hold, stage-holds, quiet-holds}
+use Rattle.cases.proofs.Cases.{cases-hold, answers-hold, moves-hold, wire-holds, timed-hold, half-trips-hold, reasons-hold, stage-holds, quiet-holds}
 use Rattle.promises.specs.Promises.{Promises}
 
 pub promises : Promises
@@ -92,5 +93,6 @@ promises = record {
     one-round-per-quiet = one-round-per-quiet;
   };
   first-reason = ignored-for-the-first-reason;
-  cases = record { starred = cases-hold; answers = answers-hold; moves = moves-hold; wire = wire-holds; timed = timed-hold; half-trips = half-trips-hold; stage = stage-holds; quiet = quiet-holds };
+  reasons = record { reason-is-first = reason-is-first; number-exactly = number-exactly; reason-exactly = reason-exactly; none-exactly = none-exactly };
+  cases = record { starred = cases-hold; answers = answers-hold; moves = moves-hold; wire = wire-holds; timed = timed-hold; half-trips = half-trips-hold; reasons = reasons-hold; stage = stage-holds; quiet = quiet-holds };
 }

@@ -4,4 +4,5 @@ pub mod States
 pub mod Fires
 pub mod Arrivals
 pub mod BackOff
+pub mod Reasons
 pub mod Promises

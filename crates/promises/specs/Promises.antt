@@ -17,6 +17,7 @@ use Rattle.cases.specs.Answers.{answerRows}
 use Rattle.cases.specs.Moves.{moveRows}
 use Rattle.cases.specs.Wire.{wireRows}
 use Rattle.cases.specs.Timed.{timedRows, halfTripRows}
+use Rattle.cases.specs.Reasons.{reasonRows}
 use Rattle.cases.specs.Stage.{stageRows}
 use Rattle.cases.specs.Quiet.{quietRows}
 use Rattle.promises.specs.Wire.{WireKept}
@@ -25,6 +26,7 @@ use Rattle.promises.specs.States.{StatesKept}
 use Rattle.promises.specs.Fires.{FiresKept}
 use Rattle.promises.specs.Arrivals.{ArrivalsKept}
 use Rattle.promises.specs.BackOff.{BackOffKept}
+use Rattle.promises.specs.Reasons.{ReasonsKept}
 
 -- document 01's cases and what else is pinned by computed rows: the answers one by one, the 25 moves by status, messages as bytes, times, a run by answers and
 -- buffers, reply-quiet times
@@ -35,6 +37,7 @@ pub record CasesKept : Type 0 where
   pub wire : Hold wireRows
   pub timed : Hold timedRows
   pub half-trips : Hold halfTripRows
+  pub reasons : Hold reasonRows
   pub stage : Hold stageRows
   pub quiet : Hold quietRows
 
@@ -53,6 +56,8 @@ pub record Promises : Type 0 where
   -- holds nothing
   pub first-reason : (t : Moment) (w : Word) (r : Record) (x : Span) → (x ≡ Closed → isHeld (r .slot) ≡ false)
       → reasonOf (decideAs (w .says) t w r x) ≡ firstThat (holds (w .says) t w r x) reasons
+  -- why an event is Ignored: document 02, P3
+  pub reasons : ReasonsKept
   -- requests back off, within their bounds
   pub back-off : BackOffKept
   -- "Cases (* is proved)"

@@ -246,3 +246,42 @@ pub const BYTES_DIFFER: u64 = 0x4259544553;
 
 // WRONG
 pub const WRONG_MARK: u64 = 0x57524F4E47;
+
+// why
+pub const WHY: u64 = 0x776879;
+
+// own
+pub const OWN: u64 = 0x6F776E;
+
+// message
+pub const MESSAGE: u64 = 0x6D657373616765;
+
+// not
+pub const NOT: u64 = 0x6E6F74;
+
+// below
+pub const BELOW: u64 = 0x62656C6F77;
+
+// first
+pub const FIRST: u64 = 0x6669727374;
+
+// number
+pub const NUMBER: u64 = 0x6E756D626572;
+
+// above
+pub const ABOVE: u64 = 0x61626F7665;
+
+// last
+pub const LAST: u64 = 0x6C617374;
+
+// already
+pub const ALREADY: u64 = 0x616C7265616479;
+
+// waiting
+pub const WAITING: u64 = 0x77616974696E67;
+
+// quiet
+pub const QUIET: u64 = 0x7175696574;
+
+// request
+pub const REQUEST: u64 = 0x72657175657374;

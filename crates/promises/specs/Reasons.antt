@@ -1,0 +1,29 @@
+-- The reason behind Ignored: document 02, P3; the statements of the crate `end`, Why.
+use mathlib.Core.Path.{_≡_}
+use mathlib.Core.Bool.{true, false}
+use mathlib.Core.List.{List}
+use Prim.Native.Nat.{ℕ, _≤_, _<_}
+use lib.ListN.{length}
+use Rattle.end.specs.declared.Reason.{Reason}
+use Rattle.end.specs.declared.Why.the-variants as why
+use Rattle.end.specs.declared.End.{End}
+use Rattle.end.specs.Answer.{Effect, Ignored, Refused, Did}
+use Rattle.end.specs.Event.{Action, eventOf}
+use Rattle.end.specs.Why.{reasonHolds, reasonNumber, isIgnored, whyOf}
+
+pub record ReasonsKept : Type 0 where
+  -- "The reason named is shown true and those before it false"
+  pub reason-is-first : (e : End) (clock : ℕ) (a : Action) (reason : Reason) → whyOf e clock a ≡ why.Because reason
+      → (reasonHolds e clock a reason ≡ true) × ((other : Reason) → reasonNumber other < reasonNumber reason → reasonHolds e clock a other ≡ false)
+  -- For every state, event, clock, output of at least 128 bytes and 64 draws: a number exactly where the event is refused with it ..
+  pub number-exactly : (e : End) (clock : ℕ) (a : Action) (k room : ℕ) (draws : List ℕ) → 128 ≤ room → length draws ≡ 64
+      → (whyOf e clock a ≡ why.Refused k → eventOf e a clock room draws .outcome ≡ Refused k)
+      × (eventOf e a clock room draws .outcome ≡ Refused k → whyOf e clock a ≡ why.Refused k)
+  -- .. one of the ten reasons exactly where it is Ignored ..
+  pub reason-exactly : (e : End) (clock : ℕ) (a : Action) (room : ℕ) (draws : List ℕ) → 128 ≤ room → length draws ≡ 64
+      → ((reason : Reason) → whyOf e clock a ≡ why.Because reason → eventOf e a clock room draws .outcome ≡ Did Ignored)
+      × (eventOf e a clock room draws .outcome ≡ Did Ignored → (reason : Reason) × (whyOf e clock a ≡ why.Because reason))
+  -- .. and "none" exactly where it is neither.
+  pub none-exactly : (e : End) (clock : ℕ) (a : Action) (room : ℕ) (draws : List ℕ) → 128 ≤ room → length draws ≡ 64
+      → (whyOf e clock a ≡ why.NoReason → (x : Effect) × (eventOf e a clock room draws .outcome ≡ Did x) × (isIgnored x ≡ false))
+      × ((x : Effect) → eventOf e a clock room draws .outcome ≡ Did x → isIgnored x ≡ false → whyOf e clock a ≡ why.NoReason)

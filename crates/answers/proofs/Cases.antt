@@ -4,7 +4,7 @@ use mathlib.Core.List.{[], _∷_, _++_}
 use lib.IntN.{negsuc}
 use Rattle.message.specs.Entry.{asHost, asNumber}
 use Rattle.decimal.specs.Decimal.{figures, decimal, signedDecimal}
-use Rattle.answers.specs.declared.Shown.the-variants.{Out, Got, Done, Ignored, Nothing, Refused}
+use Rattle.answers.specs.declared.Shown.the-variants.{Out, Got, Done, Ignored, Nothing, Refused, Clash}
 use Rattle.answers.specs.AnswerLine.{done, ignored, nothing, answerWords, answerLine}
 
 -- "0 0 done"
@@ -36,3 +36,8 @@ ignored-line = refl
 refused-line : answerLine (asHost 0) 5 (Refused 7) ≡ 48 ∷ 32 ∷ 53 ∷ 32 ∷ 114 ∷ 101 ∷ 102 ∷ 117 ∷ 115 ∷ 101 ∷ 100 ∷ 32 ∷ 55 ∷ 10 ∷ []
 unfolding answerLine answerWords decimal figures
 refused-line = refl
+
+-- "1 40 clash 0 3"
+clash-line : answerLine (asHost 1) 40 (Clash (asHost 0) (asNumber 3)) ≡ 49 ∷ 32 ∷ 52 ∷ 48 ∷ 32 ∷ 99 ∷ 108 ∷ 97 ∷ 115 ∷ 104 ∷ 32 ∷ 48 ∷ 32 ∷ 51 ∷ 10 ∷ []
+unfolding answerLine answerWords decimal figures
+clash-line = refl

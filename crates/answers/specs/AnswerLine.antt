@@ -1,12 +1,12 @@
 -- The line that is printed for a played line of a script. Document 01, "Cases": "prints, without header, end, clock, answer; after
 -- out the message number, after got source, cue number and focus, after "refused" the number". Characters are ASCII codes: 32 is
--- the space, 10 the line feed.
+-- the space, 10 the line feed. Document 02, P4: after clash, which a script cannot bring about, source and cue number.
 use mathlib.Core.List.{List, [], _∷_, _++_}
 use Prim.Native.Nat.{ℕ}
 use Rattle.message.specs.declared.Host.{Host}
 use Rattle.decimal.specs.Decimal.{decimal, signedDecimal}
 use Rattle.answers.specs.declared.Shown.{Shown}
-use Rattle.answers.specs.declared.Shown.the-variants.{Out, Got, Done, Ignored, Nothing, Refused}
+use Rattle.answers.specs.declared.Shown.the-variants.{Out, Got, Done, Ignored, Nothing, Refused, Clash}
 
 -- the answers' letters; a space follows where a number does
 abbrev pub out : List ℕ
@@ -27,6 +27,9 @@ nothing = 110 ∷ 111 ∷ 116 ∷ 104 ∷ 105 ∷ 110 ∷ 103 ∷ []
 abbrev pub refused : List ℕ
 refused = 114 ∷ 101 ∷ 102 ∷ 117 ∷ 115 ∷ 101 ∷ 100 ∷ 32 ∷ []
 
+abbrev pub clash : List ℕ
+clash = 99 ∷ 108 ∷ 97 ∷ 115 ∷ 104 ∷ 32 ∷ []
+
 -- a number and a space
 abbrev pub spaced : ℕ → List ℕ
 spaced n = decimal n ++ (32 ∷ [])
@@ -39,6 +42,7 @@ answerWords Done = done
 answerWords Ignored = ignored
 answerWords Nothing = nothing
 answerWords (Refused question) = refused ++ decimal question
+answerWords (Clash source number) = clash ++ (spaced (source .0) ++ decimal (number .0))
 
 -- the line: end, clock, answer, line feed
 unfoldable pub answerLine : Host → ℕ → Shown → List ℕ

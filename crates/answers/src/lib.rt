@@ -5,11 +5,12 @@ ghost use mathlib.Core.List.{[], _∷_, _++_};
 ghost use Prim.Native.Nat.{_+_, _≤_};
 ghost use lib.ListN.{length};
 ghost use Rattle.decimal.specs.Decimal.{decimal as decimalOf, signedDecimal};
-ghost use Rattle.answers.specs.declared.Shown.the-variants.{Out, Got, Refused};
+ghost use Rattle.answers.specs.declared.Shown.the-variants.{Out, Got, Refused, Clash};
 ghost use Rattle.answers.specs.AnswerLine.{spaced as spacedOf, answerWords, answerLine};
 ghost use Rattle.answers.specs.Put.{Put};
 
-// An answer as it is shown: a message number after out, the name and the focus after got, the question's number after refused.
+// An answer as it is shown: a message number after out, the name and the focus after got, the question's number after refused, the name
+// after clash.
 pub enum Shown {
     Out(u64),
     Got(Host, CueNumber, i16),
@@ -17,6 +18,7 @@ pub enum Shown {
     Ignored,
     Nothing,
     Refused(u8),
+    Clash(Host, CueNumber),
 }
 
 // Each function below writes a piece from `at` on and answers where it ends.
@@ -100,6 +102,15 @@ fn put_got(out: &mut [u8], at: usize, source: Host, number: CueNumber, focus: i1
     put_values(out, end, source, number, focus)
 }
 
+fn put_clash(out: &mut [u8], at: usize, source: Host, number: CueNumber) -> usize
+    requires { ⌜ at + 24 ≤ length (now out) ⌝ }
+    ensures { λ r. ⌜ Put 24 at (answerWords (Clash source number)) (now (out .entry)) (now (out .exit)) r ⌝ }
+{
+    let first = text(out, at, b"clash ");
+    let second = spaced(out, first, source.0);
+    small_number(out, second, number.0)
+}
+
 fn put_answer(out: &mut [u8], at: usize, a: Shown) -> usize
     requires { ⌜ at + 24 ≤ length (now out) ⌝ }
     ensures { λ r. ⌜ Put 24 at (answerWords a) (now (out .entry)) (now (out .exit)) r ⌝ }
@@ -111,6 +122,7 @@ fn put_answer(out: &mut [u8], at: usize, a: Shown) -> usize
         Shown::Ignored => text(out, at, b"ignored"),
         Shown::Nothing => text(out, at, b"nothing"),
         Shown::Refused(question) => put_refused(out, at, question),
+        Shown::Clash(source, number) => put_clash(out, at, source, number),
     }
 }
 

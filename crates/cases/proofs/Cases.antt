@@ -9,6 +9,7 @@ use Rattle.cases.specs.Timed.{timedRows, halfTripRows}
 use Rattle.cases.specs.Reasons.{reasonRows}
 use Rattle.cases.specs.Quiet.{quietRows}
 use Rattle.cases.specs.Stage.{stageRows}
+use Rattle.cases.specs.Clashes.{clashRows}
 use Rattle.cases.proofs.Opened.{opened}
 
 pub cases-hold : Hold rows
@@ -41,8 +42,12 @@ stage-holds = (refl, (refl, tt))
 
 pub answers-hold : Hold answerRows
 unfolding answerRows opened
-answers-hold = (refl, (refl, (refl, (refl, (refl, (refl, (refl, (refl, (refl, (refl, (refl, (refl, (refl, (refl, (refl, (refl, (refl, tt)))))))))))))))))
+answers-hold = (refl, (refl, (refl, (refl, (refl, (refl, (refl, (refl, (refl, (refl, (refl, (refl, (refl, (refl, (refl, (refl, (refl, (refl, (refl, (refl, (refl, tt)))))))))))))))))))))
 
 pub reasons-hold : Hold reasonRows
 unfolding reasonRows opened
 reasons-hold = (refl, (refl, (refl, (refl, (refl, (refl, (refl, (refl, (refl, (refl, (refl, (refl, (refl, (refl, (refl, (refl, (refl, (refl, (refl, (refl, (refl, (refl, (refl, (refl, (refl, (refl, (refl, (refl, (refl, tt)))))))))))))))))))))))))))))
+
+pub clashes-hold : Hold clashRows
+unfolding clashRows opened
+clashes-hold = (refl, (refl, (refl, (refl, (refl, (refl, (refl, (refl, (refl, (refl, (refl, (refl, (refl, (refl, (refl, tt)))))))))))))))

@@ -10,7 +10,7 @@ use Rattle.end.specs.Round.{factor, share}
 use Rattle.end.specs.Names.{requested, rise}
 use Rattle.end.specs.Messages.{reportsBelow, echoesBelow}
 use Rattle.end.specs.Records.{recordAt}
-use Rattle.end.specs.Decide.{decideData, reached, decideReply, decideRound, decideRequest, decideRepair, decideAs, apply, effectOf, stepAt}
+use Rattle.end.specs.Decide.{sameCue, decideData, reached, decideReply, decideRound, decideRequest, decideRepair, decideAs, apply, effectOf, stepAt}
 use Rattle.end.specs.Session.{allReported, measured, sessionOf}
 use Rattle.end.specs.Arrival.{messageStep, arrivalOf}
 use Rattle.end.specs.Fire.{foldUp, earliest, fireAt, fired}
@@ -23,5 +23,5 @@ use Rattle.end.specs.Answer.{answerOf, bufferOf}
 use Rattle.cases.specs.Shown.{returned, readOff, onlooked}
 
 unfoldable pub opened : ℕ
-unfolding valueAfter digits cueIn cueWith entries flat section sectionFrom after all rises bytesWith meaningWith inRange hostsFit readRefusal readOf writeRefusal outputOf allBelow soundOf factor share requested rise reportsBelow echoesBelow recordAt decideData reached decideReply decideRound decideRequest decideRepair decideAs apply effectOf stepAt allReported measured sessionOf messageStep foldUp earliest fireAt fired movedEnd moveOf arrivalOf actOf stepOf questionOf eventOf whyOf openRefusal openingOf put readAs among firstOf notBelow isSome limits gets dueMessage due clearedBy movedBook file hand afterMessage afterCall isGot bookAfter resultOf sentAfter worldAfter seen answerOf bufferOf returned readOff onlooked
+unfolding valueAfter digits cueIn cueWith entries flat section sectionFrom after all rises bytesWith meaningWith inRange hostsFit readRefusal readOf writeRefusal outputOf allBelow soundOf factor share requested rise reportsBelow echoesBelow recordAt sameCue decideData reached decideReply decideRound decideRequest decideRepair decideAs apply effectOf stepAt allReported measured sessionOf messageStep foldUp earliest fireAt fired movedEnd moveOf arrivalOf actOf stepOf questionOf eventOf whyOf openRefusal openingOf put readAs among firstOf notBelow isSome limits gets dueMessage due clearedBy movedBook file hand afterMessage afterCall isGot bookAfter resultOf sentAfter worldAfter seen answerOf bufferOf returned readOff onlooked
 opened = 0

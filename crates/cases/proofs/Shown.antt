@@ -1,8 +1,9 @@
 -- Demand 3 in terms of answers and outputs, from the crate end's `service`: what an onlooker reads off an answer and an output is the
 -- call's outcome, since a cue that is handed out was filed by a Send, and so has 24 bytes.
 use mathlib.Core.Path.{_≡_, refl, sym, ap, _∙_, subst}
-use mathlib.Core.Bool.{true, false, not, _&&_, _||_}
-use mathlib.Core.List.{List, [], _∷_, _++_, map}
+use mathlib.Core.Bool.{Bool, true, false, not, _&&_, _||_}
+use mathlib.Core.List.{List, [], _∷_, _++_, map, List·Memᴰ, List·Memᴰ·head, List·Memᴰ·tail, List·Memᴰ·cases-cons, List·Memᴰ·not-nil}
+use mathlib.Core.Logic.{⊎-elim}
 use mathlib.Core.Option.{Option, none, some}
 use Prim.Native.Nat.{ℕ, zero, suc}
 use lib.ListN.{length, getD, getElem?, drop}
@@ -10,17 +11,20 @@ use lib.Seq.{take-at}
 use lib.Dec.{eqb}
 use Rattle.message.specs.declared.Name.{Name}
 use Rattle.message.specs.Message.{Meaning}
+use Rattle.end.specs.declared.Answer.{Answer}
+use Rattle.end.specs.declared.Answer.the-variants as answer
 use Rattle.end.specs.Answer.{answerOf, bufferOf}
-use Rattle.end.specs.Answer.{Effect, Out, Got, Done, Ignored, Nothing}
+use Rattle.end.specs.Answer.{Effect, Out, Got, Done, Ignored, Nothing, Clash}
 use Rattle.end.specs.Event.{Action, Moves, Send, Arrival, Else, moves}
 use Rattle.end.specs.Answer.{Outcome, Refused, Did}
 use Rattle.end.specs.State.{isMember}
 use Rattle.end.specs.Book.{Book, put, readAs, source, number, isOriginal, isRepair, among, firstOf, notBelow, isSome, limits, gets, dueMessage}
-use Rattle.end.specs.Book.{due, movedBook, file, hand, afterMessage, after, isGot, Meets, Answered, bookAfter, RunFrom, emptyBook}
+use Rattle.end.specs.Book.{Entry, due, movedBook, file, hand, afterMessage, after, isGot, Meets, Answered, bookAfter, RunFrom, emptyBook}
 use Rattle.end.specs.Run.{World, Call, CueArray, Allowed, resultOf, sentAfter, worldAfter, seen}
-use Rattle.end.proofs.Tools.{byCond, clash, and-left, and-right}
+use Rattle.end.proofs.Tools.{byCond, clash, clash′, and-left, and-right}
 use Rattle.end.proofs.Service.Ends.{service}
-use Rattle.cases.specs.Shown.{returned, readOff, onlooked, ServiceShown}
+use Rattle.end.proofs.Service.Unclashed.{never-clashes}
+use Rattle.cases.specs.Shown.{Returned, returned, readOff, onlooked, ServiceShown, NeverReturnsClash}
 
 -- ---- every filed cue has 24 bytes
 
@@ -109,6 +113,7 @@ read-back (Got name cue) out w = ap (λ (l : List ℕ). Did (Got name l)) (take-
 read-back Done out w = refl
 read-back Ignored out w = refl
 read-back Nothing out w = refl
+read-back (Clash name) out w = refl
 
 outcome-back : (b : Book) (h : ℕ) (ev : Action) (o : Outcome) (out : List ℕ) → Long b → Answered b h ev o → readOff (answerOf o) (bufferOf o out) ≡ o
 unfolding readOff answerOf bufferOf
@@ -124,6 +129,7 @@ sent-as-shown (Did (Got name cue)) out l = refl
 sent-as-shown (Did Done) out l = refl
 sent-as-shown (Did Ignored) out l = refl
 sent-as-shown (Did Nothing) out l = refl
+sent-as-shown (Did (Clash name)) out l = refl
 
 shown-runs : (cs : List Call) (w : World) (b : Book) → Long b → Allowed w cs → RunFrom b (seen w cs) → RunFrom b (map onlooked (returned w cs))
 unfolding seen returned onlooked
@@ -140,3 +146,35 @@ shown-runs (c ∷ cs) w b l a r =
 pub service-shown : ServiceShown
 unfolding Long AllLong
 service-shown w f cs a = shown-runs cs w emptyBook (λ s. tt) a (service w f cs a)
+
+-- ---- no call returns Clash: the answer is the outcome's
+abbrev isClash : Answer → Bool
+isClash (answer.Refused k) = false
+isClash (answer.Out n) = false
+isClash (answer.Got name) = false
+isClash answer.Done = false
+isClash answer.Ignored = false
+isClash answer.Nothing = false
+isClash (answer.Clash name) = true
+
+clash-back : (o : Outcome) (name : Name) → answerOf o ≡ answer.Clash name → o ≡ Did (Clash name)
+unfolding answerOf
+clash-back (Refused k) name p = clash′ (ap isClash p)
+clash-back (Did (Out bytes)) name p = clash′ (ap isClash p)
+clash-back (Did (Got x cue)) name p = clash′ (ap isClash p)
+clash-back (Did Done) name p = clash′ (ap isClash p)
+clash-back (Did Ignored) name p = clash′ (ap isClash p)
+clash-back (Did Nothing) name p = clash′ (ap isClash p)
+clash-back (Did (Clash x)) name p = let same : x ≡ name = cc in ap (λ (y : Name). Did (Clash y)) same
+
+none-returned : (cs : List Call) (w : World) → ((y : Entry) → List·Memᴰ y (seen w cs) → (name : Name) → y .outcome ≡ Did (Clash name) → ⊥)
+    → (x : Returned) → List·Memᴰ x (returned w cs) → (name : Name) → x .answer ≡ answer.Clash name → ⊥
+unfolding seen returned
+none-returned [] w unseen x k name p = absurd (List·Memᴰ·not-nil k)
+none-returned (c ∷ cs) w unseen x k name p =
+    ⊎-elim (λ here. unseen _ (List·Memᴰ·head refl) name (clash-back (resultOf w c .outcome) name (ap (λ (y : Returned). y .answer) (sym here) ∙ p)))
+    (λ later. none-returned cs (worldAfter w (c .host) (resultOf w c)) (λ y m. unseen y (List·Memᴰ·tail m)) x later name p)
+    (List·Memᴰ·cases-cons k)
+
+pub never-returns-clash : NeverReturnsClash
+never-returns-clash w f cs a = none-returned cs w (never-clashes w f cs a)

@@ -1,12 +1,12 @@
 -- The answers one by one: what document 01's number and values of each are, which of them the book takes for Got, and what each leaves in
 -- the output. Document 01, "Events": "Answers: Out (length, the message in the first output bytes), Got (name, and its cue in the first
--- 24), Done, Ignored, Nothing. Other output bytes are untouched."
+-- 24), Done, Ignored, Nothing. Other output bytes are untouched." Document 02, P4: "a new answer, Clash, with the name".
 use Prim.Native.Nat.{ℕ}
 use mathlib.Core.Bool.{true, false}
 use mathlib.Core.List.{List, [], _∷_}
 use Rattle.message.specs.declared.Name.{Name}
 use Rattle.message.specs.Entry.{asHost, asNumber}
-use Rattle.end.specs.Answer.{Outcome, Refused, Did, Out, Got, Done, Ignored, Nothing, answerOf, answerNumber, answerValues, bufferOf}
+use Rattle.end.specs.Answer.{Outcome, Refused, Did, Out, Got, Done, Ignored, Nothing, Clash, answerOf, answerNumber, answerValues, bufferOf}
 use Rattle.end.specs.Book.{isGot}
 use Rattle.cases.specs.Case.{Case, case}
 
@@ -39,4 +39,8 @@ answerRows =
     ∷ case (bufferOf (Did Done) (1 ∷ 2 ∷ 3 ∷ [])) (1 ∷ 2 ∷ 3 ∷ [])
     ∷ case (bufferOf (Did Ignored) (1 ∷ 2 ∷ 3 ∷ [])) (1 ∷ 2 ∷ 3 ∷ [])
     ∷ case (bufferOf (Did Nothing) (1 ∷ 2 ∷ 3 ∷ [])) (1 ∷ 2 ∷ 3 ∷ [])
+    ∷ case (numberOf (Did (Clash name35))) 0
+    ∷ case (valuesOf (Did (Clash name35))) (3 ∷ 5 ∷ [])
+    ∷ case (isGot (Clash name35)) false
+    ∷ case (bufferOf (Did (Clash name35)) (1 ∷ 2 ∷ 3 ∷ [])) (1 ∷ 2 ∷ 3 ∷ [])
     ∷ []

@@ -9,6 +9,7 @@ pub mod Timed
 pub mod Quiet
 pub mod Shown
 pub mod Stage
+pub mod Clashes
 pub mod NotRuns
 pub mod GotLimits
 pub mod CallLimits

@@ -14,15 +14,15 @@ use Rattle.end.specs.declared.Says.the-variants.{Data, Rqst, Repl}
 use Rattle.end.specs.declared.Word.{Word}
 use Rattle.end.specs.declared.Reason.the-variants.{NotOpen, BelowFirst, OwnAboveLast, AlreadyHeld}
 use Rattle.end.specs.declared.Decision.{Decision}
-use Rattle.end.specs.declared.Decision.the-variants.{Opens, Takes}
+use Rattle.end.specs.declared.Decision.the-variants.{Ignores, Opens, Takes}
 use Rattle.end.specs.Records.{isClosed, isBelow, isAbove, isHeld}
 use Rattle.end.specs.Names.{rise}
 use Rattle.end.specs.Ready.{Ranges}
 use Rattle.end.proofs.RecordLaws.{rise-distance}
-use Rattle.end.specs.Decide.{number, unless, decideData, reached, decideRequest, decideRepair, decideAs}
+use Rattle.end.specs.Decide.{number, unless, ifSame, decideData, reached, decideRequest, decideRepair, decideAs}
 
 pub data-ladder : (w : Word) (r : Record) (x : Span)
-    → decideData w r x ≡ cond (isClosed x) Opens (unless (isBelow x (number w)) BelowFirst (unless (isHeld (r .slot)) AlreadyHeld Takes))
+    → decideData w r x ≡ cond (isClosed x) Opens (unless (isBelow x (number w)) BelowFirst (cond (isHeld (r .slot)) (ifSame w r (Ignores AlreadyHeld)) Takes))
 unfolding decideData
 data-ladder w r Closed = refl
 data-ladder w r (Open first last) = refl
@@ -43,7 +43,7 @@ module _ (t : Moment) (w : Word) (r : Record) (x : Span) where
   unfolding decideAs
   says-request k e = rw e
 
-  pub says-repair : (k : Says) → k ≡ Repl → decideAs k t w r x ≡ reached t w x (decideRepair r)
+  pub says-repair : (k : Says) → k ≡ Repl → decideAs k t w r x ≡ reached t w x (decideRepair w r)
   unfolding decideAs
   says-repair k e = rw e
 

@@ -1,2 +1,3 @@
+pub mod CueLaws
 pub mod Ladders
 pub mod Lift

@@ -26,7 +26,7 @@ ghost use Rattle.end.specs.Ready.{Ranges, Numbered};
 ghost use Rattle.end.specs.Records.{isClosed};
 ghost use Rattle.end.specs.Round.{nextRound};
 ghost use Rattle.end.specs.Names.{setRound, hold};
-ghost use Rattle.end.specs.Decide.{number, unless, decideData, reached, decideReply, decideRound, decideRequest, decideRepair, decideAs, risen, opened, apply, effectOf};
+ghost use Rattle.end.specs.Decide.{number, unless, sameCue, ifSame, decideData, reached, decideReply, decideRound, decideRequest, decideRepair, decideAs, risen, opened, apply, effectOf};
 ghost use Rattle.end.specs.Reasons.{reasonOf};
 ghost use Rattle.end.specs.Why.{because};
 ghost use Rattle.decide.specs.Step.{Heeded, stepped};
@@ -56,14 +56,37 @@ fn unless(holds: bool, why: Reason, otherwise: Decision) -> Decision
     choose(holds, Decision::Ignores(why), otherwise)
 }
 
+// Whether two cues agree in all 24 bytes.
+fn same_cue(a: [u8; 24], b: [u8; 24]) -> bool
+    ensures { λ r. ⌜ r ≡ sameCue a b ⌝ }
+{
+    let mut same = true;
+    let mut i: usize = 0;
+    while i < 24 {
+        same = same & (a[i] == b[i]);
+        i += 1;
+    }
+    same
+}
+
+// Of a held cue: this where the message has the same bytes, and a clash where it has others.
+fn if_same(w: Word, r: Record, decided: Decision) -> Decision
+    ensures { λ d. ⌜ d ≡ ifSame w r decided ⌝ }
+{
+    let brought = w.cue;
+    let held = r.cue;
+    choose(same_cue(brought, held), decided, Decision::Clashes)
+}
+
 // DATA.
 fn decide_data(w: Word, r: Record, span: Span) -> Decision
     ensures { λ d. ⌜ d ≡ decideData w r span ⌝ }
 {
     let n = w.name.number;
     let slot = r.slot;
-    let missing = unless(state::is_held(slot), Reason::AlreadyHeld, Decision::Takes);
-    let open = unless(records::is_below(span, n), Reason::BelowFirst, missing);
+    let held = if_same(w, r, Decision::Ignores(Reason::AlreadyHeld));
+    let known = choose(state::is_held(slot), held, Decision::Takes);
+    let open = unless(records::is_below(span, n), Reason::BelowFirst, known);
     choose(is_closed(span), Decision::Opens, open)
 }
 
@@ -122,11 +145,12 @@ fn decide_request(t: Moment, w: Word, r: Record, span: Span) -> Decision
 }
 
 // REPL, past its first line.
-fn decide_repair(r: Record) -> Decision
-    ensures { λ d. ⌜ d ≡ decideRepair r ⌝ }
+fn decide_repair(w: Word, r: Record) -> Decision
+    ensures { λ d. ⌜ d ≡ decideRepair w r ⌝ }
 {
     let slot = r.slot;
-    choose(state::is_held(slot), Decision::Hushes, Decision::Repairs)
+    let held = if_same(w, r, Decision::Hushes);
+    choose(state::is_held(slot), held, Decision::Repairs)
 }
 
 // What a member decides on a message about a name, of which it has this record in a source with this first and last.
@@ -141,7 +165,7 @@ pub fn decide(t: Moment, w: Word, r: Record, span: Span) -> Decision
             reached(t, w, span, asked)
         }
         Says::Repl => {
-            let repaired = decide_repair(r);
+            let repaired = decide_repair(w, r);
             reached(t, w, span, repaired)
         }
     }
@@ -211,6 +235,7 @@ fn apply(t: Moment, draws: &[Draw], w: Word, d: Decision, s: Source) -> Source
         Decision::Replies => records::set_reply(s, t, draws, n, w.distance, w.requester),
         Decision::Learns => learn(t, draws, w, s),
         Decision::BacksOff(k) => back_off(t, draws, w, k, s),
+        Decision::Clashes => s,
     }
 }
 
@@ -228,6 +253,7 @@ fn answer_of(w: Word, d: Decision) -> Answer
         Decision::Replies => Answer::Done,
         Decision::Learns => Answer::Done,
         Decision::BacksOff(_) => Answer::Done,
+        Decision::Clashes => Answer::Clash(name),
     }
 }
 
@@ -244,6 +270,7 @@ pub fn reason_of(d: Decision) -> Why
         Decision::Replies => Why::NoReason,
         Decision::Learns => Why::NoReason,
         Decision::BacksOff(_) => Why::NoReason,
+        Decision::Clashes => Why::NoReason,
     }
 }
 

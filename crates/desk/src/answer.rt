@@ -51,10 +51,11 @@ pub fn message_in(bytes: &[u8], len: usize) -> Message {
     }
 }
 
-fn got(out: &mut [u8; 65536], n: &mut [usize; 20], name: Name) {
+// `got SOURCE NUMBER`, `clash SOURCE NUMBER`.
+fn with_name(out: &mut [u8; 65536], n: &mut [usize; 20], word: u64, name: Name) {
     let source = name.source.0 as u64;
     let number = name.number.0 as u64;
-    text::row(out, n, words::GOT, [source, number, 0, 0, 0, 0], 2);
+    text::row(out, n, word, [source, number, 0, 0, 0, 0], 2);
 }
 
 // The answer of an event, whose output is given.
@@ -62,10 +63,11 @@ pub fn event(out: &mut [u8; 65536], n: &mut [usize; 20], a: Answer, bytes: &[u8;
     match a {
         Answer::Refused(question) => refused(out, n, question),
         Answer::Out(len) => put_out(out, n, len, message_in(bytes, len)),
-        Answer::Got(name) => got(out, n, name),
+        Answer::Got(name) => with_name(out, n, words::GOT, name),
         Answer::Done => text::word(out, n, words::DONE),
         Answer::Ignored => text::word(out, n, words::IGNORED),
         Answer::Nothing => text::word(out, n, words::NOTHING),
+        Answer::Clash(name) => with_name(out, n, words::CLASH, name),
     }
 }
 

@@ -20,11 +20,11 @@ use Rattle.end.specs.declared.Word.{Word}
 use Rattle.end.specs.declared.Reason.{Reason}
 use Rattle.end.specs.declared.Reason.the-variants.{NotOpen, BelowFirst, OwnAboveLast, AlreadyHeld, ReplyWaiting, ReplyQuiet, RequestQuiet}
 use Rattle.end.specs.declared.Decision.{Decision}
-use Rattle.end.specs.declared.Decision.the-variants.{Ignores, Opens, Takes, Repairs, Hushes, Replies, Learns, BacksOff}
+use Rattle.end.specs.declared.Decision.the-variants.{Ignores, Opens, Takes, Repairs, Hushes, Replies, Learns, BacksOff, Clashes}
 use Rattle.end.specs.Records.{isClosed, within, isBelow, isAbove, isHeld, isNo, replyIn}
 use Rattle.end.specs.Sound.{recordSound}
 pub use Rattle.end.specs.Reasons.{isData, isRequest, isQuiet, holds}
-use Rattle.end.specs.Decide.{number, decideData, reached, decideReply, decideRound, decideRequest, decideRepair, decideAs}
+use Rattle.end.specs.Decide.{number, sameCue, decideData, reached, decideReply, decideRound, decideRequest, decideRepair, decideAs}
 use Rattle.end.proofs.Tools.{byCond, byTest, clash}
 use Rattle.end.proofs.RecordLaws.{within-in}
 use Rattle.end.proofs.SoundLaws.{own-held}
@@ -61,10 +61,11 @@ Grounds t w r x (Ignores why) = holds (w .says) t w r x why ≡ true
 Grounds t w r x Opens = (w .says ≡ Data) × (x ≡ Closed)
 Grounds t w r x Takes = (w .says ≡ Data) × Missing w r x
 Grounds t w r x Repairs = (w .says ≡ Repl) × Wanted t w r x
-Grounds t w r x Hushes = (w .says ≡ Repl) × (isHeld (r .slot) ≡ true)
+Grounds t w r x Hushes = (w .says ≡ Repl) × (isHeld (r .slot) ≡ true) × (sameCue (w .cue) (r .cue) ≡ true)
 Grounds t w r x Replies = (isRequest (w .says) ≡ true) × Free t r
 Grounds t w r x Learns = (isRequest (w .says) ≡ true) × Wanted t w r x × (isAbove x (number w) ≡ true)
 Grounds t w r x (BacksOff k) = (isRequest (w .says) ≡ true) × Late t r k
+Grounds t w r x Clashes = (isRequest (w .says) ≡ false) × (isHeld (r .slot) ≡ true) × (sameCue (w .cue) (r .cue) ≡ false)
 
 module _ (t : Moment) (w : Word) (r : Record) where
   data-known : (x : Span) → w .says ≡ Data → Grounds t w r x (decideData w r x)
@@ -73,7 +74,7 @@ module _ (t : Moment) (w : Word) (r : Record) where
   data-known (Open first last) k =
       let G = Grounds t w r (Open first last) in
       byCond G (ltb (number w) (first .0)) (λ a. a)
-      (λ a. byCond G (isHeld (r .slot)) (λ b. λ i. isData (k i) && b i)
+      (λ a. byCond G (isHeld (r .slot)) (λ b. byCond G (sameCue (w .cue) (r .cue)) (λ c. λ i. isData (k i) && (b i && c i)) (λ c. (ap isRequest k, b, c)))
       (λ b. (k, record { first = first; last = last; span = refl; least = ltb-false _ _ a; lacks = b })))
 
   -- what is known once RQST's first line is passed
@@ -118,8 +119,10 @@ module _ (t : Moment) (w : Word) (r : Record) where
       (λ l. byCond G (isAbove x (number w))
       (λ u. (ap isRequest k, record { missing = missing x first last p a l; reached = b }, u))
       (λ u. round-known x (ap isRequest k) l u (r .slot) refl)))
-  grounds-as Repl k x = reached-known x (decideRepair r) (ap isData k) (λ first last p a b.
-      byCond (Grounds t w r x) (isHeld (r .slot)) (λ h. (k, h)) (λ l. (k, record { missing = missing x first last p a l; reached = b })))
+  grounds-as Repl k x = reached-known x (decideRepair w r) (ap isData k) (λ first last p a b.
+      let G = Grounds t w r x in
+      byCond G (isHeld (r .slot)) (λ h. byCond G (sameCue (w .cue) (r .cue)) (λ c. (k, h, c)) (λ c. (ap isRequest k, h, c)))
+      (λ l. (k, record { missing = missing x first last p a l; reached = b })))
 
 pub grounds : (t : Moment) (w : Word) (r : Record) (x : Span) → Grounds t w r x (decideAs (w .says) t w r x)
 grounds t w r x = grounds-as t w r (w .says) refl x

@@ -10,4 +10,5 @@ pub mod Readings
 pub mod Grounds
 pub mod Reasons
 pub mod ReasonLaws
+pub mod Clashes
 pub mod Service

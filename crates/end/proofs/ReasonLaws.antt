@@ -25,7 +25,7 @@ use Rattle.end.specs.declared.Reason.the-variants.{Crashed, WrongStatus,
 use Rattle.end.specs.declared.Why.{Why}
 use Rattle.end.specs.declared.Why.the-variants as why
 use Rattle.end.specs.declared.Decision.{Decision}
-use Rattle.end.specs.declared.Decision.the-variants.{Ignores, Opens, Takes, Repairs, Hushes, Replies, Learns, BacksOff}
+use Rattle.end.specs.declared.Decision.the-variants.{Ignores, Opens, Takes, Repairs, Hushes, Replies, Learns, BacksOff, Clashes}
 use Rattle.end.specs.declared.Earliest.{Earliest}
 use Rattle.end.specs.declared.Earliest.the-variants.{NoWait, First}
 use Rattle.end.specs.declared.Source.{Source}
@@ -133,6 +133,7 @@ decided w Hushes = (_, refl, refl)
 decided w Replies = (_, refl, refl)
 decided w Learns = (_, refl, refl)
 decided w (BacksOff k) = (_, refl, refl)
+decided w Clashes = (_, refl, refl)
 
 -- the reasons from the fourth on, by what is said of a name
 abbrev pub later : End → Option Word → Option Reason

@@ -14,7 +14,7 @@ use Rattle.end.specs.declared.Says.{Says}
 use Rattle.end.specs.declared.Says.the-variants.{Data, Rqst, Repl}
 use Rattle.end.specs.declared.Word.{Word}
 use Rattle.end.specs.Records.{isHeld, isNo, replyIn}
-use Rattle.end.specs.Decide.{number, decideData, reached, decideReply, decideRound, decideRequest, decideRepair, decideAs}
+use Rattle.end.specs.Decide.{number, sameCue, decideData, reached, decideReply, decideRound, decideRequest, decideRepair, decideAs}
 use Rattle.end.specs.Reasons.{holds, reasonOf, reasons, firstThat, IgnoredForTheFirstReason}
 use Rattle.end.proofs.Tools.{byTest, clash}
 
@@ -26,7 +26,7 @@ module _ (t : Moment) (w : Word) (r : Record) where
   unfolding Right decideAs decideData
   data-right Closed bare = rw (bare refl)
   data-right (Open first last) bare = byTest (ltb (number w) (first .0)) (λ a. rw a)
-      (λ a. byTest (isHeld (r .slot)) (λ b. rw (a, b)) (λ b. rw (a, b)))
+      (λ a. byTest (isHeld (r .slot)) (λ b. byTest (sameCue (w .cue) (r .cue)) (λ c. rw (a, b, c)) (λ c. rw (a, b, c))) (λ b. rw (a, b)))
 
   round-right : (first last : CueNumber) → ltb (number w) (first .0) ≡ false → sameHost (w .name .source) (t .me) && ltb (last .0) (number w) ≡ false
       → isHeld (r .slot) ≡ false → ltb (last .0) (number w) ≡ false → (y : Slot) → r .slot ≡ y → Right Rqst (Open first last)
@@ -51,7 +51,7 @@ module _ (t : Moment) (w : Word) (r : Record) where
   repair-right Closed = refl
   repair-right (Open first last) = byTest (ltb (number w) (first .0)) (λ a. rw a)
       (λ a. byTest (sameHost (w .name .source) (t .me) && ltb (last .0) (number w)) (λ b. rw (a, b))
-      (λ b. byTest (isHeld (r .slot)) (λ h. rw (a, b, h)) (λ h. rw (a, b, h))))
+      (λ b. byTest (isHeld (r .slot)) (λ h. byTest (sameCue (w .cue) (r .cue)) (λ c. rw (a, b, h, c)) (λ c. rw (a, b, h, c))) (λ h. rw (a, b, h))))
 
   right-as : (says : Says) (x : Span) → (x ≡ Closed → isHeld (r .slot) ≡ false) → Right says x
   right-as Data x bare = data-right x bare

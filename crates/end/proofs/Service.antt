@@ -7,3 +7,4 @@ pub mod Steps
 pub mod Words
 pub mod Quiets
 pub mod Ends
+pub mod Unclashed

@@ -1,6 +1,7 @@
 -- What a call answers, and what it leaves in the output. Document 01, "Events": "Answers: Out (length, the message in the first output
 -- bytes), Got (name, and its cue in the first 24), Done, Ignored, Nothing. Other output bytes are untouched." An answer that is added
 -- later is a case of `Effect` and of the declared `Answer`, and a line in each of `classOf`, `answerOf`, `answerNumber` and `answerValues`.
+-- Document 02, P4: "a new answer, Clash, with the name; apart from the clock nothing changes".
 use Prim.Native.Nat.{ℕ}
 use mathlib.Core.Bool.{Bool, true, false}
 use mathlib.Core.List.{List, [], _∷_, _++_}
@@ -18,6 +19,7 @@ pub data Effect : Type 0 where
   Done : Effect
   Ignored : Effect
   Nothing : Effect
+  Clash : Name → Effect
 
 -- what an event does: its effect, and the state that it leaves
 pub record Step : Type 0 where
@@ -54,6 +56,7 @@ classOf (Got name cue) = HandsOut name cue
 classOf Done = Untouched
 classOf Ignored = Untouched
 classOf Nothing = Untouched
+classOf (Clash name) = Untouched
 
 abbrev pub classIn : Outcome → Class
 classIn (Refused k) = Untouched
@@ -81,12 +84,13 @@ answerOf (Did (Got name cue)) = answer.Got name
 answerOf (Did Done) = answer.Done
 answerOf (Did Ignored) = answer.Ignored
 answerOf (Did Nothing) = answer.Nothing
+answerOf (Did (Clash name)) = answer.Clash name
 
 -- what a call gives, refused or not: its answer, and the end that it leaves
 abbrev pub calledOf : Result → Stepped
 calledOf r = record { answer = answerOf (r .outcome); end = r .left }
 
--- document 01's number of an answer, 0 where the call was not refused, and its values: the length of Out, the name of Got
+-- document 01's number of an answer, 0 where the call was not refused, and its values: the length of Out, the name of Got and of Clash
 abbrev pub answerNumber : Answer → ℕ
 answerNumber (answer.Refused k) = k
 answerNumber (answer.Out n) = 0
@@ -94,6 +98,7 @@ answerNumber (answer.Got name) = 0
 answerNumber answer.Done = 0
 answerNumber answer.Ignored = 0
 answerNumber answer.Nothing = 0
+answerNumber (answer.Clash name) = 0
 
 abbrev pub answerValues : Answer → List ℕ
 answerValues (answer.Refused k) = []
@@ -102,3 +107,4 @@ answerValues (answer.Got name) = name .source .0 ∷ name .number .0 ∷ []
 answerValues answer.Done = []
 answerValues answer.Ignored = []
 answerValues answer.Nothing = []
+answerValues (answer.Clash name) = name .source .0 ∷ name .number .0 ∷ []

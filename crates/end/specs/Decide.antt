@@ -1,10 +1,10 @@
 -- What a member does with another end's DATA, RQST or REPL: it decides on the one source that the name is of, and then does what was
--- decided. Document 01, "Events": DATA, RQST, REPL; document 02, P3: the reasons. `decide` is the only place with tests; whether a number
--- is above last, and so raises it, is also in `rise` itself.
+-- decided. Document 01, "Events": DATA, RQST, REPL; document 02, P3: the reasons, and P4: the same cue. `decide` is the only place with
+-- tests; whether a number is above last, and so raises it, is also in `rise` itself.
 use Prim.Native.Nat.{ℕ}
-use mathlib.Core.Bool.{Bool, cond, not, _&&_}
-use mathlib.Core.List.{List}
-use lib.Dec.{ltb, leb}
+use mathlib.Core.Bool.{Bool, true, false, cond, not, _&&_}
+use mathlib.Core.List.{List, [], _∷_}
+use lib.Dec.{ltb, leb, eqb}
 use Rattle.message.specs.Question.{sameHost}
 use Rattle.end.specs.declared.Reply.{Reply}
 use Rattle.end.specs.declared.Slot.{Slot}
@@ -21,12 +21,12 @@ use Rattle.end.specs.declared.Word.{Word}
 use Rattle.end.specs.declared.Reason.{Reason}
 use Rattle.end.specs.declared.Reason.the-variants.{NotOpen, BelowFirst, OwnAboveLast, AlreadyHeld, ReplyWaiting, ReplyQuiet, RequestQuiet}
 use Rattle.end.specs.declared.Decision.{Decision}
-use Rattle.end.specs.declared.Decision.the-variants.{Ignores, Opens, Takes, Repairs, Hushes, Replies, Learns, BacksOff}
+use Rattle.end.specs.declared.Decision.the-variants.{Ignores, Opens, Takes, Repairs, Hushes, Replies, Learns, BacksOff, Clashes}
 use Rattle.end.specs.State.{sourceAt, withSpan, onSource}
 use Rattle.end.specs.Records.{isAbove, recordAt, isHeld, isNo, replyIn}
 use Rattle.end.specs.Round.{nextRound}
 use Rattle.end.specs.Names.{setRound, hold, setReply, quietReply, rise}
-use Rattle.end.specs.Answer.{Effect, Got, Done, Ignored, Step, give}
+use Rattle.end.specs.Answer.{Effect, Got, Done, Ignored, Clash, Step, give}
 
 abbrev pub number : Word → ℕ
 number w = w .name .number .0
@@ -41,12 +41,23 @@ known w s = recordAt s (number w)
 abbrev pub unless : Bool → Reason → Decision → Decision
 unless holds why otherwise = cond holds (Ignores why) otherwise
 
+-- document 02, P4: "DATA and REPL messages counted as the same cue when their names agreed; now all 24 cue bytes must agree too."
+unfoldable pub sameCue : List ℕ → List ℕ → Bool
+sameCue [] [] = true
+sameCue [] (b ∷ bs) = false
+sameCue (a ∷ l) [] = false
+sameCue (a ∷ l) (b ∷ bs) = eqb a b && sameCue l bs
+
+-- of a cue that is held: this where the message has the same bytes; "with other bytes .. a new answer, Clash"
+abbrev pub ifSame : Word → Record → Decision → Decision
+ifSame w r decided = cond (sameCue (w .cue) (r .cue)) decided Clashes
+
 -- "DATA: no first: first = last = the number, Got. Below first or held: Ignored. Otherwise hold it .."
 unfoldable pub decideData : Word → Record → Span → Decision
 decideData w r Closed = Opens
 decideData w r (Open first last) =
     unless (ltb (number w) (first .0)) BelowFirst
-    (unless (isHeld (r .slot)) AlreadyHeld Takes)
+    (cond (isHeld (r .slot)) (ifSame w r (Ignores AlreadyHeld)) Takes)
 
 -- "RQST: no first, below first, or own above last: Ignored." "REPL: Ignored as RQST's first line has it"
 unfoldable pub reached : Moment → Word → Span → Decision → Decision
@@ -72,15 +83,15 @@ decideRequest t w r x =
     (cond (isAbove x (number w)) Learns (decideRound t (r .slot)))
 
 -- "REPL: .. Not held: as DATA, Got; held: Done."
-unfoldable pub decideRepair : Record → Decision
-decideRepair r = cond (isHeld (r .slot)) Hushes Repairs
+unfoldable pub decideRepair : Word → Record → Decision
+decideRepair w r = cond (isHeld (r .slot)) (ifSame w r Hushes) Repairs
 
 -- of the source, only first and last and the name's record are looked at; what the word says is an argument of its own, so that
 -- proofs go by its cases
 unfoldable pub decideAs : Says → Moment → Word → Record → Span → Decision
 decideAs Data t w r x = decideData w r x
 decideAs Rqst t w r x = reached t w x (decideRequest t w r x)
-decideAs Repl t w r x = reached t w x (decideRepair r)
+decideAs Repl t w r x = reached t w x (decideRepair w r)
 
 abbrev pub decide : Moment → Word → Source → Decision
 decide t w s = decideAs (w .says) t w (known w s) (s .span)
@@ -95,7 +106,8 @@ risen t us w s = rise t us (number w) s (s .span)
 abbrev pub opened : Word → Source → Source
 opened w s = withSpan s (Open (w .name .number) (w .name .number))
 
--- REPL: "Either way its waiting reply goes and reply-quiet = t + D3×d, d to the requester."
+-- REPL: "Either way its waiting reply goes and reply-quiet = t + D3×d, d to the requester." P4: "apart from the clock nothing changes,
+-- reply waits included"
 unfoldable pub apply : Moment → List ℕ → Word → Decision → Source → Source
 apply t us w (Ignores why) s = s
 apply t us w Opens s = hold (number w) (w .cue) (opened w s)
@@ -105,6 +117,7 @@ apply t us w Hushes s = quietReply t (number w) (w .distance) s
 apply t us w Replies s = setReply t us (number w) (w .distance) (w .requester) s
 apply t us w Learns s = setRound t us (number w) 2 (risen t us w s)
 apply t us w (BacksOff k) s = setRound t us (number w) (nextRound k) s
+apply t us w Clashes s = s
 
 unfoldable pub effectOf : Word → Decision → Effect
 effectOf w (Ignores why) = Ignored
@@ -115,6 +128,7 @@ effectOf w Hushes = Done
 effectOf w Replies = Done
 effectOf w Learns = Done
 effectOf w (BacksOff k) = Done
+effectOf w Clashes = Clash (w .name)
 
 -- ---- the step of one source, lifted to the end
 abbrev pub stepBy : Moment → List ℕ → Word → End → Decision → Step

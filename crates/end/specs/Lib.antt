@@ -16,3 +16,4 @@ pub mod Why
 pub mod Opening
 pub mod Book
 pub mod Run
+pub mod Clashes

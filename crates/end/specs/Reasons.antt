@@ -19,9 +19,9 @@ use Rattle.end.specs.declared.Word.{Word}
 use Rattle.end.specs.declared.Reason.{Reason}
 use Rattle.end.specs.declared.Reason.the-variants.{Crashed, WrongStatus, OwnMessage, NotOpen, BelowFirst, OwnAboveLast, AlreadyHeld, ReplyWaiting, ReplyQuiet, RequestQuiet}
 use Rattle.end.specs.declared.Decision.{Decision}
-use Rattle.end.specs.declared.Decision.the-variants.{Ignores, Opens, Takes, Repairs, Hushes, Replies, Learns, BacksOff}
+use Rattle.end.specs.declared.Decision.the-variants.{Ignores, Opens, Takes, Repairs, Hushes, Replies, Learns, BacksOff, Clashes}
 use Rattle.end.specs.Records.{isClosed, isBelow, isAbove, isHeld, isNo, replyIn}
-use Rattle.end.specs.Decide.{number, decideAs}
+use Rattle.end.specs.Decide.{number, sameCue, decideAs}
 
 abbrev pub isData : Says → Bool
 isData Data = true
@@ -54,9 +54,9 @@ belowFirst w x = isBelow x (number w)
 abbrev pub ownNumberAboveLast : Says → Moment → Word → Span → Bool
 ownNumberAboveLast says t w x = not (isData says) && (sameHost (w .name .source) (t .me) && isAbove x (number w))
 
--- "already held (DATA)"
-abbrev pub alreadyHeld : Says → Record → Bool
-alreadyHeld says r = isData says && isHeld (r .slot)
+-- "already held (DATA)": with P4, held with the same bytes
+abbrev pub alreadyHeld : Says → Word → Record → Bool
+alreadyHeld says w r = isData says && (isHeld (r .slot) && sameCue (w .cue) (r .cue))
 
 -- "reply waiting, then reply-quiet (RQST of a held cue)"
 abbrev pub replyWaiting : Says → Record → Bool
@@ -77,7 +77,7 @@ holds says t w r x OwnMessage = false
 holds says t w r x NotOpen = sourceNotOpen says x
 holds says t w r x BelowFirst = belowFirst w x
 holds says t w r x OwnAboveLast = ownNumberAboveLast says t w x
-holds says t w r x AlreadyHeld = alreadyHeld says r
+holds says t w r x AlreadyHeld = alreadyHeld says w r
 holds says t w r x ReplyWaiting = replyWaiting says r
 holds says t w r x ReplyQuiet = replyQuiet says t r
 holds says t w r x RequestQuiet = requestQuiet says t w r x
@@ -90,6 +90,7 @@ abbrev pub firstThat : (Reason → Bool) → List Reason → Option Reason
 firstThat f [] = none
 firstThat f (why ∷ l) = cond (f why) (some why) (firstThat f l)
 
+-- P4, of Clash: "The reason call gives "none" for it."
 abbrev pub reasonOf : Decision → Option Reason
 reasonOf (Ignores why) = some why
 reasonOf Opens = none
@@ -99,6 +100,7 @@ reasonOf Hushes = none
 reasonOf Replies = none
 reasonOf Learns = none
 reasonOf (BacksOff k) = none
+reasonOf Clashes = none
 
 -- In a sound state a closed source holds nothing.
 abbrev pub IgnoredForTheFirstReason : Type 0

@@ -21,7 +21,7 @@ use Rattle.end.specs.declared.Why.the-variants as why
 use Rattle.end.specs.declared.End.{End}
 use Rattle.end.specs.State.{sourceAt, isMember, isCrashed, momentOf, withClock}
 use Rattle.end.specs.Round.{drawCount}
-use Rattle.end.specs.Answer.{Effect, Out, Got, Done, Ignored, Nothing, Outcome, Refused, Did}
+use Rattle.end.specs.Answer.{Effect, Out, Got, Done, Ignored, Nothing, Clash, Outcome, Refused, Did}
 use Rattle.end.specs.Decide.{known}
 use Rattle.end.specs.Reasons.{holds, reasons, firstThat}
 use Rattle.end.specs.Arrival.{saidIn}
@@ -143,6 +143,7 @@ isIgnored (Got name cue) = false
 isIgnored Done = false
 isIgnored Ignored = true
 isIgnored Nothing = false
+isIgnored (Clash name) = false
 
 -- "The reason named is shown true and those before it false"
 abbrev pub ReasonIsFirst : Type 0

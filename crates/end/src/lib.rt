@@ -1,6 +1,6 @@
 // The types of one SRM end, in the forms that document 01 names. All rules of the end are definitions on these types, in specs/: State,
 // Records, Round, Names, Answer, Messages, Sound, Ready, Decide, Reasons, Session, Arrival, Fire, Event, Why, Opening, in this order; then
-// the service: Book, Run.
+// the service: Book, Run, and what both say of a Clash: Clashes.
 use message::CueNumber;
 use message::Host;
 use message::Name;
@@ -158,7 +158,8 @@ pub enum Why {
     NoReason,
 }
 
-// What is decided on a message about a name: one for each thing that a DATA, RQST or REPL may do. BacksOff has the round that waits.
+// What is decided on a message about a name: one for each thing that a DATA, RQST or REPL may do. BacksOff has the round that waits;
+// Clashes is where the name is held with other bytes.
 pub enum Decision {
     Ignores(Reason),
     Opens,
@@ -168,10 +169,11 @@ pub enum Decision {
     Replies,
     Learns,
     BacksOff(u8),
+    Clashes,
 }
 
 // What a call answers. A refusal gives only its number; Out gives the length of the message in the first output bytes; Got
-// gives the name, and its cue is in the first 24 output bytes.
+// gives the name, and its cue is in the first 24 output bytes; Clash gives the name of a held cue that came with other bytes.
 pub enum Answer {
     Refused(u8),
     Out(usize),
@@ -179,6 +181,7 @@ pub enum Answer {
     Done,
     Ignored,
     Nothing,
+    Clash(Name),
 }
 
 // A wait that is due, as Fire compares it: a request, or a reply where `reply` is true, and for which name.

@@ -30,6 +30,7 @@ fn said(call: &[u8], s: Stepped) -> End {
         Answer::Done => print(b": done\n"),
         Answer::Ignored => print(b": ignored\n"),
         Answer::Nothing => print(b": nothing\n"),
+        Answer::Clash(_) => print(b": clash\n"),
     }
     s.end
 }

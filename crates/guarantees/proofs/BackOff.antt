@@ -9,8 +9,8 @@ use native.Mathlib.Nat.{mul-le-mul}
 use native.Mathlib.Omega.{arith}
 use lib.ListN.{getD, length}
 use lib.Seq.{set-getD}
-use lib.Dec.{eqb, leb}
-use borrow.Author.Tests.{ltb-true, leb-true, eqb-true, eqb-false, eq-eqb}
+use lib.Dec.{eqb}
+use borrow.Author.Tests.{ltb-true, eqb-true, eqb-false, eq-eqb}
 use Rattle.message.specs.declared.Host.{Host}
 use Rattle.message.specs.Entry.{asHost, asNumber}
 use Rattle.message.specs.Message.{DATA, RQST, Meaning, meaningFrom}
@@ -22,15 +22,14 @@ use Rattle.end.specs.declared.Slot.{Slot}
 use Rattle.end.specs.declared.Slot.the-variants.{Empty, Held, Waiting}
 use Rattle.end.specs.declared.Record.{Record}
 use Rattle.end.specs.declared.Span.{Span}
-use Rattle.end.specs.declared.Span.the-variants.{Closed, Open}
 use Rattle.end.specs.declared.Source.{Source}
 use Rattle.end.specs.declared.End.{End}
 use Rattle.end.specs.declared.Moment.{Moment}
 use Rattle.end.specs.declared.Says.the-variants.{Rqst}
 use Rattle.end.specs.declared.Decision.{Decision}
-use Rattle.end.specs.declared.Decision.the-variants.{Ignores, Opens, Takes, Repairs, Hushes, Replies, Learns, BacksOff}
+use Rattle.end.specs.declared.Decision.the-variants.{Ignores, Opens, Takes, Repairs, Hushes, Replies, Learns, BacksOff, Clashes}
 use Rattle.end.specs.State.{distanceTo, momentOf, withClock, noSource, sourceAt, isMember, withSources}
-use Rattle.end.specs.Records.{isHeld, within, isAbove, recordAt}
+use Rattle.end.specs.Records.{isHeld, within, recordAt}
 use Rattle.end.specs.Round.{Drawn, factor, share, requestAt, nextRound}
 use Rattle.end.specs.Answer.{Result, Ignored, Step, give, done}
 use Rattle.end.specs.Sound.{soundOf, allOf, paramsTests}
@@ -53,7 +52,7 @@ use Rattle.guarantees.specs.Records.{slotOf, clearing, MayBecome, HeardA
 use Rattle.guarantees.specs.Arrivals.{hear}
 use Rattle.guarantees.specs.Fires.{OpenedFiringEnds, OpenedC3BelowC1}
 use Rattle.guarantees.specs.BackOff.{RoundsRise, SetNow, SetOrKept, Hearing, heardAll, OncePerQuiet, AlwaysDue, QuietIgnores, RoundsThrough, SetIn, DrawsFit, CuesAreArrays, AlwaysSet, QuietBeforeDue, OneRoundPerQuiet}
-use Rattle.guarantees.proofs.Names.{sound-waits, waits-inside, waiting-not, far}
+use Rattle.guarantees.proofs.Names.{sound-waits, waits-inside, inside-not-above, waiting-not, far}
 use Rattle.guarantees.proofs.Arrivals.{call-cases, member-not-crashed, held-stays, slots-as-heard}
 use Rattle.guarantees.proofs.Slots.{acts-may, slots-may-become, host-and-params-stay}
 use Rattle.guarantees.proofs.Fires.{due-means-out, firing-ends}
@@ -146,11 +145,6 @@ always-due e h n q sound hh p = (
 abbrev Ignores-all : End → Step → Type 0
 Ignores-all e step = step ≡ give Ignored e
 
-inside-not-above : (x : Span) (n : ℕ) → within x n ≡ true → isAbove x n ≡ true → ⊥
-inside-not-above Closed n w h = clash′ w
-inside-not-above (Open first last) n w h =
-    omega (arith, leb-true n (last .0) (and-both (leb (first .0) n) (leb n (last .0)) w .1), ltb-true (last .0) n h)
-
 module _ (us : List ℕ) (m : Meaning) (e : End) (q : Request) (waiting : recordAt (sourceAt e (messageName m .source)) (messageName m .number .0) .slot ≡ Waiting q)
     (quiet : e .clock ≤ q .quiet) where
   -- every decision but to ignore it has grounds that do not hold here
@@ -167,6 +161,7 @@ module _ (us : List ℕ) (m : Meaning) (e : End) (q : Request) (waiting : record
   decided Learns g =
       let s = sourceAt e (messageName m .source) in
       absurd (inside-not-above (s .span) (messageName m .number .0) (waits-inside s (messageName m .number .0) q waiting) (g .2))
+  decided Clashes g = clash (sym (g .1) ∙ ap isHeld waiting)
   decided (BacksOff k) g =
       let z : Waiting q ≡ Waiting (g .1 .request) = sym waiting ∙ g .1 .waits in
       let same : q ≡ g .1 .request = cc in

@@ -1,6 +1,6 @@
 -- What a message does to one record, change by change.
 use mathlib.Core.Path.{_≡_, refl, sym, ap, _∙_, subst}
-use mathlib.Core.Bool.{Bool, true, false, cond, _&&_, _||_}
+use mathlib.Core.Bool.{Bool, true, false, cond, not, _&&_, _||_}
 use mathlib.Core.List.{List}
 use mathlib.Core.Logic.{_⊎_, inl, inr}
 use Prim.Native.Nat.{ℕ, _≤_}
@@ -20,11 +20,12 @@ use Rattle.end.specs.State.{blankRecord}
 use Rattle.end.specs.Records.{isHeld, isNo, replyIn, withReply}
 use Rattle.end.specs.Round.{requestAt, nextRound, replyDue, quietAfterReply}
 use Rattle.end.specs.Names.{asking, holding, replying, quieted}
+use Rattle.end.specs.Decide.{sameCue}
 use Rattle.end.specs.Arrival.{messageName, messageHost, messageCue}
 use Rattle.end.proofs.Grounds.{Free, Late}
 use Rattle.end.proofs.Tools.{clash, clash′}
 use Rattle.guarantees.specs.Records.{HeardAs, ReplyAs}
-use Rattle.guarantees.specs.Arrivals.{isAbout, risen, hasName, touches}
+use Rattle.guarantees.specs.Arrivals.{isAbout, repairs, risen, hasName, touches}
 
 pub or-first : (a b : Bool) → a ≡ true → a || b ≡ true
 or-first a b h = ap (λ (t : Bool). t || b) h
@@ -44,8 +45,8 @@ pub record Heard (t : Moment) (us : List ℕ) (m : Meaning) (to : Host → ℕ) 
   pub held : isHeld (r .slot) ≡ true → (isHeld (p .slot) ≡ true) × (p .cue ≡ r .cue)
   pub slots : HeardAs t us d j (carriedBy m h j) (isAbout RQST m h j) (r .slot) (p .slot)
   pub carries : isHeld (r .slot) ≡ false → isHeld (p .slot) ≡ true → p .cue ≡ messageCue m
-  pub reply : ReplyAs t us (to (m .sender)) (m .sender) j (isAbout RQST m h j) (isAbout REPL m h j) (r .slot) (r .hush) (replyIn (r .slot)) (replyIn (p .slot))
-  pub quiet : (p .hush ≡ r .hush) ⊎ ((isAbout REPL m h j ≡ true) × (p .hush ≡ quietAfterReply t (to (messageHost m))))
+  pub reply : ReplyAs t us (to (m .sender)) (m .sender) j (isAbout RQST m h j) (repairs m h j r) (r .slot) (r .hush) (replyIn (r .slot)) (replyIn (p .slot))
+  pub quiet : (p .hush ≡ r .hush) ⊎ ((repairs m h j r ≡ true) × (p .hush ≡ quietAfterReply t (to (messageHost m))))
 
 -- a held cue with another reply is a held cue
 replied-held : (reply : Reply) (x : Slot) → isHeld (withReply reply x) ≡ isHeld x
@@ -79,32 +80,32 @@ module _ (t : Moment) (us : List ℕ) (m : Meaning) (to : Host → ℕ) (d h j :
   quiets a b x (Waiting q) h = h
 
   -- ---- replies
-  abbrev Replies : Slot → ℕ → Reply → Reply → Type 0
-  Replies = ReplyAs t us (to (m .sender)) (m .sender) j (isAbout RQST m h j) (isAbout REPL m h j)
+  abbrev Replies : Bool → Slot → ℕ → Reply → Reply → Type 0
+  Replies b = ReplyAs t us (to (m .sender)) (m .sender) j (isAbout RQST m h j) b
 
-  reply-stays : (x : Slot) (u : ℕ) (reply : Reply) → Replies x u reply reply
-  reply-stays x u No = tt
-  reply-stays x u (Due due k) = (refl, refl)
+  reply-stays : (b : Bool) (x : Slot) (u : ℕ) (reply : Reply) → Replies b x u reply reply
+  reply-stays b x u No = tt
+  reply-stays b x u (Due due k) = (refl, refl)
 
-  reply-none : (x : Slot) (u : ℕ) → isHeld x ≡ false → Replies x u (replyIn x) No
-  reply-none Empty u free = tt
-  reply-none (Held reply) u free = clash free
-  reply-none (Waiting q) u free = tt
+  reply-none : (b : Bool) (x : Slot) (u : ℕ) → isHeld x ≡ false → Replies b x u (replyIn x) No
+  reply-none b Empty u free = tt
+  reply-none b (Held reply) u free = clash free
+  reply-none b (Waiting q) u free = tt
 
-  reply-goes : (x : Slot) (u : ℕ) (reply : Reply) → isAbout REPL m h j ≡ true → (y : Slot) → Replies x u reply (replyIn (withReply No y))
-  reply-goes x u No about Empty = tt
-  reply-goes x u No about (Held reply) = tt
-  reply-goes x u No about (Waiting q) = tt
-  reply-goes x u (Due due k) about Empty = about
-  reply-goes x u (Due due k) about (Held reply) = about
-  reply-goes x u (Due due k) about (Waiting q) = about
+  reply-goes : (b : Bool) (x : Slot) (u : ℕ) (reply : Reply) → b ≡ true → (y : Slot) → Replies b x u reply (replyIn (withReply No y))
+  reply-goes b x u No about Empty = tt
+  reply-goes b x u No about (Held reply) = tt
+  reply-goes b x u No about (Waiting q) = tt
+  reply-goes b x u (Due due k) about Empty = about
+  reply-goes b x u (Due due k) about (Held reply) = about
+  reply-goes b x u (Due due k) about (Waiting q) = about
 
-  reply-begins : (x : Slot) (u : ℕ) (k : Host) → k ≡ m .sender → isHeld x ≡ true → isNo (replyIn x) ≡ true → u ≤ t .clock → isAbout RQST m h j ≡ true
-      → Replies x u (replyIn x) (replyIn (withReply (Due (replyDue t us (to k) j) k) x))
-  reply-begins Empty u k who held free over about = clash′ held
-  reply-begins (Held No) u k who held free over about = (about, refl, over, ap (λ (i : Host). replyDue t us (to i) j) who, who)
-  reply-begins (Held (Due due i)) u k who held free over about = clash′ free
-  reply-begins (Waiting q) u k who held free over about = clash′ held
+  reply-begins : (b : Bool) (x : Slot) (u : ℕ) (k : Host) → k ≡ m .sender → isHeld x ≡ true → isNo (replyIn x) ≡ true → u ≤ t .clock → isAbout RQST m h j ≡ true
+      → Replies b x u (replyIn x) (replyIn (withReply (Due (replyDue t us (to k) j) k) x))
+  reply-begins b Empty u k who held free over about = clash′ held
+  reply-begins b (Held No) u k who held free over about = (about, refl, over, ap (λ (i : Host). replyDue t us (to i) j) who, who)
+  reply-begins b (Held (Due due i)) u k who held free over about = clash′ free
+  reply-begins b (Waiting q) u k who held free over about = clash′ held
 
   -- ---- records
   pub heard-none : (touched : Bool) (r : Record) → Heard t us m to d h j touched r r
@@ -113,7 +114,7 @@ module _ (t : Moment) (us : List ℕ) (m : Meaning) (to : Host → ℕ) (d h j :
     held = λ p. (p, refl);
     slots = stays _ _ (r .slot);
     carries = λ f p. clash (sym p ∙ f);
-    reply = reply-stays (r .slot) (r .hush) (replyIn (r .slot));
+    reply = reply-stays _ (r .slot) (r .hush) (replyIn (r .slot));
     quiet = inl refl;
   }
 
@@ -136,7 +137,7 @@ module _ (t : Moment) (us : List ℕ) (m : Meaning) (to : Host → ℕ) (d h j :
           slots = subst (λ (z : Slot). HeardAs t us d j (carriedBy m h j) (isAbout RQST m h j) z (Waiting (requestAt t us d j (nextRound k)))) (sym x)
               (inr (about, late .over, ap (λ (i : ℕ). requestAt t us d j (nextRound i)) (late .round)));
           carries = λ _ p. clash′ p;
-          reply = reply-none (r .slot) (r .hush) (ap isHeld x);
+          reply = reply-none _ (r .slot) (r .hush) (ap isHeld x);
           quiet = inl refl;
         }
 
@@ -147,19 +148,19 @@ module _ (t : Moment) (us : List ℕ) (m : Meaning) (to : Host → ℕ) (d h j :
       held = λ k. clash (sym k ∙ free);
       slots = takes _ _ (r .slot) free carried;
       carries = λ _ _. refl;
-      reply = reply-none (r .slot) (r .hush) free;
+      reply = reply-none _ (r .slot) (r .hush) free;
       quiet = q .quiet;
     }
 
     -- its reply goes by a repair, whatever else was heard before
-    pub heard-quieted : (r p : Record) → Heard t us m to d h j touched r p → isAbout REPL m h j ≡ true → (k : Host) → k ≡ messageHost m
+    pub heard-quieted : (r p : Record) → Heard t us m to d h j touched r p → repairs m h j r ≡ true → (k : Host) → k ≡ messageHost m
         → Heard t us m to d h j touched r (quieted p (quietAfterReply t (to k)))
     heard-quieted r p q about k who = record {
       same = changed;
       held = λ l. (replied-held No (p .slot) ∙ q .held l .0, q .held l .1);
       slots = quiets _ _ (r .slot) (p .slot) (q .slots);
       carries = λ f l. q .carries f (sym (replied-held No (p .slot)) ∙ l);
-      reply = reply-goes (r .slot) (r .hush) (replyIn (r .slot)) about (p .slot);
+      reply = reply-goes _ (r .slot) (r .hush) (replyIn (r .slot)) about (p .slot);
       quiet = inr (about, ap (λ (i : Host). quietAfterReply t (to i)) who);
     }
 
@@ -171,7 +172,7 @@ module _ (t : Moment) (us : List ℕ) (m : Meaning) (to : Host → ℕ) (d h j :
           held = λ p. (replied-held now (r .slot) ∙ p, refl);
           slots = replied _ _ now (r .slot);
           carries = λ f p. clash (sym p ∙ replied-held now (r .slot) ∙ f);
-          reply = reply-begins (r .slot) (r .hush) k who (free .held) (free .none) (free .over) about;
+          reply = reply-begins _ (r .slot) (r .hush) k who (free .held) (free .none) (free .over) about;
           quiet = inl refl;
         }
 
@@ -180,6 +181,15 @@ module _ (t : Moment) (us : List ℕ) (m : Meaning) (to : Host → ℕ) (d h j :
 pub is-about : (kind : ℕ) (m : Meaning) → eqb (m .kind) kind ≡ true → isAbout kind m (messageName m .source .0) (messageName m .number .0) ≡ true
 unfolding isAbout
 is-about kind m t = λ i. t i && (eq-eqb (messageName m .source .0) (messageName m .source .0) refl i && eq-eqb (messageName m .number .0) (messageName m .number .0) refl i)
+
+-- a REPL of the name where no cue is held, and one with the held cue
+pub repairs-missing : (m : Meaning) (h j : ℕ) (r : Record) → isAbout REPL m h j ≡ true → isHeld (r .slot) ≡ false → repairs m h j r ≡ true
+unfolding repairs
+repairs-missing m h j r about free = λ i. about i && (not (free i) || sameCue (messageCue m) (r .cue))
+
+pub repairs-same : (m : Meaning) (h j : ℕ) (r : Record) → isAbout REPL m h j ≡ true → sameCue (messageCue m) (r .cue) ≡ true → repairs m h j r ≡ true
+unfolding repairs
+repairs-same m h j r about same = (λ i. about i && (not (isHeld (r .slot)) || same i)) ∙ or-second (not (isHeld (r .slot))) true refl
 
 -- a message of another kind, or about another number
 pub not-kind : (kind : ℕ) (m : Meaning) (h j : ℕ) → eqb (m .kind) kind ≡ false → isAbout kind m h j ≡ false

@@ -2,6 +2,7 @@ pub mod Names
 pub mod Heard
 pub mod Messages
 pub mod Arrivals
+pub mod Clashes
 pub mod Choice
 pub mod Slots
 pub mod Fires

@@ -22,7 +22,7 @@ use Rattle.end.specs.declared.Says.{Says}
 use Rattle.end.specs.declared.Says.the-variants.{Data, Rqst, Repl}
 use Rattle.end.specs.declared.Word.{Word}
 use Rattle.end.specs.declared.Decision.{Decision}
-use Rattle.end.specs.declared.Decision.the-variants.{Ignores, Opens, Takes, Repairs, Hushes, Replies, Learns, BacksOff}
+use Rattle.end.specs.declared.Decision.the-variants.{Ignores, Opens, Takes, Repairs, Hushes, Replies, Learns, BacksOff, Clashes}
 use Rattle.end.specs.State.{noSource, blankRecord, sourceAt, distanceTo, momentOf, withSpan}
 use Rattle.end.specs.Records.{within, isAbove, rawAt, recordAt, withRecord, isHeld}
 use Rattle.end.specs.Round.{requestAt}
@@ -35,9 +35,9 @@ use Rattle.end.proofs.Grounds.{Missing, isRequest, Grounds, grounds}
 use Rattle.end.proofs.RecordLaws.{at-inside, at-outside, same-within, read-same, read-other, store-elim, within-in, rise-distance, rise-heard, rise-length, rise-elim}
 use Rattle.end.proofs.Tools.{byTest, set-elim, clash′, eqb-flip}
 use Rattle.invariants.proofs.Sources.{risen-within}
-use Rattle.guarantees.specs.Arrivals.{SameEnd, isAbout, hasName, touches, SpanAs, isDataOf, isSessionOf}
+use Rattle.guarantees.specs.Arrivals.{SameEnd, isAbout, repairs, hasName, touches, SpanAs, isDataOf, isSessionOf}
 use Rattle.guarantees.proofs.Names.{above-blank, source-of, extended-within}
-use Rattle.guarantees.proofs.Heard.{or-first, or-second, carriedBy, Heard, heard-none, heard-asked, heard-next, heard-cue, heard-quieted, heard-reply, is-about, not-kind, not-number, touches-it, touches-risen}
+use Rattle.guarantees.proofs.Heard.{or-first, or-second, carriedBy, Heard, heard-none, heard-asked, heard-next, heard-cue, heard-quieted, heard-reply, is-about, repairs-missing, repairs-same, not-kind, not-number, touches-it, touches-risen}
 
 -- ---- first and last
 span-stays : (opens : Bool) (x : Span) → SpanAs opens x x
@@ -165,9 +165,9 @@ module _ (us : List ℕ) (m : Meaning) (e : End) (f : Facts e) (says : Says) (ki
   held-then : (x : Source) → Hears x → isHeld (recordAt s₀ n₀ .slot) ≡ false → carriedBy m h₀ n₀ ≡ true → Hears (hold n₀ (messageCue m) x)
   held-then x q free carried = stored x _ q (heard-cue t₀ us m (distanceTo e) (s₀ .distance) h₀ n₀ _ it (recordAt s₀ n₀) (recordAt x n₀) (q .each n₀) free carried)
 
-  quiet-then : (x : Source) → Hears x → says ≡ Repl → Hears (quietReply t₀ n₀ (w₀ .distance) x)
-  quiet-then x q p = stored x _ q (heard-quieted t₀ us m (distanceTo e) (s₀ .distance) h₀ n₀ _ it (recordAt s₀ n₀) (recordAt x n₀) (q .each n₀)
-      (about Repl p) (requesterIn says m) (ap (λ (z : Says). requesterIn z m) p))
+  quiet-then : (x : Source) → Hears x → says ≡ Repl → repairs m h₀ n₀ (recordAt s₀ n₀) ≡ true → Hears (quietReply t₀ n₀ (w₀ .distance) x)
+  quiet-then x q p heals = stored x _ q (heard-quieted t₀ us m (distanceTo e) (s₀ .distance) h₀ n₀ _ it (recordAt s₀ n₀) (recordAt x n₀) (q .each n₀)
+      heals (requesterIn says m) (ap (λ (z : Says). requesterIn z m) p))
 
   -- ---- last rises to the named number
   abbrev risen₀ : Source
@@ -229,7 +229,8 @@ module _ (us : List ℕ) (m : Meaning) (e : End) (f : Facts e) (says : Says) (ki
   applied Repairs g =
       let carried = or-second (isAbout DATA m h₀ n₀) _ (about Repl (g .0)) in
       quiet-then _ (held-then risen₀ (risen (ap isRequest (g .0))) (g .1 .missing .lacks) carried) (g .0)
-  applied Hushes g = quiet-then s₀ unchanged (g .0)
+      (repairs-missing m h₀ n₀ (recordAt s₀ n₀) (about Repl (g .0)) (g .1 .missing .lacks))
+  applied Hushes g = quiet-then s₀ unchanged (g .0) (repairs-same m h₀ n₀ (recordAt s₀ n₀) (about Repl (g .0)) (g .2))
   applied Replies g =
       let p = request-is says (g .0) in
       stored s₀ _ unchanged
@@ -237,6 +238,7 @@ module _ (us : List ℕ) (m : Meaning) (e : End) (f : Facts e) (says : Says) (ki
   applied Learns g = learned (request-is says (g .0)) (g .1 .missing) (g .2)
   applied (BacksOff k) g = stored s₀ _ unchanged
       (heard-next t₀ us m (distanceTo e) (s₀ .distance) h₀ n₀ _ it (recordAt s₀ n₀) k (g .1) (about Rqst (request-is says (g .0))))
+  applied Clashes g = unchanged
 
   -- the named source stepped
   pub word-heard : HeardEnd t₀ us m e (wordStep us says m e .left)

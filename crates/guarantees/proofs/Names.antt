@@ -20,12 +20,12 @@ use Rattle.end.specs.declared.Span.the-variants.{Closed, Open}
 use Rattle.end.specs.declared.Source.{Source}
 use Rattle.end.specs.declared.End.{End}
 use Rattle.end.specs.State.{noSource, blankRecord, sourceAt, distanceTo}
-use Rattle.end.specs.Records.{within, isAbove, recordAt}
+use Rattle.end.specs.Records.{within, isAbove, recordAt, isHeld}
 use Rattle.end.specs.Sound.{timeLimit, allOf, spanTests, requestTests, insideSound, distanceSound, soundOf}
 use Rattle.end.specs.Event.{extended}
 use Rattle.end.proofs.RecordLaws.{Ordered, within-in, within-below, within-above, above-outside, at-outside}
 use Rattle.end.proofs.SoundLaws.{nth}
-use Rattle.end.proofs.Tools.{byTest}
+use Rattle.end.proofs.Tools.{byTest, clash′}
 use Rattle.invariants.proofs.Facts.{facts}
 use Rattle.guarantees.specs.Records.{slotOf}
 
@@ -36,6 +36,15 @@ waiting-not x q p h = let z : Empty ≡ Waiting q = sym p ∙ h in absurd (let w
 -- what waits lies in first..last
 pub waits-inside : (s : Source) (n : ℕ) (q : Request) → recordAt s n .slot ≡ Waiting q → within (s .span) n ≡ true
 waits-inside s n q p = byTest (within (s .span) n) (λ t. t) (λ t. waiting-not (recordAt s n .slot) q (ap (λ (r : Record). r .slot) (at-outside s n t)) p)
+
+-- so does what is held
+pub held-inside : (s : Source) (n : ℕ) → isHeld (recordAt s n .slot) ≡ true → within (s .span) n ≡ true
+held-inside s n h = byTest (within (s .span) n) (λ t. t) (λ t. clash′ (sym (ap (λ (r : Record). isHeld (r .slot)) (at-outside s n t)) ∙ h))
+
+pub inside-not-above : (x : Span) (n : ℕ) → within x n ≡ true → isAbove x n ≡ true → ⊥
+inside-not-above Closed n w h = clash′ w
+inside-not-above (Open first last) n w h =
+    omega (arith, leb-true n (last .0) (and-both (leb (first .0) n) (leb n (last .0)) w .1), ltb-true (last .0) n h)
 
 -- of the numbers above last an end has nothing
 pub above-blank : (s : Source) (j : ℕ) → isAbove (s .span) j ≡ true → recordAt s j ≡ blankRecord

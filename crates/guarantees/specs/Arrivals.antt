@@ -9,6 +9,7 @@ use lib.Dec.{leb, eqb}
 use Rattle.message.specs.declared.Report.{Report}
 use Rattle.message.specs.Entry.{asHost}
 use Rattle.message.specs.Message.{DATA, RQST, REPL, Meaning, meaningFrom}
+use Rattle.end.specs.declared.Record.{Record}
 use Rattle.end.specs.declared.Span.{Span}
 use Rattle.end.specs.declared.Span.the-variants.{Closed, Open}
 use Rattle.end.specs.declared.End.{End}
@@ -16,6 +17,7 @@ use Rattle.end.specs.State.{sourceAt, distanceTo}
 use Rattle.end.specs.Records.{isAbove, isHeld, replyIn}
 use Rattle.end.specs.Round.{quietAfterReply}
 use Rattle.end.specs.Answer.{Refused, Result, bufferOf}
+use Rattle.end.specs.Decide.{sameCue}
 use Rattle.end.specs.Arrival.{messageName, messageHost, messageCue}
 use Rattle.end.specs.Event.{Action, Arrival, eventOf}
 use Rattle.guarantees.specs.Calls.{momentAt}
@@ -51,6 +53,10 @@ HeldStays = (e : End) (bytes : List ℕ) (clock room : ℕ) (draws : List ℕ) (
 -- the message has this kind and this name
 unfoldable pub isAbout : ℕ → Meaning → ℕ → ℕ → Bool
 isAbout kind m h n = eqb (m .kind) kind && (eqb (messageName m .source .0) h && eqb (messageName m .number .0) n)
+
+-- it is a REPL of this name whose cue, if one is held, is the very same: one with other bytes is a Clash, and changes nothing
+unfoldable pub repairs : Meaning → ℕ → ℕ → Record → Bool
+repairs m h n r = isAbout REPL m h n && (not (isHeld (r .slot)) || sameCue (messageCue m) (r .cue))
 
 -- j lies above the last of a source, and is at most n: one of the numbers that a rise to n asks for
 abbrev pub risen : Span → ℕ → ℕ → Bool
@@ -103,15 +109,15 @@ HeldIsCarried = (e : End) (bytes : List ℕ) (clock room : ℕ) (draws : List �
 abbrev pub RepliesAsHeard : Type 0
 RepliesAsHeard = (e : End) (bytes : List ℕ) (clock room : ℕ) (draws : List ℕ) (h n : ℕ) → h < 8
     → ReplyAs (momentAt e clock) draws (distanceTo e (meaningFrom bytes .sender)) (meaningFrom bytes .sender) n
-    (isAbout RQST (meaningFrom bytes) h n) (isAbout REPL (meaningFrom bytes) h n) (slotOf e h n) (recordOf e h n .hush)
+    (isAbout RQST (meaningFrom bytes) h n) (repairs (meaningFrom bytes) h n (recordOf e h n)) (slotOf e h n) (recordOf e h n .hush)
     (replyIn (slotOf e h n)) (replyIn (slotOf (hear e bytes clock room draws .left) h n))
 
--- A reply-quiet time stays or, by a REPL of its name, is D3×d after the clock, where d is the distance to the host that the REPL names,
--- the requester.
+-- A reply-quiet time stays or, by a REPL of its name that carries the held cue if one is held, is D3×d after the clock, where d is the
+-- distance to the host that the REPL names, the requester.
 abbrev pub ReplyQuietStays : Type 0
 ReplyQuietStays = (e : End) (bytes : List ℕ) (clock room : ℕ) (draws : List ℕ) (h n : ℕ) → h < 8
     → (recordOf (hear e bytes clock room draws .left) h n .hush ≡ recordOf e h n .hush)
-    ⊎ ((isAbout REPL (meaningFrom bytes) h n ≡ true)
+    ⊎ ((repairs (meaningFrom bytes) h n (recordOf e h n) ≡ true)
     × (recordOf (hear e bytes clock room draws .left) h n .hush ≡ quietAfterReply (momentAt e clock) (distanceTo e (messageHost (meaningFrom bytes)))))
 
 -- ---- what becomes of first and last, distances and heard stamps

@@ -4,3 +4,4 @@ pub mod Fires
 pub mod Records
 pub mod Arrivals
 pub mod BackOff
+pub mod Clashes

@@ -64,10 +64,10 @@ HeardAs t us d n carried asked (Waiting q) (Held reply) = (carried ≡ true) × 
 HeardAs t us d n carried asked (Waiting q) (Waiting p) =
     (p ≡ q) ⊎ ((asked ≡ true) × (q .quiet < t .clock) × (p ≡ requestAt t us d n (nextRound (q .round))))
 
--- From the waiting reply before to the one after, by bytes that arrive, under a name whose slot and reply-quiet were these: `asked` and
--- `repaired` are whether the message is a RQST or a REPL of this very name, d is the distance to its sender. A reply begins to wait only
--- by a RQST of its name, for a held cue and not before its reply-quiet, due as the rules have it, with the sender as requester. One that
--- waits stays the very same or, by a REPL of its name, goes.
+-- From the waiting reply before to the one after, by bytes that arrive, under a name whose slot and reply-quiet were these: `asked` is
+-- whether the message is a RQST of this very name, `repaired` whether it is a REPL of this very name with the held cue, d is the distance
+-- to its sender. A reply begins to wait only by a RQST of its name, for a held cue and not before its reply-quiet, due as the rules have
+-- it, with the sender as requester. One that waits stays the very same or, by a REPL of its name with its cue, goes.
 abbrev pub ReplyAs : Moment → List ℕ → ℕ → Host → ℕ → Bool → Bool → Slot → ℕ → Reply → Reply → Type 0
 ReplyAs t us d sender n asked repaired slot quiet No No = Unit {0}
 ReplyAs t us d sender n asked repaired slot quiet No (Due due requester) =

@@ -23,7 +23,7 @@ use Rattle.end.specs.declared.Moment.{Moment}
 use Rattle.end.specs.declared.Says.the-variants.{Data}
 use Rattle.end.specs.declared.Word.{Word}
 use Rattle.end.specs.declared.Decision.{Decision}
-use Rattle.end.specs.declared.Decision.the-variants.{Ignores, Opens, Takes, Repairs, Hushes, Replies, Learns, BacksOff}
+use Rattle.end.specs.declared.Decision.the-variants.{Ignores, Opens, Takes, Repairs, Hushes, Replies, Learns, BacksOff, Clashes}
 use Rattle.end.specs.declared.Slot.{Slot}
 use Rattle.end.specs.declared.Slot.the-variants.{Empty, Held, Waiting}
 use Rattle.end.specs.declared.Reply.the-variants.{No, Due}
@@ -105,6 +105,7 @@ module _ (t : Moment) (us : List ℕ) (drawn : Drawn us) (w : Word) (v : WordIn 
   kept Replies g = let a = v .asker (g .0) in reply-kept s q joined (number w) t us drawn (w .distance) (w .requester) (v .distance) (a .0) (a .1) (a .2) (g .1 .held)
   kept Learns g = learns (wanted (g .1)) (g .1 .missing)
   kept (BacksOff k) g = let a = g .1 in rw (a .round) (next-round-kept s q joined (number w) t us drawn (a .request) far (a .waits))
+  kept Clashes g = q
 
 -- and so the end
 pub step-kept : (e : End) (us : List ℕ) (w : Word) → Drawn us → WordIn (momentOf e) w → SoundState e → isMember (e .status) ≡ true

@@ -21,7 +21,7 @@ use Rattle.end.specs.declared.Slot.the-variants.{Empty, Held, Waiting}
 use Rattle.end.specs.declared.Reply.the-variants.{No, Due}
 use Rattle.end.specs.declared.Word.{Word}
 use Rattle.end.specs.declared.Decision.{Decision}
-use Rattle.end.specs.declared.Decision.the-variants.{Ignores, Opens, Takes, Repairs, Hushes, Replies, Learns, BacksOff}
+use Rattle.end.specs.declared.Decision.the-variants.{Ignores, Opens, Takes, Repairs, Hushes, Replies, Learns, BacksOff, Clashes}
 use Rattle.end.specs.declared.Move.{Move}
 use Rattle.end.specs.declared.End.{End}
 use Rattle.end.specs.declared.Earliest.{Earliest}
@@ -104,6 +104,7 @@ word-silent w Hushes = refl
 word-silent w Replies = refl
 word-silent w Learns = refl
 word-silent w (BacksOff k) = refl
+word-silent w Clashes = refl
 
 arrival-silent : (us : List ℕ) (m : Meaning) (e : End) → Silent (arrivalOf us m e)
 unfolding arrivalOf messageStep stepAt sessionOf

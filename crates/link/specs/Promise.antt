@@ -6,10 +6,10 @@ use lib.ListN.{length}
 use Rattle.end.specs.declared.Answer.{Answer}
 use Rattle.end.specs.declared.End.{End}
 use Rattle.end.specs.declared.Stepped.{Stepped}
-use Rattle.end.specs.Answer.{Out, Got, Done, Ignored, Nothing, Outcome, Refused, Did, answerNumber, answerValues}
+use Rattle.end.specs.Answer.{Out, Got, Done, Ignored, Nothing, Clash, Outcome, Refused, Did, answerNumber, answerValues}
 use Rattle.end.specs.Event.{Action, questionOf, eventOf, gives, leaves}
 
--- "Out (length ..), Got (name ..), Done, Ignored, Nothing"; "A refusal gives only its number"
+-- "Out (length ..), Got (name ..), Done, Ignored, Nothing"; "A refusal gives only its number"; document 02, P4: "Clash, with the name"
 abbrev pub outcomeValues : Outcome → List ℕ
 outcomeValues (Refused k) = []
 outcomeValues (Did (Out bytes)) = length bytes ∷ []
@@ -17,6 +17,7 @@ outcomeValues (Did (Got name cue)) = name .source .0 ∷ name .number .0 ∷ []
 outcomeValues (Did Done) = []
 outcomeValues (Did Ignored) = []
 outcomeValues (Did Nothing) = []
+outcomeValues (Did (Clash name)) = name .source .0 ∷ name .number .0 ∷ []
 
 -- the answer of a call: the number of its first no, 0 where every answer was yes, and the outcome's values
 abbrev pub AnswerIs : End → Action → ℕ → List ℕ → List ℕ → Answer → Type 0

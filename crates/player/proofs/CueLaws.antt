@@ -24,7 +24,7 @@ use Rattle.end.specs.declared.Says.{Says}
 use Rattle.end.specs.declared.Says.the-variants.{Data, Rqst, Repl}
 use Rattle.end.specs.declared.Word.{Word}
 use Rattle.end.specs.declared.Decision.{Decision}
-use Rattle.end.specs.declared.Decision.the-variants.{Ignores, Opens, Takes, Repairs, Hushes, Replies, Learns, BacksOff}
+use Rattle.end.specs.declared.Decision.the-variants.{Ignores, Opens, Takes, Repairs, Hushes, Replies, Learns, BacksOff, Clashes}
 use Rattle.end.specs.State.{sourceAt, isMember, isCrashed, momentOf, withClock}
 use Rattle.end.specs.Answer.{Class, PutsOut, HandsOut, Untouched, classOf, classIn, Step, Result}
 use Rattle.end.specs.Decide.{decide, effectOf, stepAt}
@@ -73,6 +73,7 @@ wide-word w h Hushes = tt
 wide-word w h Replies = tt
 wide-word w h Learns = tt
 wide-word w h (BacksOff k) = tt
+wide-word w h Clashes = tt
 
 wide-message : (us : List ℕ) (m : Meaning) (e : End) → 24 ≤ length (messageCue m) → WideStep (messageStep us m e)
 unfolding messageStep stepAt sessionOf

@@ -16,7 +16,7 @@ use Rattle.end.specs.declared.Answer.{Answer}
 use Rattle.end.specs.declared.Answer.the-variants as answer
 use Rattle.end.specs.declared.End.{End}
 use Rattle.end.specs.declared.Stepped.{Stepped}
-use Rattle.end.specs.Answer.{Out, Got, Done, Ignored, Nothing}
+use Rattle.end.specs.Answer.{Out, Got, Done, Ignored, Nothing, Clash}
 use Rattle.end.specs.Event.{Action, Arrival, eventOf}
 use Rattle.end.specs.Answer.{Outcome, Refused, Did, Result}
 use Rattle.end.specs.Answer.{classIn, answerOf, calledOf, bufferOf}
@@ -77,6 +77,7 @@ in-buffer (Did (Got name cue)) output = tt
 in-buffer (Did Done) output = tt
 in-buffer (Did Ignored) output = tt
 in-buffer (Did Nothing) output = tt
+in-buffer (Did (Clash name)) output = tt
 
 -- an answer that puts nothing out
 pub tells : {a b : Answer} {s : Shown} {r : Told} (places lengths : List ℕ) {output : List ℕ} {count : ℕ} → a ≡ b → count ≤ most
@@ -146,6 +147,7 @@ turn-for (Did (Got name cue)) e output ms w =
 turn-for (Did Done) e output ms w = record { printed = refl; messages = refl; left = refl }
 turn-for (Did Ignored) e output ms w = record { printed = refl; messages = refl; left = refl }
 turn-for (Did Nothing) e output ms w = record { printed = refl; messages = refl; left = refl }
+turn-for (Did (Clash name)) e output ms w = record { printed = refl; messages = refl; left = refl }
 
 -- ---- a played line
 

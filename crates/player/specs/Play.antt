@@ -7,7 +7,7 @@ use lib.IntN.{ℤ, pos}
 use lib.Dec.{ltb}
 use Rattle.message.specs.Cue.{cueWith, fieldsOf}
 use Rattle.end.specs.declared.End.{End}
-use Rattle.end.specs.Answer.{Out, Got, Done, Ignored, Nothing}
+use Rattle.end.specs.Answer.{Out, Got, Done, Ignored, Nothing, Clash}
 use Rattle.end.specs.Event.{Action, Moves, Send, Arrival, Else, Fire, Report, eventOf}
 use Rattle.end.specs.declared.Move.the-variants.{Join, Joined, Leave, Left, Crash}
 use Rattle.end.specs.Answer.{Outcome, Refused, Did, Result}
@@ -76,7 +76,7 @@ abbrev pub stops : End → List (List ℕ) → Turn
 stops e messages = record { printed = Bad; left = e; messages = messages }
 
 -- "after out the message number, after got source, cue number and focus, after "refused" the number"; messages are "numbered from 0
--- as put out", and at a 65th it "prints "bad" and stops"
+-- as put out", and at a 65th it "prints "bad" and stops"; a clash (document 02, P4) has its name
 unfoldable pub turnOf : Outcome → End → List (List ℕ) → Turn
 turnOf (Refused question) e messages = shows (shown.Refused question) e messages
 turnOf (Did (Out bytes)) e messages =
@@ -85,6 +85,7 @@ turnOf (Did (Got name cue)) e messages = shows (shown.Got (name .source) (name .
 turnOf (Did Done) e messages = shows shown.Done e messages
 turnOf (Did Ignored) e messages = shows shown.Ignored e messages
 turnOf (Did Nothing) e messages = shows shown.Nothing e messages
+turnOf (Did (Clash name)) e messages = shows (shown.Clash (name .source) (name .number)) e messages
 
 -- the call that a line makes, with an output of 128 bytes
 abbrev pub resultOf : End → Verb → ℕ → List (List ℕ) → Result

@@ -39,6 +39,7 @@ printedFor (answer.Got name) output count = Shows (shown.Got (name .source) (nam
 printedFor answer.Done output count = Shows shown.Done
 printedFor answer.Ignored output count = Shows shown.Ignored
 printedFor answer.Nothing output count = Shows shown.Nothing
+printedFor (answer.Clash name) output count = Shows (shown.Clash (name .source) (name .number))
 
 -- the messages then
 unfoldable pub messagesFor : Answer → List ℕ → List (List ℕ) → List (List ℕ)
@@ -48,6 +49,7 @@ messagesFor (answer.Got name) output messages = messages
 messagesFor answer.Done output messages = messages
 messagesFor answer.Ignored output messages = messages
 messagesFor answer.Nothing output messages = messages
+messagesFor (answer.Clash name) output messages = messages
 
 -- a message that was put out is in the output
 unfoldable pub InOutput : Answer → List ℕ → Type 0
@@ -57,6 +59,7 @@ InOutput (answer.Got name) output = Unit {0}
 InOutput answer.Done output = Unit {0}
 InOutput answer.Ignored output = Unit {0}
 InOutput answer.Nothing output = Unit {0}
+InOutput (answer.Clash name) output = Unit {0}
 
 -- what is told of an answer: what is printed for it, and the messages that are kept after it
 pub record Tells (a : Answer) (output : List ℕ) (messages : List (List ℕ)) (count : ℕ) (r : Told) (after : List (List ℕ)) : Type 0 where

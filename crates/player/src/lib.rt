@@ -162,6 +162,11 @@ fn tell(answer: Answer, out: &[u8], places: &mut [u8], lengths: &mut [u8], count
         Answer::Done => shows(Shown::Done, count),
         Answer::Ignored => shows(Shown::Ignored, count),
         Answer::Nothing => shows(Shown::Nothing, count),
+        Answer::Clash(name) => {
+            let source = name.source;
+            let number = name.number;
+            shows(Shown::Clash(source, number), count)
+        }
     }
 }
 

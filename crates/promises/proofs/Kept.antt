@@ -9,16 +9,19 @@ use Rattle.guarantees.proofs.Fires.{out-is-earliest, nothing-means-none, none-m
 use Rattle.guarantees.proofs.BackOff.{opened-c3-below-c1, opened-firing-ends, rounds-rise, set-or-kept, quiet-ignores, once-per-quiet, always-due, rounds-through, always-set, quiet-before-due, one-round-per-quiet}
 use Rattle.guarantees.proofs.Slots.{host-and-params-stay, slots-may-become, waits-until-held, held-until-cleared}
 use Rattle.guarantees.proofs.Arrivals.{refused-changes-nothing, arrival-keeps-status-and-next, held-stays, untouched-stays, other-sources-stay, slots-as-heard, held-is-carried, replies-as-heard, reply-quiet-stays, spans-as-heard, distances-stay}
+use Rattle.guarantees.proofs.Clashes.{other-bytes-clash, clash-means}
 use Rattle.roundtrip.proofs.RoundTrip.{reads-back, very-bytes, rewritten, at-most-119}
 use Rattle.numbers.proofs.NumberLaws.{value-digits, digits-value}
 use Rattle.numbers.proofs.SignedLaws.{signed-back, two-bytes-back}
 use Rattle.message.proofs.CueLaws.{cue-fields-back}
 use Rattle.end.proofs.Bounds.{share-none, share-whole, share-most, share-rises, least-milliseconds}
+use Rattle.end.proofs.Clashes.{same-cue-is-same-bytes}
 use Rattle.end.proofs.Service.Ends.{service}
+use Rattle.end.proofs.Service.Unclashed.{never-clashes}
 use Rattle.end.proofs.Reasons.{ignored-for-the-first-reason}
 use Rattle.end.proofs.ReasonLaws.{reason-is-first, number-exactly, reason-exactly, none-exactly}
-use Rattle.cases.proofs.Shown.{service-shown}
-use Rattle.cases.proofs.Cases.{cases-hold, answers-hold, moves-hold, wire-holds, timed-hold, half-trips-hold, reasons-hold, stage-holds, quiet-holds}
+use Rattle.cases.proofs.Shown.{service-shown, never-returns-clash}
+use Rattle.cases.proofs.Cases.{cases-hold, answers-hold, moves-hold, wire-holds, timed-hold, half-trips-hold, reasons-hold, stage-holds, quiet-holds, clashes-hold}
 use Rattle.promises.specs.Promises.{Promises}
 
 pub promises : Promises
@@ -34,7 +37,7 @@ promises = record {
     rewritten = rewritten;
     at-most-119 = at-most-119;
   };
-  service = record { runs = service; shown = service-shown };
+  service = record { runs = service; shown = service-shown; never-clashes = never-clashes; never-returns-clash = never-returns-clash };
   states = record {
     opens-sound = opens-sound;
     stays-sound = stays-sound;
@@ -71,6 +74,9 @@ promises = record {
     reply-quiet-stays = reply-quiet-stays;
     spans-as-heard = spans-as-heard;
     distances-stay = distances-stay;
+    same-cue-is-same-bytes = same-cue-is-same-bytes;
+    other-bytes-clash = other-bytes-clash;
+    clash-means = clash-means;
   };
   back-off = record {
     share-none = share-none;
@@ -94,5 +100,5 @@ promises = record {
   };
   first-reason = ignored-for-the-first-reason;
   reasons = record { reason-is-first = reason-is-first; number-exactly = number-exactly; reason-exactly = reason-exactly; none-exactly = none-exactly };
-  cases = record { starred = cases-hold; answers = answers-hold; moves = moves-hold; wire = wire-holds; timed = timed-hold; half-trips = half-trips-hold; reasons = reasons-hold; stage = stage-holds; quiet = quiet-holds };
+  cases = record { starred = cases-hold; answers = answers-hold; moves = moves-hold; wire = wire-holds; timed = timed-hold; half-trips = half-trips-hold; reasons = reasons-hold; stage = stage-holds; quiet = quiet-holds; clashes = clashes-hold };
 }

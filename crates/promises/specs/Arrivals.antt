@@ -4,22 +4,27 @@ use mathlib.Core.Bool.{Bool, true, false, cond, not, _&&_, _||_}
 use mathlib.Core.List.{List, [], _∷_}
 use mathlib.Core.Logic.{_⊎_}
 use Prim.Native.Nat.{ℕ, _≤_, _<_}
+use lib.ListN.{length}
 use lib.Dec.{leb, eqb}
+use Rattle.message.specs.declared.Name.{Name}
 use Rattle.message.specs.declared.Report.{Report}
 use Rattle.message.specs.Entry.{asHost}
 use Rattle.message.specs.Message.{DATA, RQST, REPL, Meaning, meaningFrom}
 use Rattle.end.specs.declared.Span.{Span}
 use Rattle.end.specs.declared.Span.the-variants.{Closed, Open}
 use Rattle.end.specs.declared.End.{End}
-use Rattle.end.specs.State.{sourceAt, distanceTo}
+use Rattle.end.specs.State.{sourceAt, distanceTo, withClock}
 use Rattle.end.specs.Records.{isAbove, isHeld, replyIn}
 use Rattle.end.specs.Round.{quietAfterReply}
-use Rattle.end.specs.Answer.{Refused, Result, bufferOf}
+use Rattle.end.specs.Answer.{Clash, Refused, Did, Result, bufferOf}
+use Rattle.end.specs.Decide.{sameCue}
 use Rattle.end.specs.Arrival.{messageName, messageHost, messageCue}
-use Rattle.end.specs.Event.{Action, Arrival, eventOf}
+use Rattle.end.specs.Event.{Action, Arrival, questionOf, eventOf}
+use Rattle.end.specs.Clashes.{Clashing}
 use Rattle.guarantees.specs.Calls.{momentAt}
 use Rattle.guarantees.specs.Records.{recordOf, slotOf, HeardAs, ReplyAs}
-use Rattle.guarantees.specs.Arrivals.{hear, SameEnd, isAbout, risen, reportedUp, hasName, touches, SpanAs, isDataOf, isSessionOf}
+use Rattle.guarantees.specs.Arrivals.{hear, SameEnd, isAbout, repairs, risen, reportedUp, hasName, touches, SpanAs, isDataOf, isSessionOf}
+use Rattle.guarantees.specs.Clashes.{WasClash}
 
 pub record ArrivalsKept : Type 0 where
   -- A refused call, of any event, changes nothing at all, neither the end nor the output.
@@ -49,13 +54,13 @@ pub record ArrivalsKept : Type 0 where
   -- A waiting reply changes only as `ReplyAs` says.
   pub replies-as-heard : (e : End) (bytes : List ℕ) (clock room : ℕ) (draws : List ℕ) (h n : ℕ) → h < 8
       → ReplyAs (momentAt e clock) draws (distanceTo e (meaningFrom bytes .sender)) (meaningFrom bytes .sender) n
-      (isAbout RQST (meaningFrom bytes) h n) (isAbout REPL (meaningFrom bytes) h n) (slotOf e h n) (recordOf e h n .hush)
+      (isAbout RQST (meaningFrom bytes) h n) (repairs (meaningFrom bytes) h n (recordOf e h n)) (slotOf e h n) (recordOf e h n .hush)
       (replyIn (slotOf e h n)) (replyIn (slotOf (hear e bytes clock room draws .left) h n))
-  -- A reply-quiet time stays or, by a REPL of its name, is D3×d after the clock, where d is the distance to the host that the REPL names,
-  -- the requester.
+  -- A reply-quiet time stays or, by a REPL of its name that carries the held cue if one is held, is D3×d after the clock, where d is the
+  -- distance to the host that the REPL names, the requester.
   pub reply-quiet-stays : (e : End) (bytes : List ℕ) (clock room : ℕ) (draws : List ℕ) (h n : ℕ) → h < 8
       → (recordOf (hear e bytes clock room draws .left) h n .hush ≡ recordOf e h n .hush)
-      ⊎ ((isAbout REPL (meaningFrom bytes) h n ≡ true)
+      ⊎ ((repairs (meaningFrom bytes) h n (recordOf e h n) ≡ true)
       × (recordOf (hear e bytes clock room draws .left) h n .hush ≡ quietAfterReply (momentAt e clock) (distanceTo e (messageHost (meaningFrom bytes)))))
   -- Whatever arrives, a DATA of a source alone gives it a first. First then stays, and last never falls.
   pub spans-as-heard : (e : End) (bytes : List ℕ) (clock room : ℕ) (draws : List ℕ) (h : ℕ) → h < 8
@@ -64,3 +69,13 @@ pub record ArrivalsKept : Type 0 where
   pub distances-stay : (e : End) (bytes : List ℕ) (clock room : ℕ) (draws : List ℕ) (h : ℕ) → h < 8 → isSessionOf (meaningFrom bytes) h ≡ false
       → (distanceTo (hear e bytes clock room draws .left) (asHost h) ≡ distanceTo e (asHost h))
       × (sourceAt (hear e bytes clock room draws .left) (asHost h) .heard ≡ sourceAt e (asHost h) .heard)
+  -- Document 02, P4. Two cues are the same exactly where their bytes are.
+  pub same-cue-is-same-bytes : (a b : List ℕ) → (sameCue a b ≡ true → a ≡ b) × (a ≡ b → sameCue a b ≡ true)
+  -- Every DATA or REPL of another end that names a cue held by a member with other bytes answers Clash with the name, unless it is refused;
+  -- and the end is the very same but for its clock.
+  pub other-bytes-clash : (e : End) (bytes : List ℕ) (clock room : ℕ) (draws : List ℕ) → questionOf e (Arrival bytes) clock room (length draws) ≡ 0
+      → Clashing e (meaningFrom bytes)
+      → hear e bytes clock room draws ≡ record { outcome = Did (Clash (messageName (meaningFrom bytes))); left = withClock e clock }
+  -- And no other call answers Clash; none that does changes the end but for its clock, or a byte of the output.
+  pub clash-means : (e : End) (a : Action) (clock room : ℕ) (draws : List ℕ) (name : Name) → eventOf e a clock room draws .outcome ≡ Did (Clash name)
+      → WasClash e a clock name (eventOf e a clock room draws)

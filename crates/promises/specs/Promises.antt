@@ -20,6 +20,7 @@ use Rattle.cases.specs.Timed.{timedRows, halfTripRows}
 use Rattle.cases.specs.Reasons.{reasonRows}
 use Rattle.cases.specs.Stage.{stageRows}
 use Rattle.cases.specs.Quiet.{quietRows}
+use Rattle.cases.specs.Clashes.{clashRows}
 use Rattle.promises.specs.Wire.{WireKept}
 use Rattle.promises.specs.Service.{ServiceKept}
 use Rattle.promises.specs.States.{StatesKept}
@@ -29,7 +30,7 @@ use Rattle.promises.specs.BackOff.{BackOffKept}
 use Rattle.promises.specs.Reasons.{ReasonsKept}
 
 -- document 01's cases and what else is pinned by computed rows: the answers one by one, the 25 moves by status, messages as bytes, times, a run by answers and
--- buffers, reply-quiet times
+-- buffers, reply-quiet times, clashes
 pub record CasesKept : Type 0 where
   pub starred : Hold rows
   pub answers : Hold answerRows
@@ -40,11 +41,12 @@ pub record CasesKept : Type 0 where
   pub reasons : Hold reasonRows
   pub stage : Hold stageRows
   pub quiet : Hold quietRows
+  pub clashes : Hold clashRows
 
 pub record Promises : Type 0 where
   -- demand 2, the wire: "Each message written reads back as itself, and each accepted message is the very bytes .."
   pub wire : WireKept
-  -- demand 3: "the list is a run of the reliable multicast service by document 01's book"
+  -- demand 3: "the list is a run of the reliable multicast service by document 01's book"; and no Clash comes up in it
   pub service : ServiceKept
   -- sound stays sound, clocks never fall, what goes out is right
   pub states : StatesKept

@@ -14,7 +14,7 @@ use Rattle.end.specs.declared.Says.{Says}
 use Rattle.end.specs.declared.Says.the-variants.{Data, Rqst, Repl}
 use Rattle.end.specs.declared.Word.{Word}
 use Rattle.end.specs.declared.Decision.{Decision}
-use Rattle.end.specs.declared.Decision.the-variants.{Ignores, Opens, Takes, Repairs, Hushes, Replies, Learns, BacksOff}
+use Rattle.end.specs.declared.Decision.the-variants.{Ignores, Opens, Takes, Repairs, Hushes, Replies, Learns, BacksOff, Clashes}
 use Rattle.end.specs.declared.Moment.{Moment}
 use Rattle.end.specs.declared.Source.{Source}
 use Rattle.end.specs.declared.Answer.the-variants as answer
@@ -73,6 +73,7 @@ handed w Hushes out = refl
 handed w Replies out = refl
 handed w Learns out = refl
 handed w (BacksOff k) out = refl
+handed w Clashes out = refl
 
 -- ---- the step on one source, case by case
 module _ (t : Moment) (us : List ℕ) (d : ℕ) (m : Meaning) (s : Source) (out : List ℕ) where

@@ -68,3 +68,4 @@ isGot (answer.Got name) = true
 isGot answer.Done = false
 isGot answer.Ignored = false
 isGot answer.Nothing = false
+isGot (answer.Clash name) = false

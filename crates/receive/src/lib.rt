@@ -235,6 +235,7 @@ fn is_got(answer: Answer) -> bool
         Answer::Done => false,
         Answer::Ignored => false,
         Answer::Nothing => false,
+        Answer::Clash(_) => false,
     }
 }
 

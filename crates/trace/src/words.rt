@@ -214,6 +214,9 @@ pub const IGNORED: u64 = 0x69676E6F726564;
 // nothing
 pub const NOTHING: u64 = 0x6E6F7468696E67;
 
+// clash
+pub const CLASH: u64 = 0x636C617368;
+
 // differen, the first eight bytes of different
 pub const DIFFEREN: u64 = 0x646966666572656E;
 

@@ -40,6 +40,9 @@ returns-5 c =
 returns-6 : tie.Need-returns-6
 returns-6 c = put-same (c .before .before .put-refused .ensures) (cc)
 
+returns-7 : tie.Need-returns-7
+returns-7 c = put-same (c .before .before .put-clash .ensures) (cc)
+
 pub put-answer-spec : {M : Type 1} → statement M
 put-answer-spec =
     tie.close
@@ -60,6 +63,8 @@ put-answer-spec =
     (λ c. search needs)
     (λ c κs. search needs)
     (λ c. search needs)
+    (λ c κs. search needs)
+    (λ c. search needs)
     returns
     (λ c. search needs)
     returns-2
@@ -70,4 +75,6 @@ put-answer-spec =
     (λ c. search needs)
     returns-5
     (λ c. search needs)
-    returns-6)
+    returns-6
+    (λ c. search needs)
+    returns-7)

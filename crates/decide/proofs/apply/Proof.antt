@@ -52,6 +52,9 @@ enum-known-d c = search needs
 back-off-requires : tie.Need-back-off-requires
 back-off-requires c κs = search needs
 
+enum-told-8 : tie.Need-enum-told-8
+enum-told-8 c = search needs
+
 returns : tie.Need-returns
 unfolding apply
 returns c = rw (c .enum-told .given .1)
@@ -84,7 +87,11 @@ returns-8 : tie.Need-returns-8
 unfolding apply
 returns-8 c = rw (c .before .before .d .given .1) (c .back-off .ensures)
 
+returns-9 : tie.Need-returns-9
+unfolding apply
+returns-9 c = rw (c .enum-told8 .given .1)
+
 pub apply-spec : {M : Type 1} → statement M
 apply-spec = tie.close (tie.spec enum-told enum-told-2 open-source-requires enum-told-3 take-cue-requires enum-told-4 take-cue-requires-2
     quiet-reply-requires enum-told-5 quiet-reply-requires-2 enum-told-6 set-reply-requires enum-told-7 learn-requires enum-known-d back-off-requires
-    returns returns-2 returns-3 returns-4 returns-5 returns-6 returns-7 returns-8)
+    enum-told-8 returns returns-2 returns-3 returns-4 returns-5 returns-6 returns-7 returns-8 returns-9)

@@ -4,26 +4,29 @@ use borrow.Author.Needs.{needs}
 use Rattle.decide.proofs.decide_data.Statement.{statement}
 use Rattle.decide.proofs.decide_data.Tie as tie
 
+if-same-requires : tie.Need-if-same-requires
+if-same-requires c κs = search needs
+
 is-held-requires : tie.Need-is-held-requires
 is-held-requires c κs = search needs
 
-unless-requires : tie.Need-unless-requires
-unless-requires c κs = search needs
+choose-requires : tie.Need-choose-requires
+choose-requires c κs = search needs
 
 is-below-requires : tie.Need-is-below-requires
 is-below-requires c κs = search needs
 
-unless-requires-2 : tie.Need-unless-requires-2
-unless-requires-2 c κs = search needs
+unless-requires : tie.Need-unless-requires
+unless-requires c κs = search needs
 
 is-closed-requires : tie.Need-is-closed-requires
 is-closed-requires c κs = search needs
 
-choose-requires : tie.Need-choose-requires
-choose-requires c κs = search needs
+choose-requires-2 : tie.Need-choose-requires-2
+choose-requires-2 c κs = search needs
 
 returns : tie.Need-returns
 returns c = rw data-ladder (cc)
 
 pub decide-data-spec : {M : Type 1} → statement M
-decide-data-spec = tie.close (tie.spec is-held-requires unless-requires is-below-requires unless-requires-2 is-closed-requires choose-requires returns)
+decide-data-spec = tie.close (tie.spec if-same-requires is-held-requires choose-requires is-below-requires unless-requires is-closed-requires choose-requires-2 returns)

@@ -4,6 +4,9 @@ use borrow.Author.Needs.{needs}
 use Rattle.decide.proofs.decide_repair.Statement.{statement}
 use Rattle.decide.proofs.decide_repair.Tie as tie
 
+if-same-requires : tie.Need-if-same-requires
+if-same-requires c κs = search needs
+
 is-held-requires : tie.Need-is-held-requires
 is-held-requires c κs = search needs
 
@@ -15,4 +18,4 @@ unfolding decideRepair
 returns c = cc
 
 pub decide-repair-spec : {M : Type 1} → statement M
-decide-repair-spec = tie.close (tie.spec is-held-requires choose-requires returns)
+decide-repair-spec = tie.close (tie.spec if-same-requires is-held-requires choose-requires returns)

@@ -27,7 +27,11 @@ enum-told-6 : tie.Need-enum-told-6
 enum-told-6 c = search needs
 
 enum-told-7 : tie.Need-enum-told-7
+    enum-told-8
 enum-told-7 c = search needs
+
+enum-told-8 : tie.Need-enum-told-8
+enum-told-8 c = search needs
 
 returns : tie.Need-returns
 returns c = rw (c .before .d .given .1)
@@ -53,6 +57,9 @@ returns-7 c = search needs
 returns-8 : tie.Need-returns-8
 returns-8 c = search needs
 
+returns-9 : tie.Need-returns-9
+returns-9 c = search needs
+
 pub reason-of-spec : {M : Type 1} → statement M
 reason-of-spec =
     tie.close
@@ -65,6 +72,7 @@ reason-of-spec =
     enum-told-5
     enum-told-6
     enum-told-7
+    enum-told-8
     returns
     returns-2
     returns-3
@@ -72,4 +80,5 @@ reason-of-spec =
     returns-5
     returns-6
     returns-7
-    returns-8)
+    returns-8
+    returns-9)

@@ -93,14 +93,14 @@ EventsRight = (b : Book) (e : End) (h clock : ℕ) (draws : List ℕ) (ev : Acti
     → ((x : List ℕ) → ev ≡ Arrival x → Filed b x) → Right b h ev (stepOf clock draws ev e)
 
 -- what an Arrival brings carries the filed cue
-brought-filed : (w : World) (b : Book) (ev : Action) (a : Effect) → Inv w b → Brought (w .sent) ev (Did a) → (x : List ℕ) → ev ≡ Arrival x → Filed b x
+pub brought-filed : (w : World) (b : Book) (ev : Action) (a : Effect) → Inv w b → Brought (w .sent) ev (Did a) → (x : List ℕ) → ev ≡ Arrival x → Filed b x
 brought-filed w b (Moves m) a inv p x e = let z : _≡_ {A = ℕ} 0 1 = cc in absurd (omega arith)
 brought-filed w b (Send c) a inv p x e = let z : _≡_ {A = ℕ} 0 1 = cc in absurd (omega arith)
 brought-filed w b (Arrival y) a inv p x e = let q : y ≡ x = cc in rw q at (inv .sent y p)
 brought-filed w b (Else o) a inv p x e = let z : _≡_ {A = ℕ} 0 1 = cc in absurd (omega arith)
 
 module _ (events : EventsRight) where
-  stepped : (w : World) (b : Book) (c : Call) → Inv w b → c .host < 8 → CueArray (c .action) → Brought (w .sent) (c .action) (resultOf w c .outcome)
+  pub stepped : (w : World) (b : Book) (c : Call) → Inv w b → c .host < 8 → CueArray (c .action) → Brought (w .sent) (c .action) (resultOf w c .outcome)
       → Stepped w b (c .host) (c .action) (resultOf w c)
   unfolding resultOf eventOf bookAfter
   stepped w b c inv hh array =

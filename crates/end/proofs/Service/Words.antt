@@ -26,7 +26,7 @@ use Rattle.end.specs.declared.Says.the-variants.{Data, Rqst, Repl}
 use Rattle.end.specs.declared.Word.{Word}
 use Rattle.end.specs.declared.Reason.the-variants.{Crashed, WrongStatus, OwnMessage, NotOpen, BelowFirst, OwnAboveLast, AlreadyHeld, ReplyWaiting, ReplyQuiet, RequestQuiet}
 use Rattle.end.specs.declared.Decision.{Decision}
-use Rattle.end.specs.declared.Decision.the-variants.{Ignores, Opens, Takes, Repairs, Hushes, Replies, Learns, BacksOff}
+use Rattle.end.specs.declared.Decision.the-variants.{Ignores, Opens, Takes, Repairs, Hushes, Replies, Learns, BacksOff, Clashes}
 use Rattle.end.specs.State.{sourceAt, isMember, withSource, momentOf}
 use Rattle.end.specs.Records.{isClosed, within, isBelow, isHeld}
 use Rattle.end.specs.Round.{nextRound, requestAt, quietAfterReply, replyDue}
@@ -54,6 +54,7 @@ hands Hushes = false
 hands Replies = false
 hands Learns = false
 hands (BacksOff k) = false
+hands Clashes = false
 
 -- ---- the source: it has taken the cue, or looks the same
 unfoldable pub Seen : Bool → Word → Source → Source → Type 0
@@ -113,6 +114,7 @@ module _ (t : Moment) (us : List ℕ) (w : Word) (s : Source) (o : Ordered (s .s
       (any-reply (Due (replyDue t us (w .distance) (number w)) (w .requester)) (known w s .slot) (known w s .cue))
   seen Learns g = same-then rises (asks (risen t us w s) 2 (rises .holding (number w) ∙ lacking (g .1 .missing .lacks)))
   seen (BacksOff k) g = asks s (nextRound k) (lacking (ap isHeld (g .1 .waits)))
+  seen Clashes g = same-refl-source s
 
 -- ---- the book: whether the cue is handed out, from the word, first and last, and what is known of the name
 abbrev pub isRepairing : Says → Bool
@@ -147,7 +149,7 @@ module _ (t : Moment) (w : Word) (r : Record) (x : Span) where
   right (Ignores NotOpen) g mine bare = let a = and-both (not (isData (w .says))) (isClosed x) g in simp (not-true (isData (w .says)) (a .0), a .1, and-false)
   right (Ignores BelowFirst) g mine bare = simp (g, and-false)
   right (Ignores OwnAboveLast) g mine bare = let a = and-both (not (isData (w .says))) _ g in simp (and-both own _ (a .1) .0, and-false)
-  right (Ignores AlreadyHeld) g mine bare = simp (and-both (isData (w .says)) _ g .1, and-false)
+  right (Ignores AlreadyHeld) g mine bare = simp (and-both (isHeld (r .slot)) _ (and-both (isData (w .says)) _ g .1) .0, and-false)
   right (Ignores ReplyWaiting) g mine bare = asked (w .says) _ _ (and-both (isRequest (w .says)) _ g .0)
   right (Ignores ReplyQuiet) g mine bare = asked (w .says) _ _ (and-both (isRequest (w .says)) _ g .0)
   right (Ignores RequestQuiet) g mine bare = asked (w .says) _ _ (and-both (isRequest (w .says)) _ g .0)
@@ -158,6 +160,7 @@ module _ (t : Moment) (w : Word) (r : Record) (x : Span) where
   right Replies g mine bare = asked (w .says) _ _ (g .0)
   right Learns g mine bare = asked (w .says) _ _ (g .0)
   right (BacksOff k) g mine bare = asked (w .says) _ _ (g .0)
+  right Clashes g mine bare = simp (g .1, and-false)
 
 -- ---- the effect: Got with the word's name and cue, or one that leaves the output alone
 unfoldable Told : Bool → Word → Effect → Type 0
@@ -174,6 +177,7 @@ told w Hushes = refl
 told w Replies = refl
 told w Learns = refl
 told w (BacksOff k) = refl
+told w Clashes = refl
 
 -- ---- the lift
 module _ (says : Says) (m : Meaning) (e : End) where
@@ -232,6 +236,7 @@ module _ (says : Says) (m : Meaning) (original : isOriginal m ≡ isData says) (
   mine Replies g h = clash′ h
   mine Learns g h = clash′ h
   mine (BacksOff k) g h = clash′ h
+  mine Clashes g h = clash′ h
 
   closed-bare : s .span ≡ Closed → isHeld (known w s .slot) ≡ false
   closed-bare p = ap (λ (r : Record). isHeld (r .slot)) (at-outside s (number w) (ap (λ (x : Span). within x (number w)) p))

@@ -45,6 +45,10 @@ returns-6 : tie.Need-returns-6
 unfolding printedFor messagesFor
 returns-6 c = tells _ _ (c .before .enum-told3 .given .1) (omega arith) (c .shows5 .ensures) refl (λ _. refl)
 
+returns-7 : tie.Need-returns-7
+unfolding printedFor messagesFor
+returns-7 c = tells _ _ (c .before .before .before .before .answer4 .given .1) (omega arith) (c .shows6 .ensures) refl (λ _. refl)
+
 pub tell-spec : {M : Type 1} → statement M
 tell-spec =
     tie.close
@@ -62,6 +66,8 @@ tell-spec =
     (λ c κs. search needs)
     (λ c. search needs)
     (λ c κs. search needs)
+    (λ c. search needs)
+    (λ c κs. search needs)
     returns
     (λ c. search needs)
     (λ c. search needs)
@@ -69,4 +75,5 @@ tell-spec =
     returns-3
     returns-4
     returns-5
-    returns-6)
+    returns-6
+    returns-7)

@@ -8,7 +8,7 @@ use lib.Dec.{eqb, ltb}
 use borrow.Author.Tests.{eqb-true, ltb-true}
 use Rattle.end.specs.Event.{Action, Moves, Send, Arrival, Else}
 use Rattle.end.specs.Answer.{Outcome, Refused, Did}
-use Rattle.end.specs.Run.{World, Call, resultOf, worldAfter, Brought, CueArray, Allowed}
+use Rattle.end.specs.Run.{World, Call, resultOf, worldAfter, FromOut, Brought, CueArray, Allowed}
 use Rattle.end.proofs.Tools.{byTest, clash′, and-left, and-right, or-alone}
 
 -- ---- the tests
@@ -22,11 +22,16 @@ unfoldable pub wasSent : List ℕ → List (List ℕ) → Bool
 wasSent x [] = false
 wasSent x (y ∷ l) = sameBytes x y || wasSent x l
 
+-- a probe may come from anywhere
+unfoldable pub comes : List ℕ → List (List ℕ) → Bool
+comes [] l = true
+comes (b ∷ s) l = wasSent (b ∷ s) l
+
 unfoldable pub brings : List (List ℕ) → Action → Outcome → Bool
 brings l (Moves m) o = true
 brings l (Send cue) o = true
 brings l (Arrival bytes) (Refused k) = true
-brings l (Arrival bytes) (Did a) = wasSent bytes l
+brings l (Arrival bytes) (Did a) = comes bytes l
 brings l (Else e) o = true
 
 unfoldable pub isArray : Action → Bool
@@ -44,7 +49,7 @@ allowed w (c ∷ cs) =
 
 -- one name that opens them
 unfoldable pub tests : ℕ
-unfolding sameBytes wasSent brings isArray allowed
+unfolding sameBytes wasSent comes brings isArray allowed
 tests = 0
 
 -- ---- what they tell
@@ -64,12 +69,17 @@ was-sent x [] h = clash′ h
 was-sent x (y ∷ l) h =
     byTest (sameBytes x y) (λ t. List·Memᴰ·head (same-bytes x y t)) (λ f. List·Memᴰ·tail (was-sent x l (or-alone (sameBytes x y) (wasSent x l) h f)))
 
+from-out : (x : List ℕ) (l : List (List ℕ)) → comes x l ≡ true → FromOut l x
+unfolding comes
+from-out [] l h = tt
+from-out (b ∷ s) l h = was-sent (b ∷ s) l h
+
 brought : (l : List (List ℕ)) (ev : Action) (o : Outcome) → brings l ev o ≡ true → Brought l ev o
 unfolding brings
 brought l (Moves m) o h = tt
 brought l (Send cue) o h = tt
 brought l (Arrival bytes) (Refused k) h = tt
-brought l (Arrival bytes) (Did a) h = was-sent bytes l h
+brought l (Arrival bytes) (Did a) h = from-out bytes l h
 brought l (Else e) o h = tt
 
 is-array : (ev : Action) → isArray ev ≡ true → CueArray ev

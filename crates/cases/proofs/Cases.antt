@@ -10,6 +10,7 @@ use Rattle.cases.specs.Reasons.{reasonRows}
 use Rattle.cases.specs.Quiet.{quietRows}
 use Rattle.cases.specs.Stage.{stageRows}
 use Rattle.cases.specs.Clashes.{clashRows}
+use Rattle.cases.specs.Probe.{probeRows}
 use Rattle.cases.proofs.Opened.{opened}
 
 pub cases-hold : Hold rows
@@ -51,3 +52,7 @@ reasons-hold = (refl, (refl, (refl, (refl, (refl, (refl, (refl, (refl, (refl, (r
 pub clashes-hold : Hold clashRows
 unfolding clashRows opened
 clashes-hold = (refl, (refl, (refl, (refl, (refl, (refl, (refl, (refl, (refl, (refl, (refl, (refl, (refl, (refl, (refl, tt)))))))))))))))
+
+pub probe-holds : Hold probeRows
+unfolding probeRows opened
+probe-holds = (refl, (refl, (refl, (refl, (refl, (refl, (refl, (refl, (refl, (refl, (refl, (refl, tt))))))))))))

@@ -20,6 +20,7 @@ use Rattle.cases.specs.Wire.{fiveCue}
 use Rattle.cases.specs.NotRuns.{started, third, repair, hears, Limit, TurnsDown}
 use Rattle.cases.specs.GotLimits as arrive
 use Rattle.cases.specs.CallLimits as calls
+use Rattle.cases.specs.Probe as probe
 use Rattle.cases.proofs.Opened.{opened}
 
 -- ---- a list and the one after it
@@ -161,6 +162,10 @@ not-other-bytes =
       (original (third minusTwo) 0 2 minusTwo refl refl refl refl, refl, (refl, refl, tt)),
       (original (third fiveCue) 0 2 fiveCue refl refl refl refl, refl, (refl, refl, tt)),
     )
+
+pub not-by-probe : TurnsDown probe.gotByProbe
+unfolding From start books told standing opened
+not-by-probe = turned-down probe.gotByProbe (λ r. true≢false (r .0), (refl, refl, tt), (refl, refl, tt))
 
 -- ---- on the other calls
 pub not-ignoring-join : TurnsDown calls.ignoresJoin

@@ -4,7 +4,7 @@ use Rattle.numbers.specs.Number.{valueAfter, digits}
 use Rattle.message.specs.Cue.{cueIn, cueWith}
 use Rattle.message.specs.Section.{entries, flat, section, sectionFrom, after, all, rises}
 use Rattle.message.specs.Message.{bytesWith, meaningWith}
-use Rattle.message.specs.Question.{inRange, hostsFit, readRefusal, readOf, writeRefusal, outputOf}
+use Rattle.message.specs.Question.{inRange, hostsFit, readRefusal, readOf, writeRefusal, writtenOf, outputOf}
 use Rattle.end.specs.Sound.{allBelow, soundOf}
 use Rattle.end.specs.Round.{factor, share}
 use Rattle.end.specs.Names.{requested, rise}
@@ -23,5 +23,5 @@ use Rattle.end.specs.Answer.{answerOf, bufferOf}
 use Rattle.cases.specs.Shown.{returned, readOff, onlooked}
 
 unfoldable pub opened : ℕ
-unfolding valueAfter digits cueIn cueWith entries flat section sectionFrom after all rises bytesWith meaningWith inRange hostsFit readRefusal readOf writeRefusal outputOf allBelow soundOf factor share requested rise reportsBelow echoesBelow recordAt sameCue decideData reached decideReply decideRound decideRequest decideRepair decideAs apply effectOf stepAt allReported measured sessionOf messageStep foldUp earliest fireAt fired movedEnd moveOf arrivalOf actOf stepOf questionOf eventOf whyOf openRefusal openingOf put readAs among firstOf notBelow isSome limits gets dueMessage due clearedBy movedBook file hand afterMessage afterCall isGot bookAfter resultOf sentAfter worldAfter seen answerOf bufferOf returned readOff onlooked
+unfolding valueAfter digits cueIn cueWith entries flat section sectionFrom after all rises bytesWith meaningWith inRange hostsFit readRefusal readOf writeRefusal writtenOf outputOf allBelow soundOf factor share requested rise reportsBelow echoesBelow recordAt sameCue decideData reached decideReply decideRound decideRequest decideRepair decideAs apply effectOf stepAt allReported measured sessionOf messageStep foldUp earliest fireAt fired movedEnd moveOf arrivalOf actOf stepOf questionOf eventOf whyOf openRefusal openingOf put readAs among firstOf notBelow isSome limits gets dueMessage due clearedBy movedBook file hand afterMessage afterCall isGot bookAfter resultOf sentAfter worldAfter seen answerOf bufferOf returned readOff onlooked
 opened = 0

@@ -1,4 +1,4 @@
--- Demand 3 is not empty: it applies to the listing, to the rejoining lists and to the list on host 7, whose answers are computed.
+-- Demand 3 is not empty: it applies to the listing, to the rejoining lists, to a list with probes and to the list on host 7, whose answers are computed.
 use mathlib.Core.Path.{_≡_, refl}
 use mathlib.Core.List.{map}
 use borrow.Author.Tests.{lt-ltb}
@@ -8,6 +8,7 @@ use Rattle.end.specs.Run.{seen, Fresh}
 use Rattle.end.proofs.Service.Ends.{service}
 use Rattle.cases.specs.Listing.{house, script, played}
 use Rattle.cases.specs.Rejoin.{rejoining, rejoiningGives, afterOriginal, afterOriginalGives, belowFirst, belowFirstGives}
+use Rattle.cases.specs.Probe.{probing, probingGives}
 use Rattle.cases.specs.Shown.{returned, onlooked}
 use Rattle.cases.specs.Stage.{stageParams, stage, play}
 use Rattle.cases.proofs.Opened.{opened}
@@ -26,6 +27,10 @@ after-original = refl
 pub below-first : played belowFirst ≡ belowFirstGives
 unfolding opened
 below-first = refl
+
+pub probed : played probing ≡ probingGives
+unfolding opened
+probed = refl
 
 -- ---- the theorem at work
 
@@ -52,6 +57,11 @@ after-original-runs = service house house-fresh afterOriginal (is-allowed afterO
 pub below-first-runs : RunFrom emptyBook (seen house belowFirst)
 unfolding tests opened
 below-first-runs = service house house-fresh belowFirst (is-allowed belowFirst house refl)
+
+-- and with probes that nobody put out
+pub probing-runs : RunFrom emptyBook (seen house probing)
+unfolding tests opened
+probing-runs = service house house-fresh probing (is-allowed probing house refl)
 
 -- ---- in terms of answers and outputs: the list on host 7, with other parameters
 pub stage-fresh : Fresh stage

@@ -14,3 +14,4 @@ pub mod NotRuns
 pub mod GotLimits
 pub mod CallLimits
 pub mod Reasons
+pub mod Probe

@@ -8,7 +8,7 @@ use Rattle.numbers.specs.Number.{value, digits}
 use Rattle.numbers.specs.Signed.{signed, unsigned}
 use Rattle.message.specs.Cue.{fieldsOf, cueWith}
 use Rattle.message.specs.Entry.{asHost, asNumber}
-use Rattle.message.specs.Message.{DATA, RQST, SESS, Meaning, heldAs, bytesOf}
+use Rattle.message.specs.Message.{DATA, RQST, SESS, Meaning, Saying, heldAs, bytesOf}
 use Rattle.message.specs.declared.Echo.{Echo}
 use Rattle.end.specs.declared.Params.{Params}
 use Rattle.end.specs.declared.Status.the-variants.{Idle, Member}
@@ -20,8 +20,8 @@ use Rattle.end.specs.Event.{Action, Send, Else, Report, eventOf}
 use Rattle.end.specs.Answer.{Refused, Did, Result}
 use Rattle.end.specs.Opening.{houseParams, openRefusal, openingOf}
 use Rattle.cases.specs.Listing.{message3, script, printed, played}
-use Rattle.message.specs.Question.{readRefusal, readOf, writeRefusal, outputOf}
-use Rattle.message.specs.declared.Verdict.the-variants.{Accepted}
+use Rattle.message.specs.Question.{blankMessage, readRefusal, readOf, writeRefusal, outputOf}
+use Rattle.message.specs.declared.Verdict.the-variants.{Accepted, Probe}
 use Rattle.cases.specs.Case.{Case, case}
 
 -- a cue with this focus and zeros elsewhere
@@ -112,12 +112,12 @@ rows =
     ∷ case (signed (value (0x07 ∷ 0xD0 ∷ []))) (pos 2000)
     -- "−2001: .. 10 on the wire", read and written; −2000 passes
     ∷ case (readRefusal (bytesOf (dataOf (cueOfFocus (negsuc 2000))))) 10
-    ∷ case (writeRefusal (heldAs (dataOf (cueOfFocus (negsuc 2000)))) output) 10
+    ∷ case (writeRefusal (Saying (heldAs (dataOf (cueOfFocus (negsuc 2000))))) output) 10
     ∷ case (readRefusal (bytesOf (dataOf (cueOfFocus (negsuc 1999))))) 0
-    ∷ case (writeRefusal (heldAs (dataOf (cueOfFocus (negsuc 1999)))) output) 0
-    -- "Empty message: 8"
-    ∷ case (readRefusal []) 8
+    ∷ case (writeRefusal (Saying (heldAs (dataOf (cueOfFocus (negsuc 1999))))) output) 0
+    -- "Empty message: 8", which by document 02, P5, "reads "probe""
+    ∷ case (readOf []) (record { verdict = Probe; message = blankMessage })
     -- "RQST of end 1 at clock 392 for name 0,1: hexadecimal 02 01 00 00 00 00 01 88 01 00 01 01 00 00 00", written and read
-    ∷ case (outputOf (heldAs rqst) output) (rqstBytes ++ replicate 113 170)
+    ∷ case (outputOf (Saying (heldAs rqst)) output) (rqstBytes ++ replicate 113 170)
     ∷ case (readOf rqstBytes) (record { verdict = Accepted; message = heldAs rqst })
     ∷ []

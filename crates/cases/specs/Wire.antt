@@ -6,7 +6,7 @@ use lib.ListN.{length, drop, replicate}
 use lib.IntN.{pos, negsuc}
 use Rattle.message.specs.Cue.{fieldsOf, cueWith}
 use Rattle.message.specs.Entry.{asHost, asNumber}
-use Rattle.message.specs.Message.{DATA, RQST, SESS, Meaning, heldAs}
+use Rattle.message.specs.Message.{DATA, RQST, SESS, Meaning, Saying, heldAs}
 use Rattle.message.specs.Question.{readOf, outputOf}
 use Rattle.message.specs.declared.CueFields.{CueFields}
 use Rattle.message.specs.declared.Verdict.the-variants.{Accepted}
@@ -83,7 +83,7 @@ sessionBytes =
 -- a message written over an output of 128 bytes, and read
 abbrev pub bothWays : Meaning → List ℕ → List Case
 bothWays m bytes =
-    case (outputOf (heldAs m) (replicate 128 170)) (bytes ++ drop (length bytes) (replicate 128 170))
+    case (outputOf (Saying (heldAs m)) (replicate 128 170)) (bytes ++ drop (length bytes) (replicate 128 170))
     ∷ case (readOf bytes) (record { verdict = Accepted; message = heldAs m })
     ∷ []
 

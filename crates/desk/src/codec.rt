@@ -57,6 +57,12 @@ fn accepted(text: &mut [u8; 65536], n: &mut [usize; 20], m: Message, back: bool)
     }
 }
 
+// `probe`.
+fn probed(text: &mut [u8; 65536], n: &mut [usize; 20]) {
+    text::word(text, n, words::PROBE);
+    answer::end(n);
+}
+
 // What the reader says to the first bytes of a buffer.
 fn told(text: &mut [u8; 65536], n: &mut [usize; 20], bytes: &[u8; 256], len: usize) {
     let r = reading(bytes, len);
@@ -64,6 +70,7 @@ fn told(text: &mut [u8; 65536], n: &mut [usize; 20], bytes: &[u8; 256], len: usi
     let m = r.message;
     match v {
         Verdict::Accepted => accepted(text, n, m, comes_back(m, bytes, len)),
+        Verdict::Probe => probed(text, n),
         Verdict::Refused(question) => {
             answer::refused(text, n, question);
             answer::end(n);
@@ -86,29 +93,57 @@ pub fn read(
     told(text, n, &bytes, len);
 }
 
+fn unwritten() -> Written {
+    Written {
+        verdict: Verdict::Accepted,
+        len: 0,
+    }
+}
+
 fn write_to(m: Message, out: &mut [u8], room: usize) -> Written {
     if out.len() < room {
-        return Written {
-            verdict: Verdict::Accepted,
-            len: 0,
-        };
+        return unwritten();
     }
     writer::write(m, &mut out[0..room])
+}
+
+fn write_probe_to(out: &mut [u8], room: usize) -> Written {
+    if out.len() < room {
+        return unwritten();
+    }
+    writer::write_probe(&mut out[0..room])
 }
 
 // `written LENGTH` and the bytes, or the refusal.
 fn wrote(text: &mut [u8; 65536], n: &mut [usize; 20], v: Verdict, out: &[u8; 200], len: usize) {
     match v {
-        Verdict::Accepted => {
+        Verdict::Refused(question) => answer::refused(text, n, question),
+        _ => {
             text::row(text, n, words::WRITTEN, [len as u64, 0, 0, 0, 0, 0], 1);
             text::put(text, n, b' ');
             text::bytes(text, n, out, len);
         }
-        Verdict::Refused(question) => answer::refused(text, n, question),
     }
 }
 
-// `write COMPOSED`.
+// The call that `write COMPOSED` and `write probe` make.
+fn write_next(
+    line: &[u8; 1000],
+    end: usize,
+    at: &mut usize,
+    n: &mut [usize; 20],
+    out: &mut [u8; 200],
+) -> Written {
+    if trace::composed::probe(line, end, at) {
+        crate::begin(n, out);
+        return write_probe_to(out, n[crate::ROOM]);
+    }
+    let m = trace::composed::composed(line, end, at);
+    crate::begin(n, out);
+    write_to(m, out, n[crate::ROOM])
+}
+
+// `write COMPOSED` or `write probe`.
 pub fn write(
     line: &[u8; 1000],
     end: usize,
@@ -117,9 +152,7 @@ pub fn write(
     out: &mut [u8; 200],
     text: &mut [u8; 65536],
 ) {
-    let m = trace::composed::composed(line, end, at);
-    crate::begin(n, out);
-    let w = write_to(m, out, n[crate::ROOM]);
+    let w = write_next(line, end, at, n, out);
     let v = w.verdict;
     let len = w.len;
     n[crate::LAST] = len;

@@ -270,8 +270,8 @@ pub fn event(
 
 fn verdict(text: &mut [u8; 65536], n: &mut [usize; 20], v: Verdict) {
     match v {
-        Verdict::Accepted => text::word(text, n, words::OPENED),
         Verdict::Refused(question) => answer::refused(text, n, question),
+        _ => text::word(text, n, words::OPENED),
     }
 }
 

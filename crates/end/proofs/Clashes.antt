@@ -9,7 +9,7 @@ use lib.Dec.{eqb}
 use borrow.Author.Tests.{eqb-true, eq-eqb}
 use Rattle.message.specs.declared.Name.{Name}
 use Rattle.message.specs.Message.{DATA, RQST, REPL, Meaning, meaningFrom}
-use Rattle.message.specs.Question.{sameHost}
+use Rattle.message.specs.Question.{sameHost, messageQuestions, readQuestions}
 use Rattle.end.specs.declared.Move.{Move}
 use Rattle.end.specs.declared.Slot.{Slot}
 use Rattle.end.specs.declared.Slot.the-variants.{Empty, Held, Waiting}
@@ -131,6 +131,8 @@ arrival-clashed us m e =
 pub record ClashOf (e : End) (clock : ℕ) (a : Action) (name : Name) (left : End) : Type 0 where
   pub bytes : List ℕ
   pub arrival : a ≡ Arrival bytes
+  -- no probe clashes, so the questions asked were a message's
+  pub asked : readQuestions bytes ≡ messageQuestions bytes
   pub clashing : Clashing (withClock e clock) (meaningFrom bytes)
   pub named : messageName (meaningFrom bytes) ≡ name
   pub stays : left ≡ withClock e clock
@@ -146,9 +148,10 @@ module _ (e : End) (clock : ℕ) (us : List ℕ) (name : Name) where
   unfolding actOf
   acts (Moves m) = calm (Moves m) _ (move-calm m (withClock e clock))
   acts (Send cue) = byCond (Comes (Send cue)) (isMember (e .status)) (λ _. calm (Send cue) _ refl) (λ _. calm (Send cue) _ refl)
-  acts (Arrival bytes) = λ p.
-      let k = arrival-clashed us (meaningFrom bytes) (withClock e clock) name p in
-      record { bytes = bytes; arrival = refl; clashing = k .0; named = k .1; stays = k .2 }
+  acts (Arrival []) = byCond (Comes (Arrival [])) (isMember (e .status)) (λ _. calm (Arrival []) _ refl) (λ _. calm (Arrival []) _ refl)
+  acts (Arrival (b ∷ s)) = λ p.
+      let k = arrival-clashed us (meaningFrom (b ∷ s)) (withClock e clock) name p in
+      record { bytes = b ∷ s; arrival = refl; asked = refl; clashing = k .0; named = k .1; stays = k .2 }
   acts (Else o) =
       byCond (Comes (Else o)) (isMember (e .status)) (λ _. calm (Else o) _ (other-calm us o (withClock e clock))) (λ _. calm (Else o) _ refl)
 

@@ -12,7 +12,7 @@ use Rattle.message.specs.Section.{all}
 use Rattle.message.specs.Cue.{cueIn}
 use Rattle.message.specs.Entry.{blankName}
 use Rattle.message.specs.Message.{DATA, numberWidth, Meaning, meaningFrom, meaningWith, bytesOf, bytesWith, countsOf}
-use Rattle.message.specs.Question.{ask, firstNo, meaningQuestions, kindHasCounts, inRange, hostsFit, hostIn, numberIn, ticksIn, nameIn, reportIn, hostFits, sameHost, readRefusal}
+use Rattle.message.specs.Question.{ask, firstNo, messageQuestions, meaningQuestions, kindHasCounts, inRange, hostsFit, hostIn, numberIn, ticksIn, nameIn, reportIn, hostFits, sameHost, readRefusal}
 use Rattle.message.specs.declared.NameEntry.{NameEntry}
 use Rattle.message.specs.declared.Counts.{Counts}
 use Rattle.message.specs.declared.Host.{Host}
@@ -22,17 +22,26 @@ use Rattle.roundtrip.proofs.RoundTrip.{accepted, accepts, read-back, meaning-ac
 use Rattle.end.specs.Book.{readAs, source, number}
 use Rattle.end.proofs.Tools.{byCond, clash′}
 
--- bytes that are read are accepted, and the message is their meaning
-pub read-is : (x : List ℕ) (m : Meaning) → readAs x ≡ some m → (readRefusal x ≡ 0) × (meaningFrom x ≡ m)
-unfolding readAs
-read-is x m =
-    byCond (λ o. o ≡ some m → (readRefusal x ≡ 0) × (meaningFrom x ≡ m)) (eqb (readRefusal x) 0)
-    (λ t p. (eqb-true (readRefusal x) 0 t, cc))
-    (λ t p. let z : _≡_ {A = ℕ} 0 1 = cc in absurd (omega arith))
+-- no bytes are no message
+pub none-read : (m : Meaning) → readAs [] ≡ some m → ⊥
+unfolding readAs readRefusal
+none-read m p = let z : _≡_ {A = ℕ} 0 1 = cc in omega arith
 
-pub reads : (x : List ℕ) → readRefusal x ≡ 0 → readAs x ≡ some (meaningFrom x)
-unfolding readAs
-reads x h = rw (eq-eqb (readRefusal x) 0 h)
+-- bytes that are read as a message pass its questions, and the message is their meaning
+pub read-is : (x : List ℕ) (m : Meaning) → readAs x ≡ some m → (firstNo (messageQuestions x) ≡ 0) × (meaningFrom x ≡ m)
+unfolding readAs readRefusal
+read-is [] m p = absurd (none-read m p)
+read-is (b ∷ s) m p =
+    let q : ℕ = firstNo (messageQuestions (b ∷ s)) in
+    byCond (λ o. o ≡ some m → (q ≡ 0) × (meaningFrom (b ∷ s) ≡ m)) (eqb q 0)
+    (λ t p. (eqb-true q 0 t, cc))
+    (λ t p. let z : _≡_ {A = ℕ} 0 1 = cc in absurd (omega arith))
+    p
+
+pub reads : (x : List ℕ) → firstNo (messageQuestions x) ≡ 0 → readAs x ≡ some (meaningFrom x)
+unfolding readAs readRefusal
+reads [] h = absurd (omega arith)
+reads (b ∷ s) h = rw (eq-eqb (firstNo (messageQuestions (b ∷ s))) 0 h)
 
 -- the kind is the first byte
 kind-first : (x : List ℕ) → meaningFrom x .kind ≡ getD x 0 0

@@ -9,7 +9,7 @@ use lib.ListN.{length, getD}
 use lib.Dec.{eqb, leb}
 use borrow.Author.Tests.{le-leb, eq-eqb, eqb-true}
 use Rattle.message.specs.Limit.{roomNeeded}
-use Rattle.message.specs.Message.{Meaning, DATA, RQST, REPL, meaningFrom}
+use Rattle.message.specs.Message.{Meaning, DATA, RQST, REPL, Datagram, Probe, Saying, datagramFrom}
 use Rattle.message.specs.Question.{sameHost}
 use Rattle.end.specs.declared.Slot.{Slot}
 use Rattle.end.specs.declared.Slot.the-variants.{Empty, Held, Waiting}
@@ -37,12 +37,12 @@ use Rattle.end.specs.Sound.{allBelow}
 use Rattle.end.specs.Round.{drawCount}
 use Rattle.end.specs.Answer.{Effect, Out, Done, Ignored, Nothing, Step, give, Outcome, Refused, Did, Result, done}
 use Rattle.end.specs.Decide.{number, known, decide, effectOf, stepAt}
-use Rattle.end.specs.Reasons.{reasons, firstThat, reasonOf}
+use Rattle.end.specs.Reasons.{nameReasons, reasons, firstThat, reasonOf}
 use Rattle.end.specs.Session.{sessionOf}
-use Rattle.end.specs.Arrival.{wordOf, saidIn, messageStep, arrivalOf}
+use Rattle.end.specs.Arrival.{wordOf, namedIn, messageStep, arrivalOf}
 use Rattle.end.specs.Fire.{fireAt, fired, earliest}
-use Rattle.end.specs.Event.{Other, Fire, Report, Action, Moves, Send, Arrival, Else, moves, moveOf, otherOf, actOf, stepOf, questionOf, eventOf}
-use Rattle.end.specs.Why.{wrongStatus, ownMessage, saidBy, holdsOf, reasonHolds, refusedAs, because, whyOf, reasonNumber, isIgnored, ReasonIsFirst, NumberExactly, ReasonExactly, NoneExactly}
+use Rattle.end.specs.Event.{Other, Fire, Report, Action, Moves, Send, Arrival, Else, moves, moveOf, otherOf, hearingOf, actOf, stepOf, questionOf, eventOf}
+use Rattle.end.specs.Why.{wrongStatus, isOwn, ownMessage, namedOf, namedBy, holdsOf, reasonHolds, refusedAs, because, whyOf, reasonNumber, isIgnored, ReasonIsFirst, NoneHolds, NumberExactly, ReasonExactly, NoneExactly}
 use Rattle.end.proofs.Tools.{byCond, byTest, clash, clash′}
 use Rattle.end.proofs.RecordLaws.{at-outside}
 use Rattle.end.proofs.SoundLaws.{all-at}
@@ -76,17 +76,17 @@ first-at f (x ∷ l) reason = byCond (λ o. o ≡ some reason → FirstAt f (x �
     before h i g (suc j) k = g j (omega arith)
 
 -- a reason's number is its place in the list, from 1
-numbered : (reason : Reason) → (1 ≤ reasonNumber reason) × (at reasons (reasonNumber reason - 1) ≡ reason)
-numbered Crashed = (omega arith, refl)
-numbered WrongStatus = (omega arith, refl)
-numbered OwnMessage = (omega arith, refl)
-numbered NotOpen = (omega arith, refl)
-numbered BelowFirst = (omega arith, refl)
-numbered OwnAboveLast = (omega arith, refl)
-numbered AlreadyHeld = (omega arith, refl)
-numbered ReplyWaiting = (omega arith, refl)
-numbered ReplyQuiet = (omega arith, refl)
-numbered RequestQuiet = (omega arith, refl)
+numbered : (reason : Reason) → (1 ≤ reasonNumber reason) × (at reasons (reasonNumber reason - 1) ≡ reason) × (reasonNumber reason ≤ 10)
+numbered Crashed = (omega arith, refl, omega arith)
+numbered WrongStatus = (omega arith, refl, omega arith)
+numbered OwnMessage = (omega arith, refl, omega arith)
+numbered NotOpen = (omega arith, refl, omega arith)
+numbered BelowFirst = (omega arith, refl, omega arith)
+numbered OwnAboveLast = (omega arith, refl, omega arith)
+numbered AlreadyHeld = (omega arith, refl, omega arith)
+numbered ReplyWaiting = (omega arith, refl, omega arith)
+numbered ReplyQuiet = (omega arith, refl, omega arith)
+numbered RequestQuiet = (omega arith, refl, omega arith)
 
 placed : (i : ℕ) → i < length reasons → reasonNumber (at reasons i) ≡ suc i
 unfolding allBelow
@@ -114,6 +114,28 @@ reason-is-first e clock a reason = byCond (λ (x : Why). x ≡ why.Because reaso
     (λ t p. first-holds (reasonHolds e clock a) reason (because-some _ reason p))
     (λ t p. let z : _≡_ {A = ℕ} 0 1 = cc in absurd (omega arith))
 
+-- where no reason is first, none holds
+some-not : {x : Reason} → some x ≡ none → ⊥
+some-not p = let z : _≡_ {A = ℕ} 0 1 = cc in omega arith
+
+none-at : (f : Reason → Bool) (l : List Reason) → firstThat f l ≡ none → (i : ℕ) → i < length l → f (at l i) ≡ false
+none-at f [] p i k = absurd (omega arith)
+none-at f (x ∷ l) p zero k = byTest (f x) (λ h. absurd (some-not (rw h at p))) (λ h. h)
+none-at f (x ∷ l) p (suc i) k = byTest (f x) (λ h. absurd (some-not (rw h at p))) (λ h. none-at f l (rw h at p) i (omega arith))
+
+because-none : (o : Option Reason) → because o ≡ why.NoReason → o ≡ none
+because-none none p = refl
+because-none (some x) p = cc
+
+pub none-holds : NoneHolds
+unfolding whyOf
+none-holds e clock a = byCond (λ (x : Why). x ≡ why.NoReason → (reason : Reason) → reasonHolds e clock a reason ≡ false) (eqb (refusedAs e clock a) 0)
+    (λ t p reason.
+    let k = numbered reason in
+    sym (ap (reasonHolds e clock a) (k .1))
+    ∙ none-at (reasonHolds e clock a) reasons (because-none _ p) (reasonNumber reason - 1) (omega (arith, k .0, k .2)))
+    (λ t p. let z : _≡_ {A = ℕ} 0 1 = cc in absurd (omega arith))
+
 -- ---- what the event gives
 
 -- what the reason call says of an outcome; the three cases exclude each other
@@ -137,7 +159,7 @@ decided w Clashes = (_, refl, refl)
 
 -- the reasons from the fourth on, by what is said of a name
 abbrev pub later : End → Option Word → Option Reason
-later e o = firstThat (λ reason. holdsOf e reason o) (NotOpen ∷ BelowFirst ∷ OwnAboveLast ∷ AlreadyHeld ∷ ReplyWaiting ∷ ReplyQuiet ∷ RequestQuiet ∷ [])
+later e o = firstThat (λ reason. holdsOf e reason o) nameReasons
 
 closed-bare : (w : Word) (s : Source) → s .span ≡ Closed → isHeld (known w s .slot) ≡ false
 closed-bare w s p = ap (λ (r : Record). isHeld (r .slot)) (at-outside s (number w) (ap (λ (x : Span). within x (number w)) p))
@@ -153,16 +175,22 @@ module _ (us : List ℕ) (m : Meaning) (e : End) where
   unfolding stepAt
   about says = rw (later-decided e (wordOf says m e)) (decided (wordOf says m e) (decide (momentOf e) (wordOf says m e) (sourceAt e (wordOf says m e .name .source))))
 
-  message-told : Foretells (because (later e (saidIn m e))) (Did (messageStep us m e .effect))
+  message-told : Foretells (because (later e (namedIn m e))) (Did (messageStep us m e .effect))
   unfolding messageStep sessionOf
   message-told = byTest (eqb (m .kind) DATA) (λ d. rw d (about Data))
       (λ d. byTest (eqb (m .kind) RQST) (λ r. rw (d, r) (about Rqst))
       (λ r. byTest (eqb (m .kind) REPL) (λ p. rw (d, r, p) (about Repl))
       (λ p. rw (d, r, p) (_, refl, refl))))
 
-  arrival-told : Foretells (because (cond (sameHost (m .sender) (e .host)) (some OwnMessage) (later e (saidIn m e)))) (Did (arrivalOf us m e .effect))
+  arrival-told : Foretells (because (cond (sameHost (m .sender) (e .host)) (some OwnMessage) (later e (namedIn m e)))) (Did (arrivalOf us m e .effect))
   unfolding arrivalOf
   arrival-told = byTest (sameHost (m .sender) (e .host)) (λ o. rw o) (λ o. rw o message-told)
+
+-- a datagram: a probe is a Report
+module _ (us : List ℕ) (e : End) where
+  heard-told : (d : Datagram Meaning) → Foretells (because (cond (isOwn d (e .host)) (some OwnMessage) (later e (namedOf d e)))) (Did (hearingOf us d e .effect))
+  heard-told Probe = (_, refl, refl)
+  heard-told (Saying m) = arrival-told us m e
 
 -- Fire is never Ignored
 fire-at : (us : List ℕ) (e : End) (x : Earliest) → isIgnored (fired us e x .effect) ≡ false
@@ -183,13 +211,13 @@ other-told us Report e = refl
 -- an event on an end that is not crashed and whose clock is set
 module _ (us : List ℕ) (e : End) where
   abbrev first : Action → Option Reason
-  first a = cond (wrongStatus a (e .status)) (some WrongStatus) (cond (ownMessage a (e .host)) (some OwnMessage) (later e (saidBy a e)))
+  first a = cond (wrongStatus a (e .status)) (some WrongStatus) (cond (ownMessage a (e .host)) (some OwnMessage) (later e (namedBy a e)))
 
   act-told : (a : Action) → Foretells (because (first a)) (Did (actOf us a e .effect))
   unfolding actOf moveOf
   act-told (Moves m) = byTest (moves m (e .status)) (λ t. rw t (_, refl, refl)) (λ t. rw t)
   act-told (Send cue) = byTest (isMember (e .status)) (λ t. rw t (_, refl, refl)) (λ t. rw t)
-  act-told (Arrival bytes) = byTest (isMember (e .status)) (λ t. rw t (arrival-told us (meaningFrom bytes) e)) (λ t. rw t)
+  act-told (Arrival bytes) = byTest (isMember (e .status)) (λ t. rw t (heard-told us e (datagramFrom bytes))) (λ t. rw t)
   act-told (Else o) = byTest (isMember (e .status)) (λ t. rw t (_, refl, other-told us o e)) (λ t. rw t)
 
 step-told : (e : End) (clock : ℕ) (us : List ℕ) (a : Action) → Foretells (because (firstThat (reasonHolds e clock a) reasons)) (Did (stepOf clock us a e .effect))

@@ -15,12 +15,12 @@ use Rattle.end.specs.declared.Says.the-variants.{Data, Rqst, Repl}
 use Rattle.end.specs.declared.Word.{Word}
 use Rattle.end.specs.Records.{isHeld, isNo, replyIn}
 use Rattle.end.specs.Decide.{number, sameCue, decideData, reached, decideReply, decideRound, decideRequest, decideRepair, decideAs}
-use Rattle.end.specs.Reasons.{holds, reasonOf, reasons, firstThat, IgnoredForTheFirstReason}
+use Rattle.end.specs.Reasons.{holds, reasonOf, nameReasons, firstThat, IgnoredForTheFirstReason}
 use Rattle.end.proofs.Tools.{byTest, clash}
 
 module _ (t : Moment) (w : Word) (r : Record) where
   Right : Says → Span → Type 0
-  Right says x = reasonOf (decideAs says t w r x) ≡ firstThat (holds says t w r x) reasons
+  Right says x = reasonOf (decideAs says t w r x) ≡ firstThat (holds says t w r x) nameReasons
 
   data-right : (x : Span) → (x ≡ Closed → isHeld (r .slot) ≡ false) → Right Data x
   unfolding Right decideAs decideData

@@ -45,8 +45,8 @@ wordOf says m e = record {
 }
 
 -- the word of a message about a name, by its kind; a SESS is about none
-abbrev pub saidIn : Meaning → End → Option Word
-saidIn m e =
+abbrev pub namedIn : Meaning → End → Option Word
+namedIn m e =
     cond (eqb (m .kind) DATA) (some (wordOf Data m e))
     (cond (eqb (m .kind) RQST) (some (wordOf Rqst m e))
     (cond (eqb (m .kind) REPL) (some (wordOf Repl m e))

@@ -8,7 +8,7 @@ use Prim.Native.Nat.{ℕ}
 use lib.ListN.{length, getD, getElem?}
 use lib.Dec.{leb, eqb}
 use Rattle.message.specs.Entry.{asHost, asNumber}
-use Rattle.message.specs.Message.{DATA, REPL, Meaning, meaningFrom}
+use Rattle.message.specs.Message.{DATA, REPL, Meaning, Datagram, Probe, Saying, datagramFrom}
 use Rattle.message.specs.Question.{readRefusal}
 use Rattle.end.specs.declared.Status.{Status}
 use Rattle.end.specs.declared.Status.the-variants.{Idle}
@@ -34,9 +34,13 @@ pub record Book : Type 0 where
 abbrev pub emptyBook : Book
 emptyBook = record { status = λ h. Idle; filed = λ h. []; handed = λ h s. [] }
 
--- ---- messages: the meaning of bytes that the reader accepts
+-- ---- messages: the meaning of bytes that the reader accepts; a probe is no message, so the book passes over it
+abbrev pub messageIn : Datagram Meaning → Option Meaning
+messageIn Probe = none
+messageIn (Saying m) = some m
+
 unfoldable pub readAs : List ℕ → Option Meaning
-readAs bytes = cond (eqb (readRefusal bytes) 0) (some (meaningFrom bytes)) none
+readAs bytes = cond (eqb (readRefusal bytes) 0) (messageIn (datagramFrom bytes)) none
 
 -- "an original is a DATA, a repair a REPL"
 abbrev pub isOriginal : Meaning → Bool

@@ -8,7 +8,7 @@ use Rattle.message.specs.declared.Name.{Name}
 use Rattle.message.specs.Limit.{numberLimit, roomNeeded}
 use Rattle.message.specs.Cue.{cueIn}
 use Rattle.message.specs.Entry.{asNumber}
-use Rattle.message.specs.Message.{meaningFrom, bytesOf}
+use Rattle.message.specs.Message.{Meaning, Datagram, Probe, Saying, datagramFrom, bytesOf}
 use Rattle.message.specs.Question.{Question, ask, firstNo, readQuestions, ticksIn}
 use Rattle.end.specs.declared.Status.{Status}
 use Rattle.end.specs.declared.Status.the-variants.{Idle, Joining, Member, Leaving, Crashed}
@@ -127,6 +127,12 @@ abbrev pub otherOf : List ℕ → Other → End → Step
 otherOf us Fire e = fireOf us e
 otherOf us Report e = give (Out (bytesOf (sessionMessage e))) e
 
+-- ---- Arrival. Document 02, P5: "A message of no bytes is now taken by a member as a Report event at that clock, and by any other status as
+-- Ignored."
+abbrev pub hearingOf : List ℕ → Datagram Meaning → End → Step
+hearingOf us Probe e = otherOf us Report e
+hearingOf us (Saying m) e = arrivalOf us m e
+
 -- ---- "Send, Fire, Report, Arrival outside membership ..: Ignored."
 abbrev pub ifMember : End → Step → Step
 ifMember e step = cond (isMember (e .status)) step (give Ignored e)
@@ -135,7 +141,7 @@ ifMember e step = cond (isMember (e .status)) step (give Ignored e)
 unfoldable pub actOf : List ℕ → Action → End → Step
 actOf us (Moves m) e = moveOf m e
 actOf us (Send cue) e = ifMember e (sendOf cue e)
-actOf us (Arrival bytes) e = ifMember e (arrivalOf us (meaningFrom bytes) e)
+actOf us (Arrival bytes) e = ifMember e (hearingOf us (datagramFrom bytes) e)
 actOf us (Else o) e = ifMember e (otherOf us o e)
 
 -- "An unrefused event sets the clock. On a crashed end everything unrefused is Ignored and nothing changes, clock included."
@@ -152,7 +158,8 @@ stateQuestions e clock = ask (soundOf e) 3 ∷ ask (ticksIn clock) 4 ∷ ask (le
 abbrev pub anyQuestions : End → ℕ → ℕ → ℕ → List Question
 anyQuestions e clock room draws = ask (leb roomNeeded room) 1 ∷ ask (eqb draws drawCount) 2 ∷ stateQuestions e clock
 
--- "Send: are offsets and lamp in range? 6. For a member, is the next number below 64? 7." Arrival asks the reader's questions
+-- "Send: are offsets and lamp in range? 6. For a member, is the next number below 64? 7." Arrival asks the reader's questions,
+-- and a probe none
 abbrev pub ownQuestions : Action → End → List Question
 ownQuestions (Moves m) e = []
 ownQuestions (Send cue) e = ask (cueIn cue) 6 ∷ ask (not (isMember (e .status)) || ltb (e .next) numberLimit) 7 ∷ []

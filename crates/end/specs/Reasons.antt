@@ -82,9 +82,12 @@ holds says t w r x ReplyWaiting = replyWaiting says r
 holds says t w r x ReplyQuiet = replyQuiet says t r
 holds says t w r x RequestQuiet = requestQuiet says t w r x
 
--- ---- the list, in document 02's order
+-- ---- the list, in document 02's order: those of a message about a name, and all ten
+abbrev pub nameReasons : List Reason
+nameReasons = NotOpen ∷ BelowFirst ∷ OwnAboveLast ∷ AlreadyHeld ∷ ReplyWaiting ∷ ReplyQuiet ∷ RequestQuiet ∷ []
+
 abbrev pub reasons : List Reason
-reasons = Crashed ∷ WrongStatus ∷ OwnMessage ∷ NotOpen ∷ BelowFirst ∷ OwnAboveLast ∷ AlreadyHeld ∷ ReplyWaiting ∷ ReplyQuiet ∷ RequestQuiet ∷ []
+reasons = Crashed ∷ WrongStatus ∷ OwnMessage ∷ nameReasons
 
 abbrev pub firstThat : (Reason → Bool) → List Reason → Option Reason
 firstThat f [] = none
@@ -105,4 +108,4 @@ reasonOf Clashes = none
 -- In a sound state a closed source holds nothing.
 abbrev pub IgnoredForTheFirstReason : Type 0
 IgnoredForTheFirstReason = (t : Moment) (w : Word) (r : Record) (x : Span) → (x ≡ Closed → isHeld (r .slot) ≡ false)
-    → reasonOf (decideAs (w .says) t w r x) ≡ firstThat (holds (w .says) t w r x) reasons
+    → reasonOf (decideAs (w .says) t w r x) ≡ firstThat (holds (w .says) t w r x) nameReasons

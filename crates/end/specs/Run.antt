@@ -48,12 +48,17 @@ seen w (c ∷ cs) =
     record { host = c .host; action = c .action; outcome = resultOf w c .outcome; status = resultOf w c .left .status }
     ∷ seen (worldAfter w (c .host) (resultOf w c)) cs
 
--- "An unrefused Arrival brings the bytes that an earlier Out of the list, any end's, put out."
+-- "An unrefused Arrival brings the bytes that an earlier Out of the list, any end's, put out." An empty datagram, by document 02, P5, "may
+-- come from anywhere"
+abbrev pub FromOut : List (List ℕ) → List ℕ → Type 0
+FromOut l [] = Unit {0}
+FromOut l (b ∷ s) = List·Memᴰ (b ∷ s) l
+
 abbrev pub Brought : List (List ℕ) → Action → Outcome → Type 0
 Brought l (Moves m) o = Unit {0}
 Brought l (Send cue) o = Unit {0}
 Brought l (Arrival bytes) (Refused k) = Unit {0}
-Brought l (Arrival bytes) (Did a) = List·Memᴰ bytes l
+Brought l (Arrival bytes) (Did a) = FromOut l bytes
 Brought l (Else e) o = Unit {0}
 
 -- a cue that is sent has the 24 bytes of its declared type

@@ -10,7 +10,7 @@ use lib.ListN.{length}
 use lib.Dec.{eqb}
 use Rattle.message.specs.declared.Host.{Host}
 use Rattle.message.specs.Limit.{roomNeeded}
-use Rattle.message.specs.Message.{meaningFrom}
+use Rattle.message.specs.Message.{Meaning, Datagram, Probe, Saying, datagramFrom}
 use Rattle.message.specs.Question.{firstNo, sameHost}
 use Rattle.end.specs.declared.Status.{Status}
 use Rattle.end.specs.declared.Word.{Word}
@@ -24,7 +24,7 @@ use Rattle.end.specs.Round.{drawCount}
 use Rattle.end.specs.Answer.{Effect, Out, Got, Done, Ignored, Nothing, Clash, Outcome, Refused, Did}
 use Rattle.end.specs.Decide.{known}
 use Rattle.end.specs.Reasons.{holds, reasons, firstThat}
-use Rattle.end.specs.Arrival.{saidIn}
+use Rattle.end.specs.Arrival.{namedIn}
 use Rattle.end.specs.Event.{Action, Moves, Send, Arrival, Else, moves, stateQuestions, ownQuestions, eventOf}
 
 -- ---- the reasons
@@ -36,19 +36,27 @@ wrongStatus (Send cue) status = not (isMember status)
 wrongStatus (Arrival bytes) status = not (isMember status)
 wrongStatus (Else o) status = not (isMember status)
 
--- "own message": "an arrival whose sender is oneself"
+-- "own message": "an arrival whose sender is oneself"; a probe has no sender
+abbrev pub isOwn : Datagram Meaning → Host → Bool
+isOwn Probe me = false
+isOwn (Saying m) me = sameHost (m .sender) me
+
 abbrev pub ownMessage : Action → Host → Bool
 ownMessage (Moves m) me = false
 ownMessage (Send cue) me = false
-ownMessage (Arrival bytes) me = sameHost (meaningFrom bytes .sender) me
+ownMessage (Arrival bytes) me = isOwn (datagramFrom bytes) me
 ownMessage (Else o) me = false
 
 -- what an event says about a name: only an arrival of a DATA, RQST or REPL does
-abbrev pub saidBy : Action → End → Option Word
-saidBy (Moves m) e = none
-saidBy (Send cue) e = none
-saidBy (Arrival bytes) e = saidIn (meaningFrom bytes) e
-saidBy (Else o) e = none
+abbrev pub namedOf : Datagram Meaning → End → Option Word
+namedOf Probe e = none
+namedOf (Saying m) e = namedIn m e
+
+abbrev pub namedBy : Action → End → Option Word
+namedBy (Moves m) e = none
+namedBy (Send cue) e = none
+namedBy (Arrival bytes) e = namedOf (datagramFrom bytes) e
+namedBy (Else o) e = none
 
 -- a reason that lies in the name's source, at the end's clock
 abbrev pub holdsOf : End → Reason → Option Word → Bool
@@ -56,7 +64,7 @@ holdsOf e why none = false
 holdsOf e why (some w) = let s = sourceAt e (w .name .source) in holds (w .says) (momentOf e) w (known w s) (s .span) why
 
 abbrev pub inSource : End → ℕ → Action → Reason → Bool
-inSource e clock a why = holdsOf (withClock e clock) why (saidBy a (withClock e clock))
+inSource e clock a why = holdsOf (withClock e clock) why (namedBy a (withClock e clock))
 
 -- each reason, of an event at a clock
 abbrev pub reasonHolds : End → ℕ → Action → Reason → Bool
@@ -123,17 +131,11 @@ reasonWords ReplyQuiet = 114 ∷ 101 ∷ 112 ∷ 108 ∷ 121 ∷ 45 ∷ 113 ∷ 
 -- "request quiet"
 reasonWords RequestQuiet = 114 ∷ 101 ∷ 113 ∷ 117 ∷ 101 ∷ 115 ∷ 116 ∷ 32 ∷ 113 ∷ 117 ∷ 105 ∷ 101 ∷ 116 ∷ []
 
--- document 01's number of what the call gives, 0 where the event would not be refused; and document 02's of the reason, 0 where there is
--- none
+-- document 01's number of what the call gives, 0 where the event would not be refused
 abbrev pub whyRefusal : Why → ℕ
 whyRefusal (why.Refused k) = k
 whyRefusal (why.Because reason) = 0
 whyRefusal why.NoReason = 0
-
-abbrev pub whyReason : Why → ℕ
-whyReason (why.Refused k) = 0
-whyReason (why.Because reason) = reasonNumber reason
-whyReason why.NoReason = 0
 
 -- ---- what is said of it
 
@@ -149,6 +151,10 @@ isIgnored (Clash name) = false
 abbrev pub ReasonIsFirst : Type 0
 ReasonIsFirst = (e : End) (clock : ℕ) (a : Action) (reason : Reason) → whyOf e clock a ≡ why.Because reason
     → (reasonHolds e clock a reason ≡ true) × ((other : Reason) → reasonNumber other < reasonNumber reason → reasonHolds e clock a other ≡ false)
+
+-- and where "none" is given, none of the ten holds
+abbrev pub NoneHolds : Type 0
+NoneHolds = (e : End) (clock : ℕ) (a : Action) → whyOf e clock a ≡ why.NoReason → (reason : Reason) → reasonHolds e clock a reason ≡ false
 
 -- what the event gives, with an output and draws as they must be
 abbrev pub Gives : End → ℕ → Action → (Outcome → Type 0) → Type 0

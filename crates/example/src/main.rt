@@ -38,7 +38,7 @@ fn said(call: &[u8], s: Stepped) -> End {
 fn said_open(verdict: Verdict) {
     match verdict {
         Verdict::Accepted => print(b"open: accepted\n"),
-        Verdict::Refused(_) => print(b"open: refused\n"),
+        _ => print(b"open: refused\n"),
     }
 }
 

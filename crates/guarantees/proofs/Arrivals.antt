@@ -12,7 +12,7 @@ use Rattle.message.specs.declared.CueNumber.{CueNumber}
 use Rattle.message.specs.declared.Report.{Report}
 use Rattle.message.specs.Section.{all}
 use Rattle.message.specs.Message.{DATA, RQST, REPL, Meaning, meaningFrom}
-use Rattle.message.specs.Question.{reportIn, hostIn, sameHost, readRefusal}
+use Rattle.message.specs.Question.{reportIn, hostIn, sameHost}
 use Rattle.message.proofs.QuestionLaws.{and-both}
 use Rattle.end.specs.declared.Status.{Status}
 use Rattle.end.specs.declared.Status.the-variants.{Idle, Joining, Member, Leaving, Crashed}
@@ -37,7 +37,7 @@ use Rattle.end.proofs.RecordLaws.{Ordered, rise-distance, rise-heard, rise-leng
 use Rattle.end.proofs.Tools.{byCond, clash, set-elim, or-left, or-right, clash′}
 use Rattle.invariants.proofs.Questions.{Passed, passes}
 use Rattle.guarantees.specs.Calls.{momentAt}
-use Rattle.guarantees.specs.Arrivals.{SameEnd, risen, reportedUp, hasName, touches, SpanAs, isDataOf, isSessionOf, hear, RefusedChangesNothing, ArrivalKeepsStatusAndNext, HeldStays, UntouchedStays, OtherSourcesStay, SlotsAsHeard, HeldIsCarried, RepliesAsHeard, ReplyQuietStays, SpansAsHeard, DistancesStay}
+use Rattle.guarantees.specs.Arrivals.{SameEnd, risen, reportedUp, hasName, touches, SpanAs, isDataOf, isSessionOf, hear, ProbeIsReport, ProbesAnswered, RefusedChangesNothing, ArrivalKeepsStatusAndNext, HeldStays, UntouchedStays, OtherSourcesStay, SlotsAsHeard, HeldIsCarried, RepliesAsHeard, ReplyQuietStays, SpansAsHeard, DistancesStay}
 use Rattle.guarantees.proofs.Names.{above-blank, source-of}
 use Rattle.guarantees.proofs.Heard.{or-first, or-second, Heard, heard-asked, not-kind}
 use Rattle.guarantees.proofs.Messages.{span-rise, HeardSource, HeardEnd, same-end, source-none, heard-ignored, word-heard}
@@ -174,8 +174,18 @@ module _ (us : List ℕ) (m : Meaning) (e : End) (f : Facts e) (fits : all repor
 -- bytes that passed the reader's questions
 pub passed-heard : (e : End) (bytes : List ℕ) (clock : ℕ) (draws : List ℕ) → Passed e (Arrival bytes) clock
     → HeardEnd (momentAt e clock) draws (meaningFrom bytes) e (actOf draws (Arrival bytes) (withClock e clock) .left)
-unfolding actOf readRefusal
-passed-heard e bytes clock draws z =
+unfolding actOf
+passed-heard e [] clock draws z =
+    let q = heard-ignored (momentAt e clock) draws (meaningFrom []) (withClock e clock) in
+    byCond (λ (s : Step). HeardEnd (momentAt e clock) draws (meaningFrom []) e (s .left)) (isMember (e .status)) (λ _. clocked q) (λ _. clocked q)
+  where
+    clocked : HeardEnd (momentAt e clock) draws (meaningFrom []) (withClock e clock) (withClock e clock)
+        → HeardEnd (momentAt e clock) draws (meaningFrom []) e (withClock e clock)
+    clocked q =
+        let s = q .same in
+        record { same = record { host = s .host; params = s .params; status = s .status; next = s .next }; sources = q .sources }
+passed-heard e (b ∷ s) clock draws z =
+    let bytes : List ℕ = b ∷ s in
     let m = meaningFrom bytes in
     let read = reads bytes (z .own) in
     let fits = in-range bytes m read in
@@ -189,6 +199,20 @@ hear-heard e bytes clock room draws =
     let m = meaningFrom bytes in
     call-cases (λ (r : Result). HeardEnd t draws m e (r .left)) e (Arrival bytes) clock room draws
     (λ k. heard-ignored t draws m e) (λ z. heard-ignored t draws m e) (λ z c. passed-heard e bytes clock draws z)
+
+pub probe-is-report : ProbeIsReport
+unfolding eventOf questionOf stepOf actOf
+probe-is-report e clock room draws = refl
+
+pub probes-answered : ProbesAnswered
+unfolding eventOf stepOf actOf
+probes-answered e clock room draws asked =
+    let yes = eq-eqb (questionOf e (Arrival []) clock room (length draws)) 0 asked in
+    record {
+      member = λ m. rw (yes, member-not-crashed (e .status) m, m);
+      aside = λ m c. rw (yes, c, m);
+      crashed = λ c. rw (yes, c);
+    }
 
 pub refused-changes-nothing : RefusedChangesNothing
 unfolding bufferOf

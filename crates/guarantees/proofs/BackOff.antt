@@ -13,8 +13,8 @@ use lib.Dec.{eqb}
 use borrow.Author.Tests.{ltb-true, eqb-true, eqb-false, eq-eqb}
 use Rattle.message.specs.declared.Host.{Host}
 use Rattle.message.specs.Entry.{asHost, asNumber}
-use Rattle.message.specs.Message.{DATA, RQST, Meaning, meaningFrom}
-use Rattle.message.specs.Question.{sameHost, readRefusal, hostIn, ask}
+use Rattle.message.specs.Message.{DATA, RQST, Meaning, meaningWith, meaningFrom}
+use Rattle.message.specs.Question.{sameHost, hostIn, ask}
 use Rattle.message.proofs.QuestionLaws.{and-both, all-passed}
 use Rattle.end.specs.declared.Params.{Params}
 use Rattle.end.specs.declared.Request.{Request}
@@ -180,8 +180,10 @@ module _ (us : List ℕ) (m : Meaning) (e : End) (q : Request) (waiting : record
       (λ t. absurd (eqb-false (m .kind) RQST t kind))))
 
 pub quiet-ignores : QuietIgnores
-unfolding eventOf stepOf actOf readRefusal
-quiet-ignores e bytes clock room draws q asked kind p l =
+unfolding eventOf stepOf actOf meaningWith
+quiet-ignores e [] clock room draws q asked kind p l = absurd (omega (arith, kind))
+quiet-ignores e (b ∷ t) clock room draws q asked kind p l =
+    let bytes : List ℕ = b ∷ t in
     let m = meaningFrom bytes in
     let s = sourceAt e (messageName m .source) in
     let z : Passed e (Arrival bytes) clock = passes e (Arrival bytes) clock room (length draws) asked in

@@ -5,27 +5,45 @@ use mathlib.Core.Bool.{Bool, true, false, cond, not, _&&_, _||_}
 use mathlib.Core.List.{List, [], _∷_}
 use mathlib.Core.Logic.{_⊎_}
 use Prim.Native.Nat.{ℕ, _≤_, _<_}
+use lib.ListN.{length}
 use lib.Dec.{leb, eqb}
 use Rattle.message.specs.declared.Report.{Report}
 use Rattle.message.specs.Entry.{asHost}
-use Rattle.message.specs.Message.{DATA, RQST, REPL, Meaning, meaningFrom}
+use Rattle.message.specs.Message.{DATA, RQST, REPL, Meaning, meaningFrom, bytesOf}
 use Rattle.end.specs.declared.Record.{Record}
 use Rattle.end.specs.declared.Span.{Span}
 use Rattle.end.specs.declared.Span.the-variants.{Closed, Open}
 use Rattle.end.specs.declared.End.{End}
-use Rattle.end.specs.State.{sourceAt, distanceTo}
+use Rattle.end.specs.State.{sourceAt, distanceTo, isMember, isCrashed, withClock}
 use Rattle.end.specs.Records.{isAbove, isHeld, replyIn}
 use Rattle.end.specs.Round.{quietAfterReply}
-use Rattle.end.specs.Answer.{Refused, Result, bufferOf}
+use Rattle.end.specs.Messages.{sessionMessage}
+use Rattle.end.specs.Answer.{Out, Ignored, Refused, Did, Result, bufferOf}
 use Rattle.end.specs.Decide.{sameCue}
 use Rattle.end.specs.Arrival.{messageName, messageHost, messageCue}
-use Rattle.end.specs.Event.{Action, Arrival, eventOf}
+use Rattle.end.specs.Event.{Action, Arrival, Else, Report as Reporting, questionOf, eventOf}
 use Rattle.guarantees.specs.Calls.{momentAt}
 use Rattle.guarantees.specs.Records.{recordOf, slotOf, HeardAs, ReplyAs}
 
 -- a call with bytes that arrive
 abbrev pub hear : End → List ℕ → ℕ → ℕ → List ℕ → Result
 hear e bytes clock room draws = eventOf e (Arrival bytes) clock room draws
+
+-- A probe is a Report: the same answer, the same bytes, the same state, refused or not, whatever the state and the arguments.
+abbrev pub ProbeIsReport : Type 0
+ProbeIsReport = (e : End) (clock room : ℕ) (draws : List ℕ) → hear e [] clock room draws ≡ eventOf e (Else Reporting) clock room draws
+
+-- And what that is: a probe that is not refused is answered by a member with its session message at the call's clock, in any other status
+-- Ignored; the clock is set, but on a crashed end, and nothing else changes.
+pub record ProbeTaken (e : End) (clock room : ℕ) (draws : List ℕ) : Type 0 where
+  pub member : isMember (e .status) ≡ true
+      → hear e [] clock room draws ≡ record { outcome = Did (Out (bytesOf (sessionMessage (withClock e clock)))); left = withClock e clock }
+  pub aside : isMember (e .status) ≡ false → isCrashed (e .status) ≡ false
+      → hear e [] clock room draws ≡ record { outcome = Did Ignored; left = withClock e clock }
+  pub crashed : isCrashed (e .status) ≡ true → hear e [] clock room draws ≡ record { outcome = Did Ignored; left = e }
+
+abbrev pub ProbesAnswered : Type 0
+ProbesAnswered = (e : End) (clock room : ℕ) (draws : List ℕ) → questionOf e (Arrival []) clock room (length draws) ≡ 0 → ProbeTaken e clock room draws
 
 -- A refused call, of any event, changes nothing at all, neither the end nor the output.
 abbrev pub RefusedChangesNothing : Type 0

@@ -7,7 +7,8 @@ use Prim.Native.Nat.{ℕ, _+_, _≤_, _<_}
 use lib.ListN.{length}
 use Rattle.message.specs.declared.Host.{Host}
 use Rattle.message.specs.Message.{RQST, REPL, meaningFrom}
-use Rattle.message.specs.Question.{readRefusal}
+use Rattle.message.specs.Question.{readOf}
+use Rattle.message.specs.declared.Verdict.the-variants.{Accepted}
 use Rattle.end.specs.declared.Params.{Params}
 use Rattle.end.specs.declared.Slot.the-variants.{Held}
 use Rattle.end.specs.declared.Reply.the-variants.{Due}
@@ -44,7 +45,7 @@ pub record FireTaken (e : End) (clock room : ℕ) (draws : List ℕ) : Type 0 wh
 -- Bytes that the reader accepts, and reads as a message about a wait: a request goes out as RQST, a reply as REPL, with its name; the
 -- end is the sender and the clock the stamp; the host that a REPL names is the requester of the reply that waited.
 pub record TellsOf (e : End) (clock : ℕ) (w : Wait) (bytes : List ℕ) : Type 0 where
-  pub accepted : readRefusal bytes ≡ 0
+  pub accepted : readOf bytes .verdict ≡ Accepted
   pub kind : meaningFrom bytes .kind ≡ cond (w .reply) REPL RQST
   pub name : messageName (meaningFrom bytes) ≡ w .name
   pub sender : meaningFrom bytes .sender ≡ e .host

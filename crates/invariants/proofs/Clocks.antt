@@ -78,8 +78,10 @@ module _ (us : List ℕ) (e : End) where
   unfolding actOf arrivalOf
   act-clock (Moves m) = move-clock m e
   act-clock (Send cue) = byCond (Keeps e) (isMember (e .status)) (λ _. refl) (λ _. refl)
-  act-clock (Arrival x) = byCond (Keeps e) (isMember (e .status))
-      (λ _. byCond (Keeps e) (sameHost (meaningFrom x .sender) (e .host)) (λ _. refl) (λ _. message-clock (meaningFrom x))) (λ _. refl)
+  act-clock (Arrival []) = byCond (Keeps e) (isMember (e .status)) (λ _. refl) (λ _. refl)
+  act-clock (Arrival (b ∷ s)) =
+      let m = meaningFrom (b ∷ s) in
+      byCond (Keeps e) (isMember (e .status)) (λ _. byCond (Keeps e) (sameHost (m .sender) (e .host)) (λ _. refl) (λ _. message-clock m)) (λ _. refl)
   act-clock (Else o) = byCond (Keeps e) (isMember (e .status)) (λ _. other-clock o) (λ _. refl)
 
 pub clock-never-falls : ClockNeverFalls

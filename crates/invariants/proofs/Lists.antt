@@ -58,7 +58,8 @@ not-first (q ∷ qs) n = byCond (λ (k : ℕ). k ≡ 3 → ⊥) (q .passed) (λ 
 own-not-3 : (a : Action) (e : End) → Not3 (ownQuestions a e)
 own-not-3 (Moves m) e = tt
 own-not-3 (Send cue) e = (λ _ h. omega arith, (λ _ h. omega arith, tt))
-own-not-3 (Arrival x) e = (λ _ h. omega arith, (λ _ h. omega arith, (λ _ h. omega arith, (λ _ h. omega arith, tt))))
+own-not-3 (Arrival []) e = tt
+own-not-3 (Arrival (b ∷ s)) e = (λ _ h. omega arith, (λ _ h. omega arith, (λ _ h. omega arith, (λ _ h. omega arith, tt))))
 own-not-3 (Else o) e = tt
 
 not-3 : (e : End) (a : Action) (clock room draws : ℕ) → soundOf e ≡ true → questionOf e a clock room draws ≡ 3 → ⊥

@@ -3,18 +3,20 @@ use mathlib.Core.Path.{_≡_, refl, sym, ap, _∙_, subst}
 use Prim.Native.Nat.{ℕ, _<_}
 use native.Mathlib.Omega.{arith}
 use mathlib.Core.Bool.{Bool, true, false}
-use mathlib.Core.List.{List}
+use mathlib.Core.List.{List, [], _∷_}
 use lib.ListN.{length}
 use lib.Dec.{eqb}
 use borrow.Author.Tests.{eqb-true}
 use Rattle.message.specs.declared.Host.{Host}
 use Rattle.message.specs.declared.Name.{Name}
 use Rattle.message.specs.Cue.{cueIn}
-use Rattle.message.specs.Message.{DATA, RQST, REPL, Meaning, meaningFrom, bytesOf, countsOf}
-use Rattle.message.specs.Question.{firstNo, meaningQuestions, kindHasCounts, sameHost, readRefusal}
+use Rattle.message.specs.Message.{DATA, RQST, REPL, SESS, Meaning, meaningFrom, bytesOf, countsOf}
+use Rattle.message.specs.Question.{firstNo, meaningQuestions, kindHasCounts, sameHost, readOf}
+use Rattle.message.specs.declared.Reading.{Reading}
+use Rattle.message.specs.declared.Verdict.the-variants.{Accepted}
 use Rattle.message.proofs.SectionLaws.{All, none, some}
 use Rattle.message.proofs.EntryLaws.{CueFits}
-use Rattle.roundtrip.proofs.RoundTrip.{accepts, fits-of, meaning-accepted, read-back}
+use Rattle.roundtrip.proofs.RoundTrip.{accepts, fits-of, meaning-accepted, read-back, read-message}
 use Rattle.end.specs.declared.Request.{Request}
 use Rattle.end.specs.declared.Slot.{Slot}
 use Rattle.end.specs.declared.Slot.the-variants.{Empty, Held, Waiting}
@@ -47,13 +49,14 @@ use Rattle.invariants.proofs.Written.{data-passes, request-passes, repa
 
 -- ---- a message that passes its questions is read as it was written
 pub record Written (y : Meaning) : Type 0 where
-  pub accepted : readRefusal (bytesOf y) ≡ 0
+  pub accepted : readOf (bytesOf y) .verdict ≡ Accepted
   pub back : meaningFrom (bytesOf y) ≡ y
 
 written : (y : Meaning) → kindHasCounts (y .kind) (countsOf y) ≡ true → firstNo (meaningQuestions y) ≡ 0 → All CueFits (y .cues) → Written y
 written y counts passes cues =
     let fits = fits-of y passes cues in
-    record { accepted = accepts (bytesOf y) (meaning-accepted y fits counts passes); back = read-back y fits }
+    let passed = accepts (bytesOf y) (meaning-accepted y fits counts passes) in
+    record { accepted = ap (λ (r : Reading). r .verdict) (read-message (bytesOf y) passed); back = read-back y fits }
 
 -- ---- what a step puts out is right
 Right : End → Action → Step → Type 0
@@ -62,10 +65,11 @@ Right e a r = (x : List ℕ) → r .effect ≡ Out x → RightOut e a (e .clock)
 -- a message that is put out is right if its meaning is
 out-right : (e : End) (a : Action) (y : Meaning) (left : End) → Written y → y .sender ≡ e .host → y .stamp ≡ e .clock
     → ((cue : List ℕ) → a ≡ Send cue → (y .kind ≡ DATA) × (messageName y ≡ ownName e) × (messageCue y ≡ cue))
+    → ((x : List ℕ) → a ≡ Arrival x → (x ≡ []) × (y .kind ≡ SESS))
     → (y .kind ≡ RQST → isHeld (keptUnder e (messageName y) .slot) ≡ false)
     → (y .kind ≡ REPL → (isHeld (keptUnder e (messageName y) .slot) ≡ true) × (messageCue y ≡ keptUnder e (messageName y) .cue)) → Right e a (give (Out (bytesOf y)) left)
 unfolding Right
-out-right e a y left w sender stamp sent lacks holds x p =
+out-right e a y left w sender stamp sent probed lacks holds x p =
     let back = w .back in
     let same : bytesOf y ≡ x = cc in
     subst (RightOut e a (e .clock)) same (record {
@@ -73,11 +77,12 @@ out-right e a y left w sender stamp sent lacks holds x p =
       sender = ap (λ (m : Meaning). m .sender) back ∙ sender;
       stamp = ap (λ (m : Meaning). m .stamp) back ∙ stamp;
       sent = subst (λ (m : Meaning). (cue : List ℕ) → a ≡ Send cue → (m .kind ≡ DATA) × (messageName m ≡ ownName e) × (messageCue m ≡ cue)) (sym back) sent;
+      probed = subst (λ (m : Meaning). (x : List ℕ) → a ≡ Arrival x → (x ≡ []) × (m .kind ≡ SESS)) (sym back) probed;
       lacks = subst (λ (m : Meaning). m .kind ≡ RQST → isHeld (keptUnder e (messageName m) .slot) ≡ false) (sym back) lacks;
       holds = subst (λ (m : Meaning). m .kind ≡ REPL → (isHeld (keptUnder e (messageName m) .slot) ≡ true) × (messageCue m ≡ keptUnder e (messageName m) .cue)) (sym back) holds;
     })
 
--- ---- moves and arrivals put nothing out
+-- ---- moves and messages put nothing out
 abbrev putsOut : Class → Bool
 putsOut (PutsOut bytes) = true
 putsOut (HandsOut name cue) = false
@@ -120,6 +125,10 @@ arrival-silent us m e =
 unsent : {P : Type 0} (o : Other) (cue : List ℕ) → Else o ≡ Send cue → P
 unsent o cue p = absurd (let z : _≡_ {A = ℕ} 0 1 = cc in omega arith)
 
+-- and than Arrival
+unheard : {P : Type 0} (o : Other) (x : List ℕ) → Else o ≡ Arrival x → P
+unheard o x p = absurd (let z : _≡_ {A = ℕ} 0 1 = cc in omega arith)
+
 module _ (e : End) (f : SoundState e) where
   pub request-written : (name : Name) (q : Request) → keptUnder e name .slot ≡ Waiting q → Written (requestMessage (momentOf e) name)
   request-written name q p =
@@ -140,28 +149,38 @@ module _ (e : End) (f : SoundState e) where
   send-right cue long fits l =
       let y = dataMessage (momentOf e) (ownName e) cue in
       out-right e (Send cue) y _ (written y refl (data-passes e f cue l fits) (some long none)) refl refl
-      (λ c p. let same : cue ≡ c = cc in (refl, refl, same)) (λ q. absurd (omega arith)) (λ q. absurd (omega arith))
+      (λ c p. let same : cue ≡ c = cc in (refl, refl, same)) (λ x p. let z : _≡_ {A = ℕ} 0 1 = cc in absurd (omega arith))
+      (λ q. absurd (omega arith)) (λ q. absurd (omega arith))
 
   fire-right : (us : List ℕ) (name : Name) (x : Slot) → keptUnder e name .slot ≡ x → Right e (Else Fire) (fireAt us name e x)
   unfolding fireAt
   fire-right us name Empty p = silent-right e (Else Fire) (give Nothing e) refl
   fire-right us name (Waiting q) p =
-      out-right e (Else Fire) (requestMessage (momentOf e) name) _ (request-written name q p) refl refl (λ c u. unsent Fire c u) (λ _. ap isHeld p) (λ k. absurd (omega arith))
+      out-right e (Else Fire) (requestMessage (momentOf e) name) _ (request-written name q p) refl refl (λ c u. unsent Fire c u) (λ x u. unheard Fire x u)
+      (λ _. ap isHeld p) (λ k. absurd (omega arith))
   fire-right us name (Held No) p = silent-right e (Else Fire) (give Nothing e) refl
   fire-right us name (Held (Due due k)) p =
       out-right e (Else Fire) (repairMessage (momentOf e) name k (keptUnder e name .cue)) _ (repair-written name due k p) refl refl
-      (λ c u. unsent Fire c u) (λ q. absurd (omega arith)) (λ _. (ap isHeld p, refl))
+      (λ c u. unsent Fire c u) (λ x u. unheard Fire x u) (λ q. absurd (omega arith)) (λ _. (ap isHeld p, refl))
 
   fired-right : (us : List ℕ) (x : Earliest) → Right e (Else Fire) (fired us e x)
   unfolding fired
   fired-right us NoWait = silent-right e (Else Fire) (give Nothing e) refl
   fired-right us (First w) = fire-right us (w .name) (keptUnder e (w .name) .slot) refl
 
+  -- Report, and a probe that arrives
+  report-right : (a : Action) → ((cue : List ℕ) → a ≡ Send cue → ⊥) → ((x : List ℕ) → a ≡ Arrival x → x ≡ []) → (us : List ℕ) → Right e a (otherOf us Report e)
+  report-right a no-send probe us =
+      out-right e a (sessionMessage e) e (written (sessionMessage e) (session-counts e f) (session-passes e f) none) refl refl
+      (λ c p. absurd (no-send c p)) (λ x p. (probe x p, refl)) (λ q. absurd (omega arith)) (λ q. absurd (omega arith))
+
   other-right : (us : List ℕ) (o : Other) → Right e (Else o) (otherOf us o e)
   other-right us Fire = fired-right us (earliest e 8)
-  other-right us Report =
-      out-right e (Else Report) (sessionMessage e) e (written (sessionMessage e) (session-counts e f) (session-passes e f) none) refl refl
-      (λ c p. unsent Report c p) (λ q. absurd (omega arith)) (λ q. absurd (omega arith))
+  other-right us Report = report-right (Else Report) (λ c p. unsent Report c p) (λ x p. unheard Report x p) us
+
+  probe-right : (us : List ℕ) → Right e (Arrival []) (otherOf us Report e)
+  probe-right =
+      report-right (Arrival []) (λ c p. let z : _≡_ {A = ℕ} 0 1 = cc in omega arith) (λ x p. let same : [] ≡ x = cc in sym same)
 
 -- ---- every event
 module _ (us : List ℕ) (e : End) (t : ℕ) (f : SoundState (withClock e t)) where
@@ -177,12 +196,22 @@ module _ (us : List ℕ) (e : End) (t : ℕ) (f : SoundState (withClock e t)) wh
   unfolding actOf now
   act-right (Moves m) array own = silent-right now (Moves m) _ (move-silent m now)
   act-right (Send cue) array own = let asked = send-asked cue e own in joined (Send cue) _ (λ m. send-right now f cue array (asked .0) (asked .1 m))
-  act-right (Arrival x) array own = joined (Arrival x) _ (λ _. silent-right now (Arrival x) _ (arrival-silent us (meaningFrom x) now))
+  act-right (Arrival []) array own = joined (Arrival []) _ (λ _. probe-right now f us)
+  act-right (Arrival (b ∷ s)) array own =
+      joined (Arrival (b ∷ s)) _ (λ _. silent-right now (Arrival (b ∷ s)) _ (arrival-silent us (meaningFrom (b ∷ s)) now))
   act-right (Else o) array own = joined (Else o) _ (λ _. other-right now f us o)
 
 -- the clock is no part of what is kept under a name
 before-clock : (e : End) (a : Action) (t : ℕ) (x : List ℕ) → RightOut (withClock e t) a t x → RightOut e a t x
-before-clock e a t x r = record { accepted = r .accepted; sender = r .sender; stamp = r .stamp; sent = r .sent; lacks = r .lacks; holds = r .holds }
+before-clock e a t x r = record {
+  accepted = r .accepted;
+  sender = r .sender;
+  stamp = r .stamp;
+  sent = r .sent;
+  probed = r .probed;
+  lacks = r .lacks;
+  holds = r .holds;
+}
 
 pub goes-out-right : GoesOutRight
 unfolding eventOf stepOf Right

@@ -17,7 +17,7 @@ use Rattle.message.specs.Cue.{cueIn}
 use Rattle.message.specs.Section.{all, entries, sectionFrom}
 use Rattle.message.specs.Entry.{cueOf, blankName, blankCue}
 use Rattle.message.specs.Message.{DATA, RQST, numberWidth, Meaning, meaningFrom, meaningWith, countsOf, fromCues}
-use Rattle.message.specs.Question.{ask, kindHasCounts, inRange, hostsFit, hostIn, numberIn, ticksIn, nameIn, reportIn, hostFits, sameHost, readRefusal}
+use Rattle.message.specs.Question.{ask, firstNo, messageQuestions, kindHasCounts, inRange, hostsFit, hostIn, numberIn, ticksIn, nameIn, reportIn, hostFits, sameHost}
 use Rattle.message.proofs.QuestionLaws.{and-both, all-passed, counted}
 use Rattle.message.proofs.LayoutLaws.{atCues, cues-at, cues-count}
 use Rattle.roundtrip.proofs.RoundTrip.{accepted}
@@ -65,7 +65,7 @@ asker sender (a ∷ l) n h =
     let parts = and-both (sameHost (a .host) sender) (not (sameHost (a .host) (a .name .source))) both in
     ap (λ (k : ℕ). eqb k (a .name .source .0)) (sym (eqb-true (a .host .0) (sender .0) (parts .0))) ∙ not-true (sameHost (a .host) (a .name .source)) (parts .1)
 
-module _ (x : List ℕ) (h : readRefusal x ≡ 0) where
+module _ (x : List ℕ) (h : firstNo (messageQuestions x) ≡ 0) where
   long : length (messageCue (meaningFrom x)) ≡ 24
   unfolding meaningWith sectionFrom
   long =

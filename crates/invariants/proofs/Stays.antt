@@ -10,7 +10,7 @@ use borrow.Author.Tests.{eqb-true, ltb-true}
 use Rattle.message.specs.declared.Host.{Host}
 use Rattle.message.specs.Entry.{asHost}
 use Rattle.message.specs.Message.{DATA, RQST, REPL, meaningFrom}
-use Rattle.message.specs.Question.{ask, firstNo, hostIn, readRefusal, sameHost}
+use Rattle.message.specs.Question.{ask, firstNo, hostIn, messageQuestions, sameHost}
 use Rattle.message.proofs.QuestionLaws.{and-both, all-passed}
 use Rattle.end.specs.declared.Params.{Params}
 use Rattle.end.specs.declared.Status.the-variants.{Idle, Crashed}
@@ -68,7 +68,7 @@ kindOf Rqst = RQST
 kindOf Repl = REPL
 
 module _ (e : End) (f : SoundState e) (us : List ℕ) (drawn : Drawn us) (member : isMember (e .status) ≡ true) where
-  module _ (x : List ℕ) (read : readRefusal x ≡ 0) (other : sameHost (meaningFrom x .sender) (e .host) ≡ false) where
+  module _ (x : List ℕ) (read : firstNo (messageQuestions x) ≡ 0) (other : sameHost (meaningFrom x .sender) (e .host) ≡ false) where
     original : (says : Says) → eqb (meaningFrom x .kind) (kindOf says) ≡ true → says ≡ Data → sameHost (messageName (meaningFrom x) .source) (e .host) ≡ false
     original Data k p = ap (λ (i : ℕ). eqb i (e .host .0)) (sym (data-source x read k)) ∙ other
     original Rqst k p = clash′ (ap isData p)
@@ -110,7 +110,7 @@ module _ (e : End) (f : SoundState e) (us : List ℕ) (drawn : Drawn us) (member
         (λ _. byCond Leaves (eqb (m .kind) REPL) (word-kept Repl)
         (λ _. session-kept us drawn m (v .sender) (v .stamp) e f member other (v .reports))))
 
-  arrival-kept : (x : List ℕ) → readRefusal x ≡ 0 → Leaves (arrivalOf us (meaningFrom x) e)
+  arrival-kept : (x : List ℕ) → firstNo (messageQuestions x) ≡ 0 → Leaves (arrivalOf us (meaningFrom x) e)
   unfolding arrivalOf
   arrival-kept x read = byCond Leaves (sameHost (meaningFrom x .sender) (e .host)) (λ _. f) (message-kept x read)
 
@@ -121,12 +121,14 @@ module _ (e : End) (f : SoundState e) (us : List ℕ) (drawn : Drawn us) (member
 -- ---- every event
 act-kept : (us : List ℕ) → Drawn us → (a : Action) (e : End) (t : ℕ) → SoundState (withClock e t) → CueArray a → firstNo (ownQuestions a e) ≡ 0
     → Leaves (actOf us a (withClock e t))
-unfolding actOf readRefusal
+unfolding actOf
 act-kept us drawn (Moves m) e t f array own = move-kept m (withClock e t) f
 act-kept us drawn (Send cue) e t f array own =
     let asked = send-asked cue e own in
     byCond Leaves (isMember (e .status)) (λ m. send-kept cue (withClock e t) array (asked .0) f m (asked .1 m)) (λ _. f)
-act-kept us drawn (Arrival x) e t f array own = byCond Leaves (isMember (e .status)) (λ m. arrival-kept (withClock e t) f us drawn m x own) (λ _. f)
+act-kept us drawn (Arrival []) e t f array own = byCond Leaves (isMember (e .status)) (λ m. other-kept (withClock e t) f us drawn m Report) (λ _. f)
+act-kept us drawn (Arrival (b ∷ s)) e t f array own =
+    byCond Leaves (isMember (e .status)) (λ m. arrival-kept (withClock e t) f us drawn m (b ∷ s) own) (λ _. f)
 act-kept us drawn (Else o) e t f array own = byCond Leaves (isMember (e .status)) (λ m. other-kept (withClock e t) f us drawn m o) (λ _. f)
 
 pub stays-sound : StaysSound

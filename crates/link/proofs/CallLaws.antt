@@ -20,7 +20,7 @@ use Rattle.end.specs.Event.{Action, actionOf, moves, movedEnd, moveOf, actOf, s
 use Rattle.end.proofs.Tools.{clash, clash′}
 use Rattle.link.specs.Promise.{outcomeValues, Promised}
 use Rattle.link.specs.Frame.{readingFor, takes, acted, untakenFor, Acting}
-use Rattle.link.proofs.GivenLaws.{acts, rests, passed, acting}
+use Rattle.link.proofs.GivenLaws.{countsAs, acts, rests, passed, acting}
 
 -- a move writes nothing
 pub move-quiet : (m : Move) (e : End) (out : List ℕ) → out ≡ bufferOf (Did (moveOf m e .effect)) out
@@ -55,6 +55,10 @@ values (Did (Clash name)) = refl
 module _ (e : End) (what : Event) (cue bytes : List ℕ) (clock : ℕ) (draws out : List ℕ) where
   abbrev This : Action
   This = actionOf what cue bytes
+
+  -- the event that it counts as
+  abbrev pub As : Event
+  As = countsAs what bytes
 
   abbrev pub Asked : ℕ
   Asked = questionOf e This clock (length out) (length draws)
@@ -110,23 +114,23 @@ module _ (e : End) (what : Event) (cue bytes : List ℕ) (clock : ℕ) (draws ou
   quiet false q = refl
 
   -- the call is not taken
-  pub untaken : (q : ℕ) (r : Stepped) → q ≡ Asked → sets q && takes what (e .status) ≡ false
+  pub untaken : (q : ℕ) (r : Stepped) → q ≡ Asked → sets q && takes As (e .status) ≡ false
       → r ≡ record { answer = answerOf (untakenFor q); end = withClock e (cond (sets q) clock (e .clock)) } → Promise r out
   untaken q r h n p =
       promised (record { outcome = untakenFor q; left = withClock e (cond (sets q) clock (e .clock)) }) r out
-      (called q h ∙ resting (eqb q 0) (isCrashed (e .status)) (takes what (e .status)) q (actOf draws This (withClock e clock)) n (rests draws what cue bytes (withClock e clock)))
+      (called q h ∙ resting (eqb q 0) (isCrashed (e .status)) (takes As (e .status)) q (actOf draws This (withClock e clock)) n (rests draws what cue bytes (withClock e clock)))
       p (quiet (eqb q 0) q)
 
   -- a call that is taken was not refused, and the end is not crashed
   pub record Taken (q : ℕ) : Type 0 where
     pub unrefused : q ≡ 0
     pub clocked : withClock e (cond (sets q) clock (e .clock)) ≡ withClock e clock
-    pub takes-it : takes what (e .status) ≡ true
+    pub takes-it : takes As (e .status) ≡ true
     pub does : (step : Step) → byNumber q (isCrashed (e .status)) step ≡ done step
 
-  pub taken : (q : ℕ) → sets q && takes what (e .status) ≡ true → Taken q
+  pub taken : (q : ℕ) → sets q && takes As (e .status) ≡ true → Taken q
   taken q h =
-      let w = go (eqb q 0) (isCrashed (e .status)) (takes what (e .status)) h in
+      let w = go (eqb q 0) (isCrashed (e .status)) (takes As (e .status)) h in
       record { unrefused = eqb-true q 0 (w .0); clocked = rw (w .0, w .1 .0); takes-it = w .1 .1; does = λ step. rw (w .0, w .1 .0) }
     where
       go : (t x m : Bool) → (t && not x) && m ≡ true → (t ≡ true) × ((x ≡ false) × (m ≡ true))
@@ -136,26 +140,31 @@ module _ (e : End) (what : Event) (cue bytes : List ℕ) (clock : ℕ) (draws ou
       go false x m h = clash′ h
 
   pub taken-gives : (q : ℕ) (message : Message) (r : Stepped) (last : List ℕ) → q ≡ Asked → Taken q → message ≡ readingFor what bytes .message
-      → r ≡ calledOf (done (acted draws what cue (meaningOf message) (withClock e clock)))
-      → last ≡ bufferOf (Did (acted draws what cue (meaningOf message) (withClock e clock) .effect)) out → Promise r last
+      → r ≡ calledOf (done (acted draws As cue (meaningOf message) (withClock e clock)))
+      → last ≡ bufferOf (Did (acted draws As cue (meaningOf message) (withClock e clock) .effect)) out → Promise r last
   taken-gives q message r last h t p g l =
       let own = passed e This clock (length out) (length draws) (sym h ∙ t .unrefused) .own in
-      promised (done (acted draws what cue (meaningOf message) (withClock e clock))) r last
+      promised (done (acted draws As cue (meaningOf message) (withClock e clock))) r last
       (called q h ∙ t .does (actOf draws This (withClock e clock)) ∙ ap done (acts e clock cue bytes message draws what p own (t .takes-it))) g l
 
   -- what the code has found before it looks whether the call is taken
-  pub record Framed (q : ℕ) (crashed takes-it : Bool) (t : ℕ) (x : End) (answer : Answer) (message : Message) : Type 0 where
+  pub record Framed (q : ℕ) (taken : Event) (crashed takes-it : Bool) (t : ℕ) (x : End) (answer : Answer) (message : Message) : Type 0 where
     pub asked : q ≡ Asked
     pub status : crashed ≡ isCrashed (e .status)
-    pub test : takes-it ≡ takes what (e .status)
+    pub counts : taken ≡ As
+    pub test : takes-it ≡ takes taken (e .status)
     pub time : t ≡ cond (eqb q 0 && not crashed) clock (e .clock)
     pub ended : x ≡ withClock e t
     pub rest : answer ≡ answerOf (untakenFor q)
     pub read : message ≡ readingFor what bytes .message
 
-  module _ {q : ℕ} {crashed m : Bool} {t : ℕ} {x : End} {answer : Answer} {message : Message} (f : Framed q crashed m t x answer message) where
-    the-test : ((eqb q 0 && not crashed) && m) ≡ (sets q && takes what (e .status))
-    the-test = λ i. (eqb q 0 && not (f .status i)) && f .test i
+  module _ {q : ℕ} {took : Event} {crashed m : Bool} {t : ℕ} {x : End} {answer : Answer} {message : Message}
+      (f : Framed q took crashed m t x answer message) where
+    takes-as : m ≡ takes As (e .status)
+    takes-as = f .test ∙ ap (λ (ev : Event). takes ev (e .status)) (f .counts)
+
+    the-test : ((eqb q 0 && not crashed) && m) ≡ (sets q && takes As (e .status))
+    the-test = λ i. (eqb q 0 && not (f .status i)) && takes-as i
 
     end-is : x ≡ withClock e (cond (sets q) clock (e .clock))
     end-is = f .ended ∙ ap (withClock e) (f .time ∙ ap (λ (b : Bool). cond (eqb q 0 && not b) clock (e .clock)) (f .status))
@@ -170,14 +179,17 @@ module _ (e : End) (what : Event) (cue bytes : List ℕ) (clock : ℕ) (draws ou
     pub end-taken : Taken q → x ≡ withClock e clock
     end-taken w = end-is ∙ w .clocked
 
-    pub frame-acting : Taken q → Acting what x message (length draws) (length out)
+    pub frame-acting : Taken q → Acting took x message (length draws) (length out)
     frame-acting w =
-        subst (λ (y : End). Acting what y message (length draws) (length out)) (sym (end-taken w))
-        (acting e what cue bytes message clock (length out) (length draws) (f .read) (sym (f .asked) ∙ w .unrefused) (w .takes-it))
+        subst (λ (ev : Event). Acting ev x message (length draws) (length out)) (sym (f .counts))
+        (subst (λ (y : End). Acting As y message (length draws) (length out)) (sym (end-taken w))
+        (acting e what cue bytes message clock (length out) (length draws) (f .read) (sym (f .asked) ∙ w .unrefused) (w .takes-it)))
 
-    pub frame-gives : (r : Stepped) (last : List ℕ) → Taken q → r ≡ calledOf (done (acted draws what cue (meaningOf message) x))
-        → last ≡ bufferOf (Did (acted draws what cue (meaningOf message) x .effect)) out → Promise r last
+    pub frame-gives : (r : Stepped) (last : List ℕ) → Taken q → r ≡ calledOf (done (acted draws took cue (meaningOf message) x))
+        → last ≡ bufferOf (Did (acted draws took cue (meaningOf message) x .effect)) out → Promise r last
     frame-gives r last w g l =
+        let same : acted draws took cue (meaningOf message) x ≡ acted draws As cue (meaningOf message) (withClock e clock) =
+        λ i. acted draws (f .counts i) cue (meaningOf message) (end-taken w i) in
         taken-gives q message r last (f .asked) w (f .read)
-        (g ∙ ap (λ (y : End). calledOf (done (acted draws what cue (meaningOf message) y))) (end-taken w))
-        (l ∙ ap (λ (y : End). bufferOf (Did (acted draws what cue (meaningOf message) y .effect)) out) (end-taken w))
+        (g ∙ ap (λ (s : Step). calledOf (done s)) same)
+        (l ∙ ap (λ (s : Step). bufferOf (Did (s .effect)) out) same)

@@ -1,6 +1,6 @@
 -- What an event that is taken is given: the questions answered yes, and the reader's message, whose meaning is that of the bytes.
-use mathlib.Core.Path.{_≡_, refl, sym, ap, _∙_}
-use Prim.Native.Nat.{ℕ, _≤_}
+use mathlib.Core.Path.{_≡_, refl, sym, ap, subst, _∙_}
+use Prim.Native.Nat.{ℕ, zero, suc, _≤_}
 use native.Mathlib.Omega.{arith}
 use mathlib.Core.Bool.{Bool, true, false, cond, not, _&&_, _||_}
 use mathlib.Core.List.{List, [], _∷_}
@@ -10,7 +10,7 @@ use borrow.Author.Tests.{eqb-true, leb-true, ltb-true}
 use Rattle.message.specs.declared.Message.{Message}
 use Rattle.message.specs.Cue.{cueIn}
 use Rattle.message.specs.Message.{Meaning, meaningOf, heldAs, meaningWith, meaningFrom, countsOf, sizeFrom}
-use Rattle.message.specs.Question.{ask, firstNo, ticksIn, kindHasCounts, inRange, hostsFit, meaningQuestions, readRefusal, messageFor, readOf}
+use Rattle.message.specs.Question.{ask, firstNo, verdictFor, refusalOf, ticksIn, kindHasCounts, inRange, hostsFit, messageQuestions, meaningQuestions, readQuestions, readRefusal, messageFor, readOf}
 use Rattle.message.proofs.QuestionLaws.{all-passed, counts-small, number-of-verdict}
 use Rattle.message.proofs.LayoutLaws.{held-back}
 use Rattle.end.specs.declared.Event.{Event}
@@ -20,18 +20,23 @@ use Rattle.end.specs.State.{isMember, withClock}
 use Rattle.end.specs.Sound.{soundOf}
 use Rattle.end.specs.Answer.{Step, give, Ignored}
 use Rattle.end.specs.Arrival.{arrivalOf}
+use Rattle.end.specs.Event as rules
 use Rattle.end.specs.Event.{Action, actionOf, actOf, ifMember, ownQuestions, questionOf}
 use Rattle.state.specs.Settled.{Settled}
 use Rattle.state.proofs.Settled.{settled}
 use Rattle.questions.specs.Read.{ReadAs}
-use Rattle.link.specs.Frame.{readingFor, takes, acted, Passing, OwnGiven, Acting}
+use Rattle.link.specs.Frame.{readingFor, isProbe, takenAs, takes, acted, Passing, OwnGiven, Acting}
 
 -- ---- the reading
+read-number : (bytes : List ℕ) → refusalOf (readOf bytes .verdict) ≡ readRefusal bytes
+unfolding readOf readRefusal
+read-number [] = refl
+read-number (b ∷ s) = number-of-verdict (readRefusal (b ∷ s))
+
 pub read-verdict : (what : Event) (bytes : List ℕ) → ReadAs what (readingFor what bytes .verdict) bytes
-unfolding readOf
 read-verdict (Moves m) bytes = tt
 read-verdict Send bytes = tt
-read-verdict Arrival bytes = number-of-verdict (readRefusal bytes)
+read-verdict Arrival bytes = read-number bytes
 read-verdict Fire bytes = tt
 read-verdict Report bytes = tt
 
@@ -40,8 +45,8 @@ pub record Heard (s : List ℕ) (m : Message) : Type 0 where
   pub passing : Passing m
   pub means : meaningOf m ≡ meaningFrom s
 
-held-as : (s : List ℕ) → readRefusal s ≡ 0 → Heard s (heldAs (meaningFrom s))
-unfolding readRefusal meaningWith
+held-as : (s : List ℕ) → firstNo (messageQuestions s) ≡ 0 → Heard s (heldAs (meaningFrom s))
+unfolding meaningWith
 held-as s h =
     let M : Meaning = meaningFrom s in
     let a8 = all-passed (leb 12 (length s) && eqb (sizeFrom s) (length s)) 8 (ask (kindHasCounts (getD s 0 0) (countsOf M)) 9 ∷ meaningQuestions M) (omega arith) h in
@@ -50,42 +55,81 @@ held-as s h =
     let back : meaningOf (heldAs M) ≡ M = held-back M (counts-small (getD s 0 0) (countsOf M) (a9 .0) .cues) in
     record { passing = record { counts-in = a9 .0; ranges-in = ap inRange back ∙ a10 .0 }; means = back }
 
-pub heard : (s : List ℕ) (m : Message) → m ≡ readOf s .message → readRefusal s ≡ 0 → Heard s m
+pub heard : (b : ℕ) (s : List ℕ) (m : Message) → m ≡ readOf (b ∷ s) .message → firstNo (messageQuestions (b ∷ s)) ≡ 0 → Heard (b ∷ s) m
+unfolding readOf readRefusal
+heard b s m p h = rw (p ∙ ap (λ (k : ℕ). messageFor k (meaningFrom (b ∷ s))) h) (held-as (b ∷ s) h)
+
+-- ---- the event that a call counts as: a probe is a Report, and all else is itself
+abbrev pub countsAs : Event → List ℕ → Event
+countsAs what bytes = takenAs what (isProbe (readingFor what bytes .verdict))
+
+not-probe : (k : ℕ) → isProbe (verdictFor k) ≡ false
+not-probe zero = refl
+not-probe (suc k) = refl
+
+message-arrives : (b : ℕ) (s : List ℕ) → countsAs Arrival (b ∷ s) ≡ Arrival
 unfolding readOf
-heard s m p h = rw (p ∙ ap (λ (k : ℕ). messageFor k (meaningFrom s)) h) (held-as s h)
+message-arrives b s = ap (takenAs Arrival) (not-probe (readRefusal (b ∷ s)))
 
 -- ---- an event's own questions
+member-acts : (x : End) (step : Step) → isMember (x .status) ≡ true → ifMember x step ≡ step
+member-acts x step t = ap (λ (b : Bool). cond b step (give Ignored x)) t
+
+-- of an arrival
+arrival-acts : {message : Message} (us cue : List ℕ) (x : End) (bytes : List ℕ) → message ≡ readOf bytes .message → firstNo (readQuestions bytes) ≡ 0
+    → takes (countsAs Arrival bytes) (x .status) ≡ true
+    → actOf us (rules.Arrival bytes) x ≡ acted us (countsAs Arrival bytes) cue (meaningOf message) x
+unfolding actOf readOf
+arrival-acts us cue x [] p h t = member-acts x _ t
+arrival-acts {message} us cue x (b ∷ s) p h t =
+    let heard-as : countsAs Arrival (b ∷ s) ≡ Arrival = message-arrives b s in
+    member-acts x _ (sym (ap (λ (what : Event). takes what (x .status)) heard-as) ∙ t)
+    ∙ ap (λ (M : Meaning). arrivalOf us M x) (sym (heard b s message p h .means))
+    ∙ sym (ap (λ (what : Event). acted us what cue (meaningOf message) x) heard-as)
+
+arrival-rests : (us bytes : List ℕ) (x : End) → takes (countsAs Arrival bytes) (x .status) ≡ false → actOf us (rules.Arrival bytes) x ≡ give Ignored x
+unfolding actOf readOf
+arrival-rests us [] x t = rw t
+arrival-rests us (b ∷ s) x t =
+    let aside : isMember (x .status) ≡ false = sym (ap (λ (what : Event). takes what (x .status)) (message-arrives b s)) ∙ t in
+    rw aside
+
+arrival-given : {message : Message} (e : End) (bytes : List ℕ) → message ≡ readOf bytes .message → firstNo (readQuestions bytes) ≡ 0
+    → OwnGiven (countsAs Arrival bytes) e message
+unfolding readOf
+arrival-given e [] p h = tt
+arrival-given {message} e (b ∷ s) p h =
+    subst (λ (what : Event). OwnGiven what e message) (sym (message-arrives b s)) (heard b s message p h .passing)
+
 module _ (e : End) (clock : ℕ) (cue bytes : List ℕ) (message : Message) where
-  pub own-given : (what : Event) → message ≡ readingFor what bytes .message → firstNo (ownQuestions (actionOf what cue bytes) e) ≡ 0 → takes what (e .status) ≡ true
-      → OwnGiven what (withClock e clock) message
-  unfolding readRefusal
+  pub own-given : (what : Event) → message ≡ readingFor what bytes .message → firstNo (ownQuestions (actionOf what cue bytes) e) ≡ 0
+      → takes (countsAs what bytes) (e .status) ≡ true → OwnGiven (countsAs what bytes) (withClock e clock) message
   own-given (Moves m) p h t = tt
   own-given Send p h t =
       let a6 = all-passed (cueIn cue) 6 (ask (not (isMember (e .status)) || ltb (e .next) 64) 7 ∷ []) (omega arith) h in
       let a7 = all-passed (not (isMember (e .status)) || ltb (e .next) 64) 7 [] (omega arith) (a6 .1) in
       ltb-true (e .next) 64 (sym (ap (λ (b : Bool). not b || ltb (e .next) 64) t) ∙ a7 .0)
-  own-given Arrival p h t = heard bytes message p h .passing
+  own-given Arrival p h t = arrival-given (withClock e clock) bytes p h
   own-given Fire p h t = tt
   own-given Report p h t = tt
 
-  member-acts : (x : End) (step : Step) → isMember (x .status) ≡ true → ifMember x step ≡ step
-  member-acts x step t = ap (λ (b : Bool). cond b step (give Ignored x)) t
-
   -- what the rules do where the event is taken, and where it is not
-  pub acts : (us : List ℕ) (what : Event) → message ≡ readingFor what bytes .message → firstNo (ownQuestions (actionOf what cue bytes) e) ≡ 0 → takes what (e .status) ≡ true
-      → actOf us (actionOf what cue bytes) (withClock e clock) ≡ acted us what cue (meaningOf message) (withClock e clock)
-  unfolding actOf readRefusal
+  pub acts : (us : List ℕ) (what : Event) → message ≡ readingFor what bytes .message → firstNo (ownQuestions (actionOf what cue bytes) e) ≡ 0
+      → takes (countsAs what bytes) (e .status) ≡ true
+      → actOf us (actionOf what cue bytes) (withClock e clock) ≡ acted us (countsAs what bytes) cue (meaningOf message) (withClock e clock)
+  unfolding actOf
   acts us (Moves m) p h t = refl
   acts us Send p h t = member-acts (withClock e clock) _ t
-  acts us Arrival p h t = member-acts (withClock e clock) _ t ∙ ap (λ (M : Meaning). arrivalOf us M (withClock e clock)) (sym (heard bytes message p h .means))
+  acts us Arrival p h t = arrival-acts us cue (withClock e clock) bytes p h t
   acts us Fire p h t = member-acts (withClock e clock) _ t
   acts us Report p h t = member-acts (withClock e clock) _ t
 
-pub rests : (us : List ℕ) (what : Event) (cue bytes : List ℕ) (x : End) → takes what (x .status) ≡ false → actOf us (actionOf what cue bytes) x ≡ give Ignored x
+pub rests : (us : List ℕ) (what : Event) (cue bytes : List ℕ) (x : End) → takes (countsAs what bytes) (x .status) ≡ false
+    → actOf us (actionOf what cue bytes) x ≡ give Ignored x
 unfolding actOf
 rests us (Moves m) cue bytes x t = cc
 rests us Send cue bytes x t = rw t
-rests us Arrival cue bytes x t = rw t
+rests us Arrival cue bytes x t = arrival-rests us bytes x t
 rests us Fire cue bytes x t = rw t
 rests us Report cue bytes x t = rw t
 
@@ -118,7 +162,8 @@ passed e a clock room draws h =
     }
 
 pub acting : (e : End) (what : Event) (cue bytes : List ℕ) (message : Message) (clock room draws : ℕ) → message ≡ readingFor what bytes .message
-    → questionOf e (actionOf what cue bytes) clock room draws ≡ 0 → takes what (e .status) ≡ true → Acting what (withClock e clock) message draws room
+    → questionOf e (actionOf what cue bytes) clock room draws ≡ 0 → takes (countsAs what bytes) (e .status) ≡ true
+    → Acting (countsAs what bytes) (withClock e clock) message draws room
 acting e what cue bytes message clock room draws p h t =
     let w = passed e (actionOf what cue bytes) clock room draws h in
     record { settled = w .settled-then; draws = w .draws-in; room = w .room-in; own = own-given e clock cue bytes message what p (w .own) t }

@@ -1,13 +1,14 @@
 -- The frame of a call: the reading that goes with an event, which ends take it, and what it does then.
 use mathlib.Core.Path.{_≡_}
 use Prim.Native.Nat.{ℕ, _≤_, _<_}
-use mathlib.Core.Bool.{Bool, true, cond}
+use mathlib.Core.Bool.{Bool, true, false, cond}
 use mathlib.Core.List.{List}
 use lib.Dec.{eqb}
 use Rattle.message.specs.Limit.{numberLimit, roomNeeded}
 use Rattle.message.specs.declared.Message.{Message}
 use Rattle.message.specs.declared.Reading.{Reading}
-use Rattle.message.specs.declared.Verdict.the-variants.{Accepted}
+use Rattle.message.specs.declared.Verdict.{Verdict}
+use Rattle.message.specs.declared.Verdict.the-variants as verdict
 use Rattle.message.specs.Message.{Meaning, meaningOf}
 use Rattle.message.specs.Question.{blankMessage, readOf, kindHasCounts, inRange}
 use Rattle.end.specs.declared.Status.{Status}
@@ -25,7 +26,7 @@ use Rattle.state.specs.Settled.{Settled}
 
 -- what is read where there are no bytes: nothing is refused
 abbrev pub nothingRead : Reading
-nothingRead = record { verdict = Accepted; message = blankMessage }
+nothingRead = record { verdict = verdict.Accepted; message = blankMessage }
 
 -- of an arrival the reader's answer; other events bring no bytes
 abbrev pub readingFor : Event → List ℕ → Reading
@@ -38,6 +39,15 @@ readingFor Report bytes = nothingRead
 -- a reading that some bytes have
 abbrev pub Brought : Event → Reading → Type 0
 Brought what reading = (bytes : List ℕ) × (reading ≡ readingFor what bytes)
+
+-- document 02, P5: no bytes are "taken by a member as a Report event": the event that a call counts as
+abbrev pub isProbe : Verdict → Bool
+isProbe verdict.Accepted = false
+isProbe verdict.Probe = true
+isProbe (verdict.Refused k) = false
+
+abbrev pub takenAs : Event → Bool → Event
+takenAs what probe = cond probe Report what
 
 -- whether an end that is not crashed takes the event: a move always, the others as a member
 abbrev pub takes : Event → Status → Bool

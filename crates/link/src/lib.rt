@@ -33,7 +33,7 @@ ghost use Rattle.end.specs.State.{withClock};
 ghost use Rattle.end.specs.Why.{refusedAs, because, whyOf, whyRefusal};
 ghost use Rattle.link.specs.Promise.{AnswerIs, Promised};
 ghost use Rattle.link.specs.Reason.{suits, Heard, memberReason, firstReason};
-ghost use Rattle.link.specs.Frame.{nothingRead, readingFor, Brought, takes, acted, untakenFor, Acting};
+ghost use Rattle.link.specs.Frame.{nothingRead, readingFor, Brought, isProbe, takenAs, takes, acted, untakenFor, Acting};
 
 // Opens an end: questions 12 and 13. Refused, it gives host 0's crashed end beside the number.
 pub fn open(me: Host, params: Params) -> Opened
@@ -65,6 +65,24 @@ fn reading_for(what: Event, bytes: &[u8]) -> Reading
         Event::Fire => unread(),
         Event::Report => unread(),
     }
+}
+
+// Only the reader says so, and only of no bytes.
+fn is_probe(verdict: Verdict) -> bool
+    ensures { λ r. ⌜ r ≡ isProbe verdict ⌝ }
+{
+    match verdict {
+        Verdict::Accepted => false,
+        Verdict::Probe => true,
+        Verdict::Refused(_) => false,
+    }
+}
+
+// The event that a call counts as: a probe is a Report.
+fn taken_as(what: Event, probe: bool) -> Event
+    ensures { λ r. ⌜ r ≡ takenAs what probe ⌝ }
+{
+    if probe { Event::Report } else { what }
 }
 
 // Whether an end that is not crashed takes the event.
@@ -140,11 +158,14 @@ fn frame(
     let message = reading.message;
     let q = questions::refusal(e, clock, out.len(), draws.len(), what, cue, verdict);
     let status = e.status;
+    let probe = is_probe(verdict);
+    let taken = taken_as(what, probe);
+    let taking = takes(taken, status);
     let sets = (q == 0) & !state::is_crashed(status);
     let end = state::with_clock(e, clock_after(sets, clock, e.clock));
     let answer = untaken(q);
-    if sets & takes(what, status) {
-        act(end, draws, what, cue, message, out)
+    if sets & taking {
+        act(end, draws, taken, cue, message, out)
     } else {
         Stepped { answer, end }
     }
@@ -299,7 +320,7 @@ pub fn send(e: End, clock: u64, draws: &[Draw], cue: [u8; 24], out: &mut [u8]) -
     frame(e, clock, draws, Event::Send, cue, reading, out)
 }
 
-// Arrival: a member takes a message. After questions 1 to 5 it asks the reader's, 8 to 11.
+// Arrival: a member takes a message, and no bytes as a Report. After questions 1 to 5 it asks the reader's, 8 to 11.
 pub fn arrival(e: End, clock: u64, draws: &[Draw], bytes: &[u8], out: &mut [u8]) -> Stepped
     ensures { λ r. ⌜ r ≡ gives e (Arrival (now (bytes .entry))) clock (now (draws .entry)) (now (out .entry)) ⌝ }
     ensures { λ _. ⌜ now (out .exit) ≡ leaves e (Arrival (now (bytes .entry))) clock (now (draws .entry)) (now (out .entry)) ⌝ }

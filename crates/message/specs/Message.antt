@@ -134,3 +134,23 @@ meaningFrom s = meaningWith (numberWidth (getD s 0 0)) s
 -- how long bytes with these counts must be
 abbrev pub sizeFrom : List ℕ → ℕ
 sizeFrom s = sizeWith (numberWidth (getD s 0 0)) (countsOf (meaningFrom s))
+
+-- ---- A datagram. Document 02, P5: "A message of no bytes": it says "probe", and any other datagram is a message. `A` is what stands for a
+-- message: its meaning, or the struct that the writer is handed.
+pub data Datagram (A : Type 0) : Type 0 where
+  Probe : Datagram A
+  Saying : A → Datagram A
+
+-- what a datagram is written as, and what bytes are read as
+abbrev pub datagramBytes : Datagram Meaning → List ℕ
+datagramBytes Probe = []
+datagramBytes (Saying M) = bytesOf M
+
+abbrev pub datagramFrom : List ℕ → Datagram Meaning
+datagramFrom [] = Probe
+datagramFrom (b ∷ s) = Saying (meaningFrom (b ∷ s))
+
+-- what a datagram says whose message stands in a struct
+abbrev pub saidBy : Datagram Message → Datagram Meaning
+saidBy Probe = Probe
+saidBy (Saying m) = Saying (meaningOf m)

@@ -2,6 +2,7 @@
 use Prim.Native.Nat.{ℕ, zero, suc}
 use mathlib.Core.Bool.{Bool, false, cond, not, _&&_}
 use mathlib.Core.List.{List, [], _∷_, _++_}
+use mathlib.Core.Option.{Option, none, some}
 use lib.ListN.{length, getD, drop}
 use lib.Dec.{ltb, leb, eqb}
 use Rattle.message.specs.Cue.{cueIn}
@@ -9,7 +10,7 @@ use Rattle.message.specs.Section.{all, rises}
 use Rattle.message.specs.Entry.{asHost}
 use Rattle.message.specs.Limit.{hostLimit, numberLimit, ticksLimit, roomNeeded}
 use Rattle.message.specs.Kind.{rowOf}
-use Rattle.message.specs.Message.{Meaning, meaningOf, heldAs, bytesOf, meaningFrom, countsOf, sizeFrom}
+use Rattle.message.specs.Message.{Meaning, Datagram, Probe, Saying, meaningOf, heldAs, meaningFrom, datagramBytes, saidBy, countsOf, sizeFrom}
 use Rattle.message.specs.declared.Host.{Host}
 use Rattle.message.specs.declared.CueNumber.{CueNumber}
 use Rattle.message.specs.declared.NameEntry.{NameEntry}
@@ -21,7 +22,7 @@ use Rattle.message.specs.declared.Row.{Row}
 use Rattle.message.specs.declared.Counts.{Counts}
 use Rattle.message.specs.declared.Message.{Message}
 use Rattle.message.specs.declared.Verdict.{Verdict}
-use Rattle.message.specs.declared.Verdict.the-variants.{Accepted, Refused}
+use Rattle.message.specs.declared.Verdict.the-variants as verdict
 use Rattle.message.specs.declared.Reading.{Reading}
 use Rattle.message.specs.declared.Written.{Written}
 
@@ -42,12 +43,14 @@ firstNo (q ∷ qs) = cond (q .passed) (firstNo qs) (q .number)
 
 -- the verdict of a call by its first no, and document 01's number of a verdict (0: not refused)
 abbrev pub verdictFor : ℕ → Verdict
-verdictFor zero = Accepted
-verdictFor (suc k) = Refused (suc k)
+verdictFor zero = verdict.Accepted
+verdictFor (suc k) = verdict.Refused (suc k)
 
+-- a probe is no refusal: it is told from an accepted message by the verdict itself
 abbrev pub refusalOf : Verdict → ℕ
-refusalOf Accepted = 0
-refusalOf (Refused k) = k
+refusalOf verdict.Accepted = 0
+refusalOf verdict.Probe = 0
+refusalOf (verdict.Refused k) = k
 
 -- ---- 9: "Is the kind 1..4 with its counts?": the table's second column
 
@@ -121,16 +124,21 @@ abbrev pub meaningQuestions : Meaning → List Question
 meaningQuestions M = ask (inRange M) 10 ∷ ask (hostsFit M) 11 ∷ []
 
 -- 8: "Are there 12 bytes or more, and do the counts account for the length exactly?"
-abbrev pub readQuestions : List ℕ → List Question
-readQuestions s =
+abbrev pub messageQuestions : List ℕ → List Question
+messageQuestions s =
     ask (leb 12 (length s) && eqb (sizeFrom s) (length s)) 8
     ∷ ask (kindHasCounts (getD s 0 0) (countsOf (meaningFrom s))) 9
     ∷ meaningQuestions (meaningFrom s)
 
+-- document 02, P5: "Number 8 is from then on for lengths 1 to 11 and counts that miss the length": of no bytes nothing is asked
+abbrev pub readQuestions : List ℕ → List Question
+readQuestions [] = []
+readQuestions (b ∷ s) = messageQuestions (b ∷ s)
+
 unfoldable pub readRefusal : List ℕ → ℕ
 readRefusal s = firstNo (readQuestions s)
 
--- what stands beside a refusal: a message of zeros
+-- what stands beside a refusal and beside a probe: a message of zeros
 abbrev pub blankMessage : Message
 blankMessage = heldAs (record { kind = 0; sender = asHost 0; stamp = 0; names = []; cues = []; reports = []; echoes = [] })
 
@@ -139,33 +147,50 @@ abbrev pub messageFor : ℕ → Meaning → Message
 messageFor zero M = heldAs M
 messageFor (suc k) M = blankMessage
 
+-- P5: "The reader alone answers "probe" for it", as a verdict of its own
 unfoldable pub readOf : List ℕ → Reading
-readOf s = record { verdict = verdictFor (readRefusal s); message = messageFor (readRefusal s) (meaningFrom s) }
+readOf [] = record { verdict = verdict.Probe; message = blankMessage }
+readOf (b ∷ s) =
+    record { verdict = verdictFor (readRefusal (b ∷ s)); message = messageFor (readRefusal (b ∷ s)) (meaningFrom (b ∷ s)) }
+
+-- the datagram that a reading tells of: none where the bytes were refused
+abbrev pub datagramBy : Verdict → Message → Option (Datagram Message)
+datagramBy verdict.Accepted m = some (Saying m)
+datagramBy verdict.Probe m = some Probe
+datagramBy (verdict.Refused k) m = none
+
+abbrev pub datagramIn : Reading → Option (Datagram Message)
+datagramIn r = datagramBy (r .verdict) (r .message)
 
 -- ---- The writer: "The writer has questions 1, 9, 10, 11."
 
 -- "Has the output at least 128 bytes? 1."
+abbrev pub roomQuestion : ℕ → Question
+roomQuestion room = ask (leb roomNeeded room) 1
+
 abbrev pub roomQuestions : Message → ℕ → List Question
-roomQuestions m room = ask (leb roomNeeded room) 1 ∷ ask (kindHasCounts (m .kind) (m .counts)) 9 ∷ meaningQuestions (meaningOf m)
+roomQuestions m room = roomQuestion room ∷ ask (kindHasCounts (m .kind) (m .counts)) 9 ∷ meaningQuestions (meaningOf m)
 
-abbrev pub writeQuestions : Message → List ℕ → List Question
-writeQuestions m out = roomQuestions m (length out)
+-- P5: "the writer writes it for "probe"": 9, 10 and 11 are about a message
+abbrev pub writeQuestions : Datagram Message → List ℕ → List Question
+writeQuestions Probe out = roomQuestion (length out) ∷ []
+writeQuestions (Saying m) out = roomQuestions m (length out)
 
-unfoldable pub writeRefusal : Message → List ℕ → ℕ
-writeRefusal m out = firstNo (writeQuestions m out)
+unfoldable pub writeRefusal : Datagram Message → List ℕ → ℕ
+writeRefusal d out = firstNo (writeQuestions d out)
 
--- the length where the message is accepted, 0 where it is refused
+-- the length where the datagram is accepted, 0 where it is refused
 abbrev pub lengthFor : ℕ → List ℕ → ℕ
 lengthFor zero bytes = length bytes
 lengthFor (suc k) bytes = 0
 
-unfoldable pub writtenOf : Message → List ℕ → Written
-writtenOf m out = record { verdict = verdictFor (writeRefusal m out); len = lengthFor (writeRefusal m out) (bytesOf (meaningOf m)) }
+unfoldable pub writtenOf : Datagram Message → List ℕ → Written
+writtenOf d out = record { verdict = verdictFor (writeRefusal d out); len = lengthFor (writeRefusal d out) (datagramBytes (saidBy d)) }
 
--- the output: the message in its first bytes and every other byte as it was; refused, every byte as it was
+-- the output: the datagram in its first bytes and every other byte as it was; refused, every byte as it was
 abbrev pub outputFor : ℕ → List ℕ → List ℕ → List ℕ
 outputFor zero bytes out = bytes ++ drop (length bytes) out
 outputFor (suc k) bytes out = out
 
-unfoldable pub outputOf : Message → List ℕ → List ℕ
-outputOf m out = outputFor (writeRefusal m out) (bytesOf (meaningOf m)) out
+unfoldable pub outputOf : Datagram Message → List ℕ → List ℕ
+outputOf d out = outputFor (writeRefusal d out) (datagramBytes (saidBy d)) out

@@ -64,13 +64,14 @@ pub struct Message {
     pub echoes: [Echo; 7],
 }
 
-// Whether a call was refused, with document 01's number of the question that was answered no.
+// Whether a call was refused, with document 01's number of the question that was answered no. Probe is the reader's alone: no bytes.
 pub enum Verdict {
     Accepted,
+    Probe,
     Refused(u8),
 }
 
-// What the reader answers: the message, or a refusal beside a message of zeros.
+// What the reader answers: the message, or a probe or a refusal beside a message of zeros.
 pub struct Reading {
     pub verdict: Verdict,
     pub message: Message,

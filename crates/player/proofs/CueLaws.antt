@@ -1,6 +1,6 @@
 -- A cue that an end hands out has its 24 bytes.
 use mathlib.Core.Path.{_≡_, ap, _∙_}
-use mathlib.Core.List.{List}
+use mathlib.Core.List.{List, [], _∷_}
 use Prim.Native.Nat.{ℕ, zero, suc, _-_, _≤_, _<_}
 use native.Mathlib.Omega.{arith}
 use lib.ListN.{length, getD, drop, length-drop}
@@ -10,7 +10,7 @@ use borrow.Author.Tests.{eqb-true}
 use Rattle.message.specs.Section.{entries, sectionFrom}
 use Rattle.message.specs.Entry.{cueOf, blankCue}
 use Rattle.message.specs.Message.{DATA, RQST, REPL, numberWidth, Meaning, meaningWith, meaningFrom, sizeFrom, fromCues}
-use Rattle.message.specs.Question.{readRefusal, sameHost, firstNo}
+use Rattle.message.specs.Question.{messageQuestions, sameHost, firstNo}
 use Rattle.message.specs.declared.Name.{Name}
 use Rattle.message.proofs.LayoutLaws.{cues-at, cues-count, atCues, countsWith}
 use Rattle.roundtrip.proofs.RoundTrip.{accepted}
@@ -42,7 +42,7 @@ unfolding entries
 first-cue zero t h = lit≤ tt
 first-cue (suc n) t h = rw (length-take-le 24 t (h (omega arith))) (lit≤ tt)
 
-cue-read : (s : List ℕ) → readRefusal s ≡ 0 → 24 ≤ length (messageCue (meaningFrom s))
+cue-read : (s : List ℕ) → firstNo (messageQuestions s) ≡ 0 → 24 ≤ length (messageCue (meaningFrom s))
 unfolding meaningWith sectionFrom
 cue-read s h =
     let size : sizeFrom s ≡ length s = accepted s h .size in
@@ -96,12 +96,14 @@ wide-fired us e NoWait = tt
 wide-fired us e (First w) = wide-fire us (w .name) e _
 
 wide-act : (us : List ℕ) (a : Action) (was e : End) → firstNo (ownQuestions a was) ≡ 0 → WideStep (actOf us a e)
-unfolding actOf moveOf arrivalOf readRefusal
+unfolding actOf moveOf arrivalOf
 wide-act us (Moves m) was e h = byCond WideStep (moves m (e .status)) (λ _. tt) (λ _. tt)
 wide-act us (Send cue) was e h = byCond WideStep (isMember (e .status)) (λ _. tt) (λ _. tt)
-wide-act us (Arrival bytes) was e h =
+wide-act us (Arrival []) was e h = byCond WideStep (isMember (e .status)) (λ _. tt) (λ _. tt)
+wide-act us (Arrival (b ∷ s)) was e h =
+    let m = meaningFrom (b ∷ s) in
     byCond WideStep (isMember (e .status))
-    (λ _. byCond WideStep (sameHost (meaningFrom bytes .sender) (e .host)) (λ _. tt) (λ _. wide-message us (meaningFrom bytes) e (cue-read bytes h)))
+    (λ _. byCond WideStep (sameHost (m .sender) (e .host)) (λ _. tt) (λ _. wide-message us m e (cue-read (b ∷ s) h)))
     (λ _. tt)
 wide-act us (Else Fire) was e h = byCond WideStep (isMember (e .status)) (λ _. wide-fired us e (earliest e 8)) (λ _. tt)
 wide-act us (Else Report) was e h = byCond WideStep (isMember (e .status)) (λ _. tt) (λ _. tt)

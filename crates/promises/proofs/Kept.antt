@@ -8,9 +8,9 @@ use Rattle.guarantees.proofs.Choice.{choice-is-earliest, no-choice-none-due}
 use Rattle.guarantees.proofs.Fires.{out-is-earliest, nothing-means-none, none-means-nothing, due-means-out, one-less-due, firing-ends}
 use Rattle.guarantees.proofs.BackOff.{opened-c3-below-c1, opened-firing-ends, rounds-rise, set-or-kept, quiet-ignores, once-per-quiet, always-due, rounds-through, always-set, quiet-before-due, one-round-per-quiet}
 use Rattle.guarantees.proofs.Slots.{host-and-params-stay, slots-may-become, waits-until-held, held-until-cleared}
-use Rattle.guarantees.proofs.Arrivals.{refused-changes-nothing, arrival-keeps-status-and-next, held-stays, untouched-stays, other-sources-stay, slots-as-heard, held-is-carried, replies-as-heard, reply-quiet-stays, spans-as-heard, distances-stay}
+use Rattle.guarantees.proofs.Arrivals.{probe-is-report, probes-answered, refused-changes-nothing, arrival-keeps-status-and-next, held-stays, untouched-stays, other-sources-stay, slots-as-heard, held-is-carried, replies-as-heard, reply-quiet-stays, spans-as-heard, distances-stay}
 use Rattle.guarantees.proofs.Clashes.{other-bytes-clash, clash-means}
-use Rattle.roundtrip.proofs.RoundTrip.{reads-back, very-bytes, rewritten, at-most-119}
+use Rattle.roundtrip.proofs.RoundTrip.{reads-back, very-bytes, rewritten, at-most-119, probe-is-empty, only-probe-is-empty}
 use Rattle.numbers.proofs.NumberLaws.{value-digits, digits-value}
 use Rattle.numbers.proofs.SignedLaws.{signed-back, two-bytes-back}
 use Rattle.message.proofs.CueLaws.{cue-fields-back}
@@ -21,7 +21,7 @@ use Rattle.end.proofs.Service.Unclashed.{never-clashes}
 use Rattle.end.proofs.Reasons.{ignored-for-the-first-reason}
 use Rattle.end.proofs.ReasonLaws.{reason-is-first, number-exactly, reason-exactly, none-exactly}
 use Rattle.cases.proofs.Shown.{service-shown, never-returns-clash}
-use Rattle.cases.proofs.Cases.{cases-hold, answers-hold, moves-hold, wire-holds, timed-hold, half-trips-hold, reasons-hold, stage-holds, quiet-holds, clashes-hold}
+use Rattle.cases.proofs.Cases.{cases-hold, answers-hold, moves-hold, wire-holds, timed-hold, half-trips-hold, reasons-hold, stage-holds, quiet-holds, clashes-hold, probe-holds}
 use Rattle.promises.specs.Promises.{Promises}
 
 pub promises : Promises
@@ -36,6 +36,8 @@ promises = record {
     very-bytes = very-bytes;
     rewritten = rewritten;
     at-most-119 = at-most-119;
+    probe-is-empty = probe-is-empty;
+    only-probe-is-empty = only-probe-is-empty;
   };
   service = record { runs = service; shown = service-shown; never-clashes = never-clashes; never-returns-clash = never-returns-clash };
   states = record {
@@ -63,6 +65,8 @@ promises = record {
     opened-firing-ends = opened-firing-ends;
   };
   arrivals = record {
+    probe-is-report = probe-is-report;
+    probes-answered = probes-answered;
     refused-changes-nothing = refused-changes-nothing;
     arrival-keeps-status-and-next = arrival-keeps-status-and-next;
     held-stays = held-stays;
@@ -100,5 +104,17 @@ promises = record {
   };
   first-reason = ignored-for-the-first-reason;
   reasons = record { reason-is-first = reason-is-first; number-exactly = number-exactly; reason-exactly = reason-exactly; none-exactly = none-exactly };
-  cases = record { starred = cases-hold; answers = answers-hold; moves = moves-hold; wire = wire-holds; timed = timed-hold; half-trips = half-trips-hold; reasons = reasons-hold; stage = stage-holds; quiet = quiet-holds; clashes = clashes-hold };
+  cases = record {
+    starred = cases-hold;
+    answers = answers-hold;
+    moves = moves-hold;
+    wire = wire-holds;
+    timed = timed-hold;
+    half-trips = half-trips-hold;
+    reasons = reasons-hold;
+    stage = stage-holds;
+    quiet = quiet-holds;
+    clashes = clashes-hold;
+    probe = probe-holds;
+  };
 }

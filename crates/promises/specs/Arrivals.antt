@@ -19,14 +19,19 @@ use Rattle.end.specs.Round.{quietAfterReply}
 use Rattle.end.specs.Answer.{Clash, Refused, Did, Result, bufferOf}
 use Rattle.end.specs.Decide.{sameCue}
 use Rattle.end.specs.Arrival.{messageName, messageHost, messageCue}
-use Rattle.end.specs.Event.{Action, Arrival, questionOf, eventOf}
+use Rattle.end.specs.Event.{Action, Arrival, Else, Report as Reporting, questionOf, eventOf}
 use Rattle.end.specs.Clashes.{Clashing}
 use Rattle.guarantees.specs.Calls.{momentAt}
 use Rattle.guarantees.specs.Records.{recordOf, slotOf, HeardAs, ReplyAs}
-use Rattle.guarantees.specs.Arrivals.{hear, SameEnd, isAbout, repairs, risen, reportedUp, hasName, touches, SpanAs, isDataOf, isSessionOf}
+use Rattle.guarantees.specs.Arrivals.{hear, ProbeTaken, SameEnd, isAbout, repairs, risen, reportedUp, hasName, touches, SpanAs, isDataOf, isSessionOf}
 use Rattle.guarantees.specs.Clashes.{WasClash}
 
 pub record ArrivalsKept : Type 0 where
+  -- A probe is a Report: the same answer, the same bytes, the same state, refused or not, whatever the state and the arguments.
+  pub probe-is-report : (e : End) (clock room : ℕ) (draws : List ℕ) → hear e [] clock room draws ≡ eventOf e (Else Reporting) clock room draws
+  -- A probe that is not refused is answered by a member with its session message at the call's clock, in any other status Ignored.
+  pub probes-answered : (e : End) (clock room : ℕ) (draws : List ℕ) → questionOf e (Arrival []) clock room (length draws) ≡ 0
+      → ProbeTaken e clock room draws
   -- A refused call, of any event, changes nothing at all, neither the end nor the output.
   pub refused-changes-nothing : (e : End) (a : Action) (clock room : ℕ) (draws : List ℕ) (k : ℕ) → eventOf e a clock room draws .outcome ≡ Refused k
       → (eventOf e a clock room draws .left ≡ e) × ((out : List ℕ) → bufferOf (eventOf e a clock room draws .outcome) out ≡ out)

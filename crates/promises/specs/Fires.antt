@@ -6,7 +6,6 @@ use Prim.Native.Nat.{ℕ, _+_, _≤_, _<_}
 use lib.ListN.{length}
 use Rattle.message.specs.declared.Host.{Host}
 use Rattle.message.specs.Message.{RQST, REPL, meaningFrom}
-use Rattle.message.specs.Question.{readRefusal}
 use Rattle.end.specs.declared.Params.{Params}
 use Rattle.end.specs.declared.Slot.the-variants.{Held}
 use Rattle.end.specs.declared.Reply.the-variants.{Due}

@@ -21,6 +21,7 @@ use Rattle.cases.specs.Reasons.{reasonRows}
 use Rattle.cases.specs.Stage.{stageRows}
 use Rattle.cases.specs.Quiet.{quietRows}
 use Rattle.cases.specs.Clashes.{clashRows}
+use Rattle.cases.specs.Probe.{probeRows}
 use Rattle.promises.specs.Wire.{WireKept}
 use Rattle.promises.specs.Service.{ServiceKept}
 use Rattle.promises.specs.States.{StatesKept}
@@ -30,7 +31,7 @@ use Rattle.promises.specs.BackOff.{BackOffKept}
 use Rattle.promises.specs.Reasons.{ReasonsKept}
 
 -- document 01's cases and what else is pinned by computed rows: the answers one by one, the 25 moves by status, messages as bytes, times, a run by answers and
--- buffers, reply-quiet times, clashes
+-- buffers, reply-quiet times, clashes, the probe
 pub record CasesKept : Type 0 where
   pub starred : Hold rows
   pub answers : Hold answerRows
@@ -42,6 +43,7 @@ pub record CasesKept : Type 0 where
   pub stage : Hold stageRows
   pub quiet : Hold quietRows
   pub clashes : Hold clashRows
+  pub probe : Hold probeRows
 
 pub record Promises : Type 0 where
   -- demand 2, the wire: "Each message written reads back as itself, and each accepted message is the very bytes .."

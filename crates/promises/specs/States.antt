@@ -18,7 +18,6 @@ use Rattle.end.specs.declared.Heard.the-variants.{At}
 use Rattle.end.specs.State.{sourceAt}
 use Rattle.message.specs.declared.Name.{Name}
 use Rattle.message.specs.Message.{DATA, RQST, REPL, meaningFrom}
-use Rattle.message.specs.Question.{readRefusal}
 use Rattle.end.specs.declared.Record.{Record}
 use Rattle.end.specs.Records.{recordAt, isHeld}
 use Rattle.end.specs.Arrival.{messageName, messageCue}

@@ -1,6 +1,8 @@
--- Reader, writer and numbers. `reader::read` is `readOf`, `writer::write` is `writtenOf` and leaves `outputOf`, by their contracts.
+-- Reader, writer and numbers. `reader::read` is `readOf`, `writer::write` and `writer::write_probe` are `writtenOf` and leave `outputOf`, by
+-- their contracts. Document 02, P5: a datagram is a message or the probe.
 use mathlib.Core.Path.{_≡_}
-use mathlib.Core.List.{List}
+use mathlib.Core.List.{List, []}
+use mathlib.Core.Option.{Option, none, some}
 use Prim.Native.Nat.{ℕ, _^_, _≤_, _<_}
 use lib.IntN.{ℤ}
 use mir.Syntax.{w16}
@@ -11,14 +13,22 @@ use Rattle.numbers.specs.Signed.{signed, unsigned}
 use Rattle.message.specs.declared.CueFields.{CueFields}
 use Rattle.message.specs.declared.Message.{Message}
 use Rattle.message.specs.Cue.{fieldsOf, cueWith}
-use Rattle.message.specs.Message.{meaningOf, bytesOf}
-use Rattle.message.specs.Question.{readRefusal, readOf, writeRefusal, writtenOf, outputOf}
+use Rattle.message.specs.Message.{Meaning, Datagram, Probe, saidBy, datagramBytes}
+use Rattle.message.specs.Question.{readOf, datagramIn, writeRefusal, writtenOf, outputOf}
 use Rattle.message.proofs.CueLaws.{FieldsFit}
-use Rattle.roundtrip.specs.Theorems.{Arrays}
+use Rattle.roundtrip.specs.Theorems.{Sized}
 
 -- the bytes that the writer put into an output
-abbrev pub wire : Message → List ℕ → List ℕ
-wire m out = take (writtenOf m out .len) (outputOf m out)
+abbrev pub wire : Datagram Message → List ℕ → List ℕ
+wire d out = take (writtenOf d out .len) (outputOf d out)
+
+-- what bytes say to the reader: a probe, a message's meaning, or nothing where it refuses them
+abbrev pub meant : Option (Datagram Message) → Option (Datagram Meaning)
+meant none = none
+meant (some d) = some (saidBy d)
+
+abbrev pub said : List ℕ → Option (Datagram Meaning)
+said s = meant (datagramIn (readOf s))
 
 pub record WireKept : Type 0 where
   -- for every width: the value of a number's bytes is the number, and the bytes of a value are the bytes
@@ -29,14 +39,18 @@ pub record WireKept : Type 0 where
   pub two-bytes-back : (s : List ℕ) → length s ≡ 2 → Bytes s → digits 2 (unsigned (signed (value s))) ≡ s
   -- a cue made of five fields has these fields
   pub cue-fields-back : (f : CueFields) → FieldsFit f → fieldsOf (cueWith f) ≡ f
-  -- each message that the writer accepts reads back as itself
-  pub reads-back : (m : Message) (out : List ℕ) → Arrays m → writeRefusal m out ≡ 0
-      → (readRefusal (wire m out) ≡ 0) × (meaningOf (readOf (wire m out) .message) ≡ meaningOf m)
-  -- each byte string that the reader accepts is exactly what its meaning is written as
-  pub very-bytes : (s : List ℕ) → Bytes s → readRefusal s ≡ 0 → bytesOf (meaningOf (readOf s .message)) ≡ s
+  -- each datagram that the writer accepts reads back as itself: a message as its meaning, the probe as the probe
+  pub reads-back : (d : Datagram Message) (out : List ℕ) → Sized d → writeRefusal d out ≡ 0 → said (wire d out) ≡ some (saidBy d)
+  -- each byte string that the reader accepts is exactly what it says is written as
+  pub very-bytes : (s : List ℕ) (M : Datagram Meaning) → Bytes s → said s ≡ some M → datagramBytes M ≡ s
   -- what the reader accepts the writer accepts, into any output that is long enough, and writes as the same bytes
-  pub rewritten : (s out : List ℕ) → Bytes s → readRefusal s ≡ 0 → 128 ≤ length out
-      → (writeRefusal (readOf s .message) out ≡ 0) × (wire (readOf s .message) out ≡ s)
-  -- every written message is at most 119 bytes long, and is just that many bytes of the output
-  pub at-most-119 : (m : Message) (out : List ℕ) → Arrays m → writeRefusal m out ≡ 0
-      → (writtenOf m out .len ≤ 119) × (length (wire m out) ≡ writtenOf m out .len)
+  pub rewritten : (s out : List ℕ) (d : Datagram Message) → Bytes s → datagramIn (readOf s) ≡ some d → 128 ≤ length out
+      → (writeRefusal d out ≡ 0) × (wire d out ≡ s)
+  -- every written datagram is at most 119 bytes long, and is just that many bytes of the output
+  pub at-most-119 : (d : Datagram Message) (out : List ℕ) → Sized d → writeRefusal d out ≡ 0
+      → (writtenOf d out .len ≤ 119) × (length (wire d out) ≡ writtenOf d out .len)
+  -- the probe is written as no bytes, without a change of the output, and no bytes read as the probe
+  pub probe-is-empty : ((out : List ℕ) → (wire Probe out ≡ []) × (outputOf Probe out ≡ out)) × (said [] ≡ some Probe)
+  -- nothing else is written as no bytes, and no other bytes read as the probe
+  pub only-probe-is-empty : ((d : Datagram Message) (out : List ℕ) → Sized d → writeRefusal d out ≡ 0 → wire d out ≡ [] → d ≡ Probe)
+      × ((s : List ℕ) → said s ≡ some Probe → s ≡ [])

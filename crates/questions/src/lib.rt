@@ -41,6 +41,7 @@ fn number_of(verdict: Verdict) -> u8
 {
     match verdict {
         Verdict::Accepted => 0,
+        Verdict::Probe => 0,
         Verdict::Refused(k) => k,
     }
 }

@@ -1,5 +1,5 @@
 -- The reader's questions, one at a time: which answer each first no gives.
-use mathlib.Core.Path.{_≡_, sym, ap, _∙_}
+use mathlib.Core.Path.{_≡_, refl, sym, ap, _∙_}
 use Prim.Native.Nat.{ℕ, zero, suc, _<_}
 use native.Mathlib.Omega.{arith}
 use mathlib.Core.Bool.{Bool, true, false, cond, _&&_}
@@ -9,13 +9,32 @@ use lib.Dec.{leb, eqb}
 use borrow.Author.Tests.{eqb-true}
 use Rattle.message.specs.Message.{Meaning, meaningWith, meaningFrom, meaningOf, countsOf, heldAs, sizeWith, sizeFrom}
 use Rattle.message.specs.declared.Counts.{Counts}
-use Rattle.message.specs.Question.{ask, firstNo, readQuestions, meaningQuestions, kindHasCounts, blankMessage, readRefusal, readOf, refusalOf}
+use Rattle.message.specs.Question.{ask, firstNo, verdictFor, messageQuestions, meaningQuestions, kindHasCounts, blankMessage, messageFor, readRefusal, readOf, refusalOf}
 use Rattle.message.specs.declared.Message.{Message}
 use Rattle.message.specs.declared.Reading.{Reading}
-use Rattle.message.specs.declared.Verdict.the-variants.{Accepted, Refused}
+use Rattle.message.specs.declared.Verdict.the-variants.{Accepted, Probe, Refused}
 use Rattle.message.proofs.LayoutLaws.{held-back}
 use Rattle.message.proofs.QuestionLaws.{and-both, all-passed, counts-small}
 use Rattle.reader.specs.Counting.{WidthIn, CountsIn, Loadable}
+
+-- no bytes are a probe
+pub read-none : (s : List ℕ) (r : Reading) → length s ≡ 0 → r ≡ record { verdict = Probe; message = blankMessage }
+    → (r ≡ readOf s) × (refusalOf (r .verdict) ≡ readRefusal s)
+unfolding readOf readRefusal
+read-none [] r h e = (e, ap (λ (x : Reading). refusalOf (x .verdict)) e)
+read-none (b ∷ s) r h e = absurd (omega arith)
+
+-- any others are asked the questions of a message
+asked-some : (s : List ℕ) → 0 < length s → readRefusal s ≡ firstNo (messageQuestions s)
+unfolding readRefusal
+asked-some [] h = absurd (omega arith)
+asked-some (b ∷ s) h = refl
+
+read-some : (s : List ℕ) → 0 < length s
+    → readOf s ≡ record { verdict = verdictFor (readRefusal s); message = messageFor (readRefusal s) (meaningFrom s) }
+unfolding readOf
+read-some [] h = absurd (omega arith)
+read-some (b ∷ s) h = refl
 
 -- the first of two noes
 first-two : (a b : Bool) (rest k : ℕ) → 0 < k → k ≡ cond a (cond b 0 9) 8 → cond a (cond b rest 9) 8 ≡ k
@@ -50,7 +69,7 @@ module _ (s : List ℕ) where
     pub whole : Whole ≡ true
     pub counts : HasCounts ≡ true
 
-  pub passed : firstNo (take 2 (readQuestions s)) ≡ 0 → Passed
+  pub passed : firstNo (take 2 (messageQuestions s)) ≡ 0 → Passed
   passed h =
       let a = all-passed Whole 8 (ask HasCounts 9 ∷ []) (omega arith) h in
       record { whole = a .0; counts = all-passed HasCounts 9 [] (omega arith) (a .1) .0 }
@@ -62,27 +81,23 @@ module _ (s : List ℕ) where
       let size = eqb-true (sizeFrom s) (length s) (and-both (leb 12 (length s)) _ (p .whole) .1) in
       record { counts = k .counts; size = sized v k ∙ size; small = rw (v .width, counted v k) small; widest = v .widest }
 
-  pub refused-first : (k : ℕ) → 0 < k → k ≡ firstNo (take 2 (readQuestions s)) → readRefusal s ≡ k
-  unfolding readRefusal
-  refused-first k p e = first-two Whole HasCounts (firstNo (meaningQuestions (meaningFrom s))) k p e
+  pub refused-first : 0 < length s → (k : ℕ) → 0 < k → k ≡ firstNo (take 2 (messageQuestions s)) → readRefusal s ≡ k
+  refused-first l k p e = asked-some s l ∙ first-two Whole HasCounts (firstNo (meaningQuestions (meaningFrom s))) k p e
 
   -- after 8 and 9 the message that was loaded decides
-  pub refused-by : Passed → (m : Message) → m ≡ heldAs (meaningFrom s)
+  pub refused-by : 0 < length s → Passed → (m : Message) → m ≡ heldAs (meaningFrom s)
       → readRefusal s ≡ firstNo (meaningQuestions (meaningOf m))
-  unfolding readRefusal
-  refused-by p m e =
+  refused-by l p m e =
       let small = counts-small (getD s 0 0) (countsOf (meaningFrom s)) (p .counts) in
       let same : meaningOf m ≡ meaningFrom s = ap meaningOf e ∙ held-back (meaningFrom s) (small .cues) in
-      rw (p .whole, p .counts) (ap (λ (M : Meaning). firstNo (meaningQuestions M)) (sym same))
+      rw (asked-some s l, p .whole, p .counts) (ap (λ (M : Meaning). firstNo (meaningQuestions M)) (sym same))
 
   -- a refusal, and an acceptance
-  pub no : (k : ℕ) (r : Reading) → 0 < k → readRefusal s ≡ k → r ≡ record { verdict = Refused k; message = blankMessage }
+  pub no : 0 < length s → (k : ℕ) (r : Reading) → 0 < k → readRefusal s ≡ k → r ≡ record { verdict = Refused k; message = blankMessage }
       → (r ≡ readOf s) × (refusalOf (r .verdict) ≡ readRefusal s)
-  unfolding readOf
-  no zero r p e q = absurd (omega arith)
-  no (suc k) r p e q = (q ∙ rw e, ap (λ (x : Reading). refusalOf (x .verdict)) q ∙ sym e)
+  no l zero r p e q = absurd (omega arith)
+  no l (suc k) r p e q = (q ∙ rw (read-some s l, e), ap (λ (x : Reading). refusalOf (x .verdict)) q ∙ sym e)
 
-  pub yes-read : (m : Message) → readRefusal s ≡ 0 → m ≡ heldAs (meaningFrom s)
+  pub yes-read : 0 < length s → (m : Message) → readRefusal s ≡ 0 → m ≡ heldAs (meaningFrom s)
       → (_≡_ {A = Reading} (record { verdict = Accepted; message = m }) (readOf s)) × (0 ≡ readRefusal s)
-  unfolding readOf
-  yes-read m e q = (rw (e, q), sym e)
+  yes-read l m e q = (rw (read-some s l, e, q), sym e)

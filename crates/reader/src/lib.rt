@@ -1,5 +1,5 @@
-// The reader: any bytes to a message, or to the number of the question that they fail. Its promise is `readOf` of the crate
-// message, specs/Question.antt.
+// The reader: any bytes to a message, or to the number of the question that they fail; no bytes are a probe. Its promise is `readOf` of
+// the crate message, specs/Question.antt.
 use message::CUE_WIDTH;
 use message::Counts;
 use message::CueNumber;
@@ -23,7 +23,7 @@ ghost use Rattle.message.specs.Kind.{widestNumber};
 ghost use Rattle.message.specs.Section.{entries};
 ghost use Rattle.message.specs.Entry.{nameWidth, nameOf, cueWidth, cueOf, reportWidth, reportOf, echoWidth, echoOf, blankName, blankCue, blankReport, blankEcho};
 ghost use Rattle.message.specs.Message.{meaningWith, heldAs, sizeWith, namePlaces, reportPlaces, echoPlaces};
-ghost use Rattle.message.specs.Question.{blankMessage, firstNo, readQuestions, refusalOf, readRefusal, readOf};
+ghost use Rattle.message.specs.Question.{blankMessage, firstNo, messageQuestions, refusalOf, readRefusal, readOf};
 ghost use Rattle.message.specs.declared.Verdict.the-variants as verdict;
 ghost use Rattle.reader.specs.Counting.{ByteAt, EntriesLong, CountBytes, CountsIn, WidthIn, Loadable};
 
@@ -224,7 +224,7 @@ fn load(s: &[u8], w: usize, c: Counts) -> Message
 fn counts_refusal(s: &[u8], w: usize, c: Counts) -> u8
     requires { ⌜ WidthIn (now s) w ⌝ }
     requires { ⌜ CountsIn w (now s) c ⌝ }
-    ensures { λ r. ⌜ r ≡ firstNo (take 2 (readQuestions (now (s .entry)))) ⌝ }
+    ensures { λ r. ⌜ r ≡ firstNo (take 2 (messageQuestions (now (s .entry)))) ⌝ }
 {
     let size = size_of(w, c);
     let whole = (12 <= s.len()) & (size == s.len());
@@ -246,8 +246,19 @@ fn refused(k: u8) -> Reading
     }
 }
 
-// Reads a message: questions 8, 9, 10 and 11, in this order.
-pub fn read(s: &[u8]) -> Reading
+// What no bytes are read as.
+fn probed() -> Reading
+    ensures { λ r. ⌜ r ≡ record { verdict = verdict.Probe; message = blankMessage } ⌝ }
+{
+    Reading {
+        verdict: Verdict::Probe,
+        message: message::blank(),
+    }
+}
+
+// A message: questions 8, 9, 10 and 11, in this order.
+fn read_message(s: &[u8]) -> Reading
+    requires { ⌜ 0 < length (now s) ⌝ }
     ensures { λ r. ⌜ r ≡ readOf (now (s .entry)) ⌝ }
     ensures { λ r. ⌜ refusalOf (r .verdict) ≡ readRefusal (now (s .entry)) ⌝ }
 {
@@ -266,4 +277,15 @@ pub fn read(s: &[u8]) -> Reading
         verdict: Verdict::Accepted,
         message: m,
     }
+}
+
+// Reads a datagram: no bytes are a probe, and of any others the questions are asked.
+pub fn read(s: &[u8]) -> Reading
+    ensures { λ r. ⌜ r ≡ readOf (now (s .entry)) ⌝ }
+    ensures { λ r. ⌜ refusalOf (r .verdict) ≡ readRefusal (now (s .entry)) ⌝ }
+{
+    if s.len() == 0 {
+        return probed();
+    }
+    read_message(s)
 }

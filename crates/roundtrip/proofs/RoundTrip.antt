@@ -1,9 +1,10 @@
--- The four theorems of specs/Theorems.antt, from the layout's two directions (ThereAndBack.antt) and what the questions say.
-use mathlib.Core.Path.{_≡_, refl, sym, ap, _∙_}
+-- The theorems of specs/Theorems.antt, from the layout's two directions (ThereAndBack.antt) and what the questions say.
+use mathlib.Core.Path.{_≡_, refl, sym, ap, subst, _∙_}
 use Prim.Native.Nat.{ℕ, zero, suc, _^_, _≤_, _<_}
 use native.Mathlib.Omega.{arith}
 use mathlib.Core.Bool.{true, _&&_}
 use mathlib.Core.List.{List, [], _∷_}
+use mathlib.Core.Option.{Option, none, some}
 use lib.ListN.{length, take, drop, getD}
 use lib.Seq.{length-take-le, take-append-seam}
 use lib.Dec.{leb, eqb}
@@ -12,17 +13,19 @@ use Rattle.numbers.specs.Number.{Bytes}
 use Rattle.message.specs.Section.{all}
 use Rattle.message.specs.Cue.{cueIn}
 use Rattle.message.specs.Limit.{numberLimit, ticksLimit, roomNeeded}
-use Rattle.message.specs.Message.{numberWidth, Small, Meaning, meaningOf, meaningFrom, heldAs, bytesOf, bytesWith, countsOf, meaningWith, sizeWith, sizeFrom}
-use Rattle.message.specs.Question.{ask, firstNo, meaningQuestions, kindHasCounts, inRange, hostsFit, hostIn, numberIn, ticksIn, nameIn, reportIn, echoIn, messageFor, readRefusal, readOf, writeRefusal, writtenOf, outputOf}
+use Rattle.message.specs.Message.{numberWidth, Small, Meaning, Datagram, Probe, Saying, meaningOf, meaningFrom, heldAs, bytesOf, bytesWith, countsOf, meaningWith, sizeWith, sizeFrom, saidBy, datagramBytes}
+use Rattle.message.specs.Question.{ask, firstNo, verdictFor, messageQuestions, meaningQuestions, kindHasCounts, inRange, hostsFit, hostIn, numberIn, ticksIn, nameIn, reportIn, echoIn, messageFor, readRefusal, readOf, datagramBy, datagramIn, writeRefusal, lengthFor, writtenOf, outputFor, outputOf}
 use Rattle.message.specs.declared.Message.{Message}
+use Rattle.message.specs.declared.Reading.{Reading}
+use Rattle.message.specs.declared.Verdict.the-variants as verdict
 use Rattle.message.specs.declared.NameEntry.{NameEntry}
 use Rattle.message.specs.declared.Report.{Report}
 use Rattle.message.specs.declared.Echo.{Echo}
-use Rattle.message.proofs.SectionLaws.{All, none, some}
+use Rattle.message.proofs.SectionLaws as sections
 use Rattle.message.proofs.EntryLaws.{NameFits, ReportFits, CueFits, EchoFits}
 use Rattle.message.proofs.LayoutLaws.{held-back}
 use Rattle.message.proofs.QuestionLaws.{and-both, all-true, all-passed, number-fits, counts-small}
-use Rattle.roundtrip.specs.Theorems.{Arrays, wireOf, ReadsBack, VeryBytes, Rewritten, AtMost119}
+use Rattle.roundtrip.specs.Theorems.{Arrays, Sized, wireOf, sayingOf, saidIn, ReadsBack, VeryBytes, Rewritten, AtMost119, ProbeIsEmpty, OnlyProbeIsEmpty}
 use Rattle.roundtrip.proofs.ThereAndBack.{Fits, sized, meaning-back, bytes-back}
 
 -- ---- what the answered questions say
@@ -33,8 +36,7 @@ pub record Accepted (s : List ℕ) : Type 0 where
   pub counts : kindHasCounts (getD s 0 0) (countsOf (meaningFrom s)) ≡ true
   pub rest : firstNo (meaningQuestions (meaningFrom s)) ≡ 0
 
-pub accepted : (s : List ℕ) → readRefusal s ≡ 0 → Accepted s
-unfolding readRefusal
+pub accepted : (s : List ℕ) → firstNo (messageQuestions s) ≡ 0 → Accepted s
 accepted s h =
     let rest = ask (kindHasCounts (getD s 0 0) (countsOf (meaningFrom s))) 9 ∷ meaningQuestions (meaningFrom s) in
     let a = all-passed (leb 12 (length s) && eqb (sizeFrom s) (length s)) 8 rest (omega arith) h in
@@ -46,8 +48,7 @@ accepted s h =
     }
 
 -- and the other way round
-pub accepts : (s : List ℕ) → Accepted s → readRefusal s ≡ 0
-unfolding readRefusal
+pub accepts : (s : List ℕ) → Accepted s → firstNo (messageQuestions s) ≡ 0
 accepts s h =
     let long : leb 12 (length s) ≡ true = le-leb 12 (length s) (omega (arith, h .size)) in
     rw (long, eq-eqb (sizeFrom s) (length s) (h .size), h .counts) (h .rest)
@@ -58,7 +59,7 @@ pub record Writable (m : Message) (out : List ℕ) : Type 0 where
   pub counts : kindHasCounts (m .kind) (m .counts) ≡ true
   pub rest : firstNo (meaningQuestions (meaningOf m)) ≡ 0
 
-pub writable : (m : Message) (out : List ℕ) → writeRefusal m out ≡ 0 → Writable m out
+pub writable : (m : Message) (out : List ℕ) → writeRefusal (Saying m) out ≡ 0 → Writable m out
 unfolding writeRefusal
 writable m out h =
     let rest = ask (kindHasCounts (m .kind) (m .counts)) 9 ∷ meaningQuestions (meaningOf m) in
@@ -66,7 +67,7 @@ writable m out h =
     let b = all-passed (kindHasCounts (m .kind) (m .counts)) 9 (meaningQuestions (meaningOf m)) (omega arith) (a .1) in
     record { room = leb-true roomNeeded (length out) (a .0); counts = b .0; rest = b .1 }
 
-pub writes : (m : Message) (out : List ℕ) → Writable m out → writeRefusal m out ≡ 0
+pub writes : (m : Message) (out : List ℕ) → Writable m out → writeRefusal (Saying m) out ≡ 0
 unfolding writeRefusal
 writes m out h = rw (le-leb roomNeeded (length out) (h .room), h .counts) (h .rest)
 
@@ -88,7 +89,7 @@ echo-fits e h =
     let a = and-both (ticksIn (e .stamp)) _ (and-both (hostIn (e .host)) _ h .1) in
     (ltb-true (e .stamp) ticksLimit (a .0), ltb-true (e .held) ticksLimit (a .1))
 
-pub fits-of : (M : Meaning) → firstNo (meaningQuestions M) ≡ 0 → All CueFits (M .cues) → Fits (numberWidth (M .kind)) M
+pub fits-of : (M : Meaning) → firstNo (meaningQuestions M) ≡ 0 → sections.All CueFits (M .cues) → Fits (numberWidth (M .kind)) M
 unfolding inRange
 fits-of M h c =
     let w : ℕ = numberWidth (M .kind) in
@@ -112,10 +113,10 @@ take-short zero x h = refl
 take-short (suc zero) x h = refl
 take-short (suc (suc n)) x h = absurd (omega arith)
 
-cue-fits : (n : ℕ) (c : List ℕ) → length c ≡ 24 → All CueFits (take n (c ∷ []))
-cue-fits zero c h = none
-cue-fits (suc zero) c h = some h none
-cue-fits (suc (suc n)) c h = some h none
+cue-fits : (n : ℕ) (c : List ℕ) → length c ≡ 24 → sections.All CueFits (take n (c ∷ []))
+cue-fits zero c h = sections.none
+cue-fits (suc zero) c h = sections.some h sections.none
+cue-fits (suc (suc n)) c h = sections.some h sections.none
 
 -- the counts of a writable message are those of its meaning
 counted : (m : Message) {w : ℕ} → Arrays m → Small w (m .counts) → countsOf (meaningOf m) ≡ m .counts
@@ -146,14 +147,33 @@ meaning-accepted M f k q =
     }
 
 -- what the reader hands out of accepted bytes
-read-message : (s : List ℕ) → readRefusal s ≡ 0 → readOf s .message ≡ heldAs (meaningFrom s)
-unfolding readOf
-read-message s h = ap (λ (k : ℕ). messageFor k (meaningFrom s)) h
+pub read-message : (s : List ℕ) → firstNo (messageQuestions s) ≡ 0 → readOf s ≡ record { verdict = verdict.Accepted; message = heldAs (meaningFrom s) }
+unfolding readOf readRefusal
+read-message [] h = absurd (omega arith)
+read-message (b ∷ s) h = ap (λ (k : ℕ). record { verdict = verdictFor k; message = messageFor k (meaningFrom (b ∷ s)) }) h
 
-read-meaning : (s : List ℕ) → readRefusal s ≡ 0 → meaningOf (readOf s .message) ≡ meaningFrom s
-read-meaning s h =
+-- and what it says of any bytes that are there is their message, which passed the questions
+pub read-datagram : (b : ℕ) (s : List ℕ) (d : Datagram Message) → datagramIn (readOf (b ∷ s)) ≡ some d
+    → (firstNo (messageQuestions (b ∷ s)) ≡ 0) × (d ≡ Saying (heldAs (meaningFrom (b ∷ s))))
+unfolding readOf readRefusal
+read-datagram b s d h = go (firstNo (messageQuestions (b ∷ s))) refl
+  where
+    read : ℕ → Option (Datagram Message)
+    read k = datagramBy (verdictFor k) (messageFor k (meaningFrom (b ∷ s)))
+
+    go : (k : ℕ) → firstNo (messageQuestions (b ∷ s)) ≡ k → (firstNo (messageQuestions (b ∷ s)) ≡ 0) × (d ≡ Saying (heldAs (meaningFrom (b ∷ s))))
+    go zero e =
+        let q : read 0 ≡ some d = ap read (sym e) ∙ h in
+        (e, cc)
+    go (suc k) e =
+        let q : read (suc k) ≡ some d = ap read (sym e) ∙ h in
+        let z : _≡_ {A = ℕ} 0 1 = cc in
+        absurd (omega arith)
+
+held-meaning : (s : List ℕ) → firstNo (messageQuestions s) ≡ 0 → meaningOf (heldAs (meaningFrom s)) ≡ meaningFrom s
+held-meaning s h =
     let small = counts-small (getD s 0 0) (countsOf (meaningFrom s)) (accepted s h .counts) in
-    ap meaningOf (read-message s h) ∙ held-back (meaningFrom s) (small .cues)
+    held-back (meaningFrom s) (small .cues)
 
 held-counts : (s : List ℕ) → kindHasCounts (getD s 0 0) (countsOf (meaningFrom s)) ≡ true
     → kindHasCounts (heldAs (meaningFrom s) .kind) (heldAs (meaningFrom s) .counts) ≡ true
@@ -165,50 +185,132 @@ written-back : (s : List ℕ) → Bytes s → sizeFrom s ≡ length s → bytesO
 unfolding meaningWith
 written-back s b h = bytes-back (numberWidth (getD s 0 0)) s b h
 
--- what the writer puts out of a writable message
-written-bytes : (m : Message) (out : List ℕ) → writeRefusal m out ≡ 0 → wireOf m out ≡ bytesOf (meaningOf m)
+-- what the writer puts out of a datagram that it accepts
+written-bytes : (d : Datagram Message) (out : List ℕ) → writeRefusal d out ≡ 0 → wireOf d out ≡ datagramBytes (saidBy d)
 unfolding writtenOf outputOf
-written-bytes m out h = rw h (take-append-seam (bytesOf (meaningOf m)) (drop (length (bytesOf (meaningOf m))) out))
+written-bytes d out h = rw h (take-append-seam (datagramBytes (saidBy d)) (drop (length (datagramBytes (saidBy d))) out))
 
-written-long : (m : Message) (out : List ℕ) → writeRefusal m out ≡ 0 → writtenOf m out .len ≡ length (bytesOf (meaningOf m))
+written-long : (d : Datagram Message) (out : List ℕ) → writeRefusal d out ≡ 0 → writtenOf d out .len ≡ length (datagramBytes (saidBy d))
 unfolding writtenOf
-written-long m out h = rw h
+written-long d out h = rw h
 
-module _ (m : Message) (out : List ℕ) (a : Arrays m) (h : writeRefusal m out ≡ 0) where
+module _ (m : Message) (out : List ℕ) (a : Arrays m) (h : writeRefusal (Saying m) out ≡ 0) where
   small : Small (numberWidth (m .kind)) (m .counts)
   small = counts-small (m .kind) (m .counts) (writable m out h .counts)
 
   fits : Fits (numberWidth (m .kind)) (meaningOf m)
   fits = fits-of (meaningOf m) (writable m out h .rest) (cue-fits (m .counts .cues) (m .cue) (a .cue))
 
-  accepted-wire : Accepted (bytesOf (meaningOf m))
-  accepted-wire = meaning-accepted (meaningOf m) fits (ap (kindHasCounts (m .kind)) (counted m a small) ∙ writable m out h .counts) (writable m out h .rest)
+  accepted-wire : firstNo (messageQuestions (bytesOf (meaningOf m))) ≡ 0
+  accepted-wire =
+      accepts (bytesOf (meaningOf m))
+      (meaning-accepted (meaningOf m) fits (ap (kindHasCounts (m .kind)) (counted m a small) ∙ writable m out h .counts) (writable m out h .rest))
+
+-- what the reader says of no bytes
+said-none : saidIn [] ≡ some Probe
+unfolding readOf
+said-none = refl
 
 -- ---- the theorems
 pub reads-back : ReadsBack
-reads-back m out a h =
-    let wire : wireOf m out ≡ bytesOf (meaningOf m) = written-bytes m out h in
-    let yes : readRefusal (wireOf m out) ≡ 0 = ap readRefusal wire ∙ accepts (bytesOf (meaningOf m)) (accepted-wire m out a h) in
-    (yes, read-meaning (wireOf m out) yes ∙ ap meaningFrom wire ∙ read-back (meaningOf m) (fits m out a h))
+reads-back Probe out a h = ap saidIn (written-bytes Probe out h) ∙ said-none
+reads-back (Saying m) out a h =
+    let s : List ℕ = bytesOf (meaningOf m) in
+    let yes : firstNo (messageQuestions s) ≡ 0 = accepted-wire m out a h in
+    let back : meaningOf (heldAs (meaningFrom s)) ≡ meaningOf m = held-meaning s yes ∙ read-back (meaningOf m) (fits m out a h) in
+    ap saidIn (written-bytes (Saying m) out h) ∙ ap (λ (r : Reading). sayingOf (datagramIn r)) (read-message s yes) ∙ ap (λ (M : Meaning). some (Saying M)) back
+
+-- what bytes say is what the datagram says that the reader makes of them
+said-as : (s : List ℕ) (M : Datagram Meaning) → saidIn s ≡ some M → (d : Datagram Message) × (datagramIn (readOf s) ≡ some d) × (saidBy d ≡ M)
+said-as s M h = go (datagramIn (readOf s)) refl
+  where
+    go : (o : Option (Datagram Message)) → datagramIn (readOf s) ≡ o → (d : Datagram Message) × (datagramIn (readOf s) ≡ some d) × (saidBy d ≡ M)
+    go none e =
+        let q : none ≡ some M = ap sayingOf (sym e) ∙ h in
+        let z : _≡_ {A = ℕ} 0 1 = cc in
+        absurd (omega arith)
+    go (some d) e =
+        let q : some (saidBy d) ≡ some M = ap sayingOf (sym e) ∙ h in
+        (d, e, cc)
+
+-- so it is what they are written as
+written-as : (s : List ℕ) (d : Datagram Message) → Bytes s → datagramIn (readOf s) ≡ some d → datagramBytes (saidBy d) ≡ s
+unfolding readOf
+written-as [] d b h =
+    let e : Probe ≡ d = cc in
+    ap (λ (x : Datagram Message). datagramBytes (saidBy x)) (sym e)
+written-as (x ∷ s) d b h =
+    let r = read-datagram x s d h in
+    ap (λ (y : Datagram Message). datagramBytes (saidBy y)) (r .1)
+    ∙ ap bytesOf (held-meaning (x ∷ s) (r .0))
+    ∙ written-back (x ∷ s) b (accepted (x ∷ s) (r .0) .size)
 
 pub very-bytes : VeryBytes
-very-bytes s b h = ap bytesOf (read-meaning s h) ∙ written-back s b (accepted s h .size)
+very-bytes s M b h =
+    let d = said-as s M h in
+    ap datagramBytes (sym (d .2)) ∙ written-as s (d .0) b (d .1)
+
+-- what the reader accepts passes the writer's questions
+write-accepts : (s out : List ℕ) (d : Datagram Message) → datagramIn (readOf s) ≡ some d → roomNeeded ≤ length out → writeRefusal d out ≡ 0
+unfolding readOf writeRefusal
+write-accepts [] out d h room =
+    let e : Probe ≡ d = cc in
+    let yes : writeRefusal Probe out ≡ 0 = rw (le-leb roomNeeded (length out) room) in
+    subst (λ (x : Datagram Message). writeRefusal x out ≡ 0) e yes
+write-accepts (x ∷ s) out d h room =
+    let r = read-datagram x s d h in
+    let ok : Accepted (x ∷ s) = accepted (x ∷ s) (r .0) in
+    let m : Message = heldAs (meaningFrom (x ∷ s)) in
+    let yes = writes m out (record {
+      room = room;
+      counts = held-counts (x ∷ s) (ok .counts);
+      rest = ap (λ (M : Meaning). firstNo (meaningQuestions M)) (held-meaning (x ∷ s) (r .0)) ∙ ok .rest;
+    }) in
+    ap (λ (y : Datagram Message). writeRefusal y out) (r .1) ∙ yes
 
 pub rewritten : Rewritten
-rewritten s out b h room =
-    let m : Message = readOf s .message in
-    let e : m ≡ heldAs (meaningFrom s) = read-message s h in
-    let ok : Accepted s = accepted s h in
-    let w : Writable m out = record {
-      room = room;
-      counts = ap (λ (x : Message). kindHasCounts (x .kind) (x .counts)) e ∙ held-counts s (ok .counts);
-      rest = ap (λ (M : Meaning). firstNo (meaningQuestions M)) (read-meaning s h) ∙ ok .rest;
-    } in
-    (writes m out w, written-bytes m out (writes m out w) ∙ very-bytes s b h)
+rewritten s out d b h room =
+    let yes = write-accepts s out d h room in
+    (yes, written-bytes d out yes ∙ written-as s d b h)
 
 pub at-most-119 : AtMost119
-at-most-119 m out a h =
+at-most-119 Probe out a h =
+    let l : writtenOf Probe out .len ≡ 0 = written-long Probe out h in
+    (omega (arith, l), ap length (written-bytes Probe out h) ∙ sym l)
+at-most-119 (Saying m) out a h =
     let n : length (bytesOf (meaningOf m)) ≡ sizeWith (numberWidth (m .kind)) (m .counts) =
     sized (numberWidth (m .kind)) (meaningOf m) (fits m out a h) ∙ ap (sizeWith (numberWidth (m .kind))) (counted m a (small m out a h)) in
-    let l : writtenOf m out .len ≡ length (bytesOf (meaningOf m)) = written-long m out h in
-    (omega (arith, small m out a h .size, n, l), ap length (written-bytes m out h) ∙ sym l)
+    let l : writtenOf (Saying m) out .len ≡ length (bytesOf (meaningOf m)) = written-long (Saying m) out h in
+    (omega (arith, small m out a h .size, n, l), ap length (written-bytes (Saying m) out h) ∙ sym l)
+
+-- the probe is written into an output that is long enough, and refused into any other; neither changes it
+probe-wire : (k : ℕ) (out : List ℕ) → (take (lengthFor k []) (outputFor k [] out) ≡ []) × (outputFor k [] out ≡ out)
+probe-wire zero out = (refl, refl)
+probe-wire (suc k) out = (refl, refl)
+
+pub probe-is-empty : ProbeIsEmpty
+unfolding writtenOf outputOf
+probe-is-empty = (λ out. probe-wire (writeRefusal Probe out) out, said-none)
+
+-- a message has bytes
+not-empty : (M : Meaning) → bytesOf M ≡ [] → ⊥
+unfolding bytesWith
+not-empty M e =
+    let n : length (bytesOf M) ≡ 0 = ap length e in
+    omega arith
+
+pub only-probe-is-empty : OnlyProbeIsEmpty
+only-probe-is-empty = (written, read)
+  where
+    written : (d : Datagram Message) (out : List ℕ) → Sized d → writeRefusal d out ≡ 0 → wireOf d out ≡ [] → d ≡ Probe
+    written Probe out a h e = refl
+    written (Saying m) out a h e = absurd (not-empty (meaningOf m) (sym (written-bytes (Saying m) out h) ∙ e))
+
+    read : (s : List ℕ) → saidIn s ≡ some Probe → s ≡ []
+    read [] h = refl
+    read (b ∷ s) h =
+        let d = said-as (b ∷ s) Probe h in
+        let r : d .0 ≡ Saying (heldAs (meaningFrom (b ∷ s))) = read-datagram b s (d .0) (d .1) .1 in
+        let q : Saying (meaningOf (heldAs (meaningFrom (b ∷ s)))) ≡ Probe = ap saidBy (sym r) ∙ d .2 in
+        let z : _≡_ {A = ℕ} 0 1 = cc in
+        absurd (omega arith)

@@ -1,16 +1,18 @@
 -- What reader and writer promise each other, as statements; proofs/RoundTrip.antt proves each. Demand 2: "Each message written
--- reads back as itself, and each accepted message is the very bytes that its meaning is written as."
--- `readRefusal` and `writeRefusal` are 0 where nothing is refused; `reader::read` is proved to be `readOf`, and `writer::write` to
--- be `writtenOf` and `outputOf`.
+-- reads back as itself, and each accepted message is the very bytes that its meaning is written as." Since document 02, P5, they are about
+-- datagrams: a message, or the probe, which is written as no bytes.
+-- `readRefusal` and `writeRefusal` are 0 where nothing is refused; `reader::read` is proved to be `readOf`, and `writer::write` and
+-- `writer::write_probe` to be `writtenOf` and `outputOf` of a message and of the probe.
 use mathlib.Core.Path.{_≡_}
 use Prim.Native.Nat.{ℕ, _≤_}
-use mathlib.Core.List.{List}
+use mathlib.Core.List.{List, []}
+use mathlib.Core.Option.{Option, none, some}
 use lib.ListN.{length, take}
 use Rattle.numbers.specs.Number.{Bytes}
 use Rattle.message.specs.Limit.{roomNeeded}
 use Rattle.message.specs.Entry.{cueWidth}
-use Rattle.message.specs.Message.{namePlaces, reportPlaces, echoPlaces, meaningOf, bytesOf}
-use Rattle.message.specs.Question.{readRefusal, readOf, writeRefusal, writtenOf, outputOf}
+use Rattle.message.specs.Message.{namePlaces, reportPlaces, echoPlaces, Meaning, Datagram, Probe, Saying, saidBy, datagramBytes}
+use Rattle.message.specs.Question.{readOf, datagramIn, writeRefusal, writtenOf, outputOf}
 use Rattle.message.specs.declared.Message.{Message}
 
 -- The arrays of a message have their lengths. Any value of the declared type does; at the level of definitions an array is a list.
@@ -20,25 +22,45 @@ pub record Arrays (m : Message) : Type 0 where
   pub reports : length (m .reports) ≡ reportPlaces
   pub echoes : length (m .echoes) ≡ echoPlaces
 
+abbrev pub Sized : Datagram Message → Type 0
+Sized Probe = Unit {0}
+Sized (Saying m) = Arrays m
+
 -- the bytes that the writer put into an output
-abbrev pub wireOf : Message → List ℕ → List ℕ
-wireOf m out = take (writtenOf m out .len) (outputOf m out)
+abbrev pub wireOf : Datagram Message → List ℕ → List ℕ
+wireOf d out = take (writtenOf d out .len) (outputOf d out)
 
--- Each message that the writer accepts reads back as itself.
+-- what bytes say to the reader: nothing where it refuses them
+abbrev pub sayingOf : Option (Datagram Message) → Option (Datagram Meaning)
+sayingOf none = none
+sayingOf (some d) = some (saidBy d)
+
+abbrev pub saidIn : List ℕ → Option (Datagram Meaning)
+saidIn s = sayingOf (datagramIn (readOf s))
+
+-- Each datagram that the writer accepts reads back as itself: a message as its meaning, the probe as the probe.
 abbrev pub ReadsBack : Type 0
-ReadsBack = (m : Message) (out : List ℕ) → Arrays m → writeRefusal m out ≡ 0
-    → (readRefusal (wireOf m out) ≡ 0) × (meaningOf (readOf (wireOf m out) .message) ≡ meaningOf m)
+ReadsBack = (d : Datagram Message) (out : List ℕ) → Sized d → writeRefusal d out ≡ 0 → saidIn (wireOf d out) ≡ some (saidBy d)
 
--- Each byte string that the reader accepts is exactly what its meaning is written as.
+-- Each byte string that the reader accepts is exactly what it says is written as: so the probe is no bytes, and no bytes are the probe.
 abbrev pub VeryBytes : Type 0
-VeryBytes = (s : List ℕ) → Bytes s → readRefusal s ≡ 0 → bytesOf (meaningOf (readOf s .message)) ≡ s
+VeryBytes = (s : List ℕ) (M : Datagram Meaning) → Bytes s → saidIn s ≡ some M → datagramBytes M ≡ s
 
 -- What the reader accepts the writer accepts, into any output that is long enough, and writes as the same bytes.
 abbrev pub Rewritten : Type 0
-Rewritten = (s out : List ℕ) → Bytes s → readRefusal s ≡ 0 → roomNeeded ≤ length out
-    → (writeRefusal (readOf s .message) out ≡ 0) × (wireOf (readOf s .message) out ≡ s)
+Rewritten = (s out : List ℕ) (d : Datagram Message) → Bytes s → datagramIn (readOf s) ≡ some d → roomNeeded ≤ length out
+    → (writeRefusal d out ≡ 0) × (wireOf d out ≡ s)
 
--- Every written message is at most 119 bytes long, and is just that many bytes of the output.
+-- Every written datagram is at most 119 bytes long, and is just that many bytes of the output.
 abbrev pub AtMost119 : Type 0
-AtMost119 = (m : Message) (out : List ℕ) → Arrays m → writeRefusal m out ≡ 0
-    → (writtenOf m out .len ≤ 119) × (length (wireOf m out) ≡ writtenOf m out .len)
+AtMost119 = (d : Datagram Message) (out : List ℕ) → Sized d → writeRefusal d out ≡ 0
+    → (writtenOf d out .len ≤ 119) × (length (wireOf d out) ≡ writtenOf d out .len)
+
+-- The probe is written as no bytes, without a change of the output, and no bytes read as the probe.
+abbrev pub ProbeIsEmpty : Type 0
+ProbeIsEmpty = ((out : List ℕ) → (wireOf Probe out ≡ []) × (outputOf Probe out ≡ out)) × (saidIn [] ≡ some Probe)
+
+-- Nothing else is written as no bytes, and no other bytes read as the probe.
+abbrev pub OnlyProbeIsEmpty : Type 0
+OnlyProbeIsEmpty = ((d : Datagram Message) (out : List ℕ) → Sized d → writeRefusal d out ≡ 0 → wireOf d out ≡ [] → d ≡ Probe)
+    × ((s : List ℕ) → saidIn s ≡ some Probe → s ≡ [])

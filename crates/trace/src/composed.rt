@@ -155,6 +155,11 @@ fn with_counts(m: Message, line: &[u8; 1000], end: usize, at: &mut usize) -> Mes
     t
 }
 
+// Whether the next word is `probe`, which is no message; then goes behind it.
+pub fn probe(line: &[u8; 1000], end: usize, at: &mut usize) -> bool {
+    follows(line, end, at, words::PROBE)
+}
+
 // The next words as a message. A word that belongs to none of its parts is left, so that the line is not whole.
 pub fn composed(line: &[u8; 1000], end: usize, at: &mut usize) -> Message {
     let mut m = message::blank();

@@ -154,6 +154,9 @@ pub const REPL: u64 = 0x7265706C;
 // sess
 pub const SESS: u64 = 0x73657373;
 
+// probe
+pub const PROBE: u64 = 0x70726F6265;
+
 // name
 pub const NAME: u64 = 0x6E616D65;
 

@@ -11,8 +11,8 @@ use borrow.Author.Tests.{eqb-true, eqb-false, eq-eqb, ltb-true, lt-ltb, leb-true
 use Rattle.numbers.proofs.Cases.{by-order}
 use Rattle.message.specs.Cue.{cueIn as cueFits}
 use Rattle.message.specs.Section.{all, rises}
-use Rattle.message.specs.Message.{DATA, RQST, REPL, Meaning, meaningFrom, bytesOf}
-use Rattle.message.specs.Question.{ask, firstNo, readQuestions, readRefusal, sameHost, inRange, hostsFit}
+use Rattle.message.specs.Message.{DATA, RQST, REPL, Meaning, meaningFrom, datagramFrom, bytesOf}
+use Rattle.message.specs.Question.{ask, firstNo, messageQuestions, readQuestions, readRefusal, sameHost, inRange, hostsFit}
 use Rattle.message.proofs.QuestionLaws.{all-passed}
 use Rattle.message.proofs.SectionLaws as sections
 use Rattle.end.specs.declared.Status.{Status}
@@ -30,7 +30,7 @@ use Rattle.end.specs.Sound.{allOf, spanTests, sourceTests, soundOf}
 use Rattle.end.specs.Messages.{dataMessage}
 use Rattle.end.specs.Answer.{Done, Ignored, Step, give}
 use Rattle.end.specs.Arrival.{messageName, wordStep, messageStep, arrivalOf}
-use Rattle.end.specs.Event.{moves, movesTo, movedEnd, moveOf, cleared, Action, Moves, Send, Arrival, Else, Other, ownName, extended, sentSource, sentEnd, sendOf, otherOf, ifMember, actOf, stepOf, ownQuestions}
+use Rattle.end.specs.Event.{moves, movesTo, movedEnd, moveOf, cleared, Action, Moves, Send, Arrival, Else, Other, Report, ownName, extended, sentSource, sentEnd, sendOf, otherOf, hearingOf, ifMember, actOf, stepOf, ownQuestions}
 use Rattle.end.specs.Book.{Book, dueMessage, afterMessage, readAs, isOriginal, isRepair, source, isSome, due, after, Meets}
 use Rattle.end.specs.Run.{CueArray, Service}
 use Rattle.end.proofs.Tools.{byCond, clash, clash′}
@@ -267,17 +267,27 @@ send-event b h e c f o q long z =
     let bm : isMember (b .status h) ≡ false = ap isMember (sym (q .status)) ∙ m in
     ignored-right b h (Send c) e q (rw bm) (rw bm))
 
-arrival-event : (b : Book) (h : ℕ) (us : List ℕ) (e : End) (x : List ℕ) → Facts e → Rel b h e → Filed b x → firstNo (readQuestions x) ≡ 0 → Right b h (Arrival x) (ifMember e (arrivalOf us (meaningFrom x) e))
-unfolding readRefusal
-arrival-event b h us e x f q filed z =
+message-event : (b : Book) (h : ℕ) (us : List ℕ) (e : End) (x : List ℕ) → Facts e → Rel b h e → Filed b x → firstNo (messageQuestions x) ≡ 0
+    → Right b h (Arrival x) (ifMember e (arrivalOf us (meaningFrom x) e))
+message-event b h us e x f q filed z =
     let p : readAs x ≡ some (meaningFrom x) = reads x z in
     arrival-right b h e x (meaningFrom x) (ifMember e (arrivalOf us (meaningFrom x) e)) q filed p
     (subst (λ k. Hears k e (meaningFrom x) (ifMember e (arrivalOf us (meaningFrom x) e))) (q .host) (hears us e f x (meaningFrom x) p))
 
+-- outside membership nothing happens
+others-quiet : (us : List ℕ) (o : Other) (e : End) → Facts e → Quiet e (ifMember e (otherOf us o e))
+others-quiet us o e f = byCond (Quiet e) (isMember (e .status)) (λ _. others us o e f) (λ _. ignored-quiet e)
+
+-- a probe is a Report, and to the book no message
+arrival-event : (b : Book) (h : ℕ) (us : List ℕ) (e : End) (x : List ℕ) → Facts e → Rel b h e → Filed b x → firstNo (readQuestions x) ≡ 0
+    → Right b h (Arrival x) (ifMember e (hearingOf us (datagramFrom x) e))
+unfolding due after dueMessage afterMessage readAs readRefusal
+arrival-event b h us e [] f q filed z = quiet-right q (others-quiet us Report e f) refl refl
+arrival-event b h us e (y ∷ s) f q filed z = message-event b h us e (y ∷ s) f q filed z
+
 other-event : (b : Book) (h : ℕ) (us : List ℕ) (e : End) (o : Other) → Facts e → Rel b h e → Right b h (Else o) (ifMember e (otherOf us o e))
 unfolding due after
-other-event b h us e o f q =
-    quiet-right q (byCond (Quiet e) (isMember (e .status)) (λ _. others us o e f) (λ _. ignored-quiet e)) refl refl
+other-event b h us e o f q = quiet-right q (others-quiet us o e f) refl refl
 
 -- a crashed end, whose events are all Ignored
 crashed-is : (x : Status) → isCrashed x ≡ true → x ≡ Crashed

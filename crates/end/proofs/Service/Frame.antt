@@ -23,10 +23,11 @@ use Rattle.end.specs.Answer.{Effect, Class, PutsOut, HandsOut, Untouched
 use Rattle.end.specs.Round.{drawCount}
 use Rattle.end.specs.Event.{Action, Moves, Send, Arrival, Else, stepOf, ownQuestions, questionOf, eventOf}
 use Rattle.end.specs.Opening.{openRefusal, endFor, openingOf}
-use Rattle.end.specs.Book.{Book, emptyBook, Answered, RunFrom, bookAfter, after, firstOf, isSome, among}
+use Rattle.end.specs.Book.{Book, emptyBook, readAs, Answered, RunFrom, bookAfter, after, firstOf, isSome, among}
 use Rattle.end.specs.Run.{World, Call, resultOf, sentBy, sentAfter, worldAfter, seen, CueArray, Brought, Allowed, Fresh, Service}
 use Rattle.end.proofs.Tools.{byCond, put-all}
 use Rattle.end.proofs.Facts.{unheard-at}
+use Rattle.end.proofs.Readings.{none-read}
 use Rattle.end.proofs.Service.Sources.{outside-none}
 use Rattle.end.proofs.Service.View.{holds, firstIn, firstAt, Rel, Filed, Grows, Right, grows-refl}
 
@@ -92,11 +93,12 @@ abbrev pub EventsRight : Type 0
 EventsRight = (b : Book) (e : End) (h clock : ℕ) (draws : List ℕ) (ev : Action) → h < 8 → CueArray ev → Passed e ev clock → Rel b h e
     → ((x : List ℕ) → ev ≡ Arrival x → Filed b x) → Right b h ev (stepOf clock draws ev e)
 
--- what an Arrival brings carries the filed cue
+-- what an Arrival brings carries the filed cue: a probe carries none, and may come from anywhere
 pub brought-filed : (w : World) (b : Book) (ev : Action) (a : Effect) → Inv w b → Brought (w .sent) ev (Did a) → (x : List ℕ) → ev ≡ Arrival x → Filed b x
 brought-filed w b (Moves m) a inv p x e = let z : _≡_ {A = ℕ} 0 1 = cc in absurd (omega arith)
 brought-filed w b (Send c) a inv p x e = let z : _≡_ {A = ℕ} 0 1 = cc in absurd (omega arith)
-brought-filed w b (Arrival y) a inv p x e = let q : y ≡ x = cc in rw q at (inv .sent y p)
+brought-filed w b (Arrival []) a inv p x e = let q : [] ≡ x = cc in λ m r. absurd (none-read m (ap readAs q ∙ r))
+brought-filed w b (Arrival (y ∷ s)) a inv p x e = let q : y ∷ s ≡ x = cc in rw q at (inv .sent (y ∷ s) p)
 brought-filed w b (Else o) a inv p x e = let z : _≡_ {A = ℕ} 0 1 = cc in absurd (omega arith)
 
 module _ (events : EventsRight) where

@@ -12,7 +12,7 @@ use lib.Dec.{eqb}
 use borrow.Author.Tests.{eqb-true}
 use Rattle.message.specs.declared.Name.{Name}
 use Rattle.message.specs.Message.{Meaning, meaningFrom}
-use Rattle.message.specs.Question.{readRefusal}
+use Rattle.message.specs.Question.{firstNo, readRefusal}
 use Rattle.end.specs.declared.Slot.{Slot}
 use Rattle.end.specs.declared.Slot.the-variants.{Empty, Held, Waiting}
 use Rattle.end.specs.declared.End.{End}
@@ -67,7 +67,7 @@ unclashed w b c inv hh =
     let z : Passed e ev (c .clock) = passes e ev (c .clock) (length (c .output)) (length (c .draws)) (eqb-true _ _ t) in
     let answers : step .effect ≡ Clash name = cc in
     let k = step-clashes e (c .clock) (c .draws) name ev answers in
-    let own = rw (k .arrival) at (z .own) in
+    let own = sym (ap firstNo (k .asked)) ∙ rw (k .arrival) at (z .own) in
     clock-fits b h e (c .clock) (k .bytes) (meaningFrom (k .bytes)) (inv .rel h hh) (brought-filed w b ev (step .effect) inv br (k .bytes) (k .arrival)) (reads (k .bytes) own) (k .clashing))
     (λ t br name p. let z : _≡_ {A = ℕ} 0 1 = cc in absurd (omega arith))
 

@@ -1,61 +1,51 @@
 -- `link::frame` meets its contract: what the code has found before its one test, and the two cases of that.
-use mathlib.Core.Path.{_≡_, sym, ap, subst}
+use mathlib.Core.Path.{_≡_, sym, ap, subst, _∙_}
 use Prim.Native.Nat.{ℕ}
 use mathlib.Core.List.{List}
 use denote.Ref.{now}
 use Rattle.message.specs.declared.Reading.{Reading}
 use Rattle.questions.specs.Read.{ReadAs}
-use Rattle.link.specs.Frame.{readingFor}
+use Rattle.link.specs.Frame.{readingFor, isProbe, takenAs}
 use Rattle.link.proofs.GivenLaws.{read-verdict}
 use Rattle.link.proofs.CallLaws.{Framed, frame-untaken, frame-taken, frame-acting, frame-gives}
 use borrow.Author.Needs.{needs}
 use Rattle.link.proofs.frame.Statement.{statement}
 use Rattle.link.proofs.frame.Tie as tie
 
-refusal-requires : tie.Need-refusal-requires
-refusal-requires c κs = search needs
+-- the places of the calls before the test, from the last back to the first
+abbrev crashed-at : tie.After-untaken → tie.After-is-crashed
+crashed-at c = c .before .before .before
 
-is-crashed-requires : tie.Need-is-crashed-requires
-is-crashed-requires c κs = search needs
+abbrev takes-at : tie.After-untaken → tie.After-takes
+takes-at c = crashed-at c .before
 
-clock-after-requires : tie.Need-clock-after-requires
-clock-after-requires c κs = search needs
+abbrev probe-at : tie.After-untaken → tie.After-is-probe
+probe-at c = takes-at c .before .before
 
-with-clock-requires : tie.Need-with-clock-requires
-with-clock-requires c κs = search needs
+abbrev asked-at : tie.After-untaken → tie.After-refusal
+asked-at c = probe-at c .before
 
-untaken-requires : tie.Need-untaken-requires
-untaken-requires c κs = search needs
-
-takes-requires : tie.Need-takes-requires
-takes-requires c κs = search needs
-
-abbrev clock-at : tie.After-takes → tie.After-with-clock
-clock-at c = c .before .before
-
-abbrev asked-at : tie.After-takes → tie.After-refusal
-asked-at c = clock-at c .before .before .before
-
-abbrev start : tie.After-takes → tie.Start
+abbrev start : tie.After-untaken → tie.Start
 start c = asked-at c .before .before .before .before
 
-abbrev Found : tie.After-takes → List ℕ → Type 0
+abbrev Found : tie.After-untaken → List ℕ → Type 0
 Found c bytes =
     let a = start c .args in
     Framed (a .e) (a .what) (a .cue) bytes (a .clock) (now (a .draws)) (now (a .out))
-    (asked-at c .refusal .result) (clock-at c .before .before .is-crashed .result) (c .takes .result) (clock-at c .before .clock-after .result)
-    (clock-at c .with-clock .result) (c .before .untaken .result) (a .reading .message)
+    (asked-at c .refusal .result) (takes-at c .before .taken-as .result) (crashed-at c .is-crashed .result) (takes-at c .takes .result)
+    (c .before .before .clock-after .result) (c .before .with-clock .result) (c .untaken .result) (a .reading .message)
 
-found : (c : tie.After-takes) (bytes : List ℕ) → start c .args .reading ≡ readingFor (start c .args .what) bytes → Found c bytes
+found : (c : tie.After-untaken) (bytes : List ℕ) → start c .args .reading ≡ readingFor (start c .args .what) bytes → Found c bytes
 found c bytes p =
     let a = start c .args in
     record {
       asked = asked-at c .refusal .ensures bytes (subst (λ (r : Reading). ReadAs (a .what) (r .verdict) bytes) (sym p) (read-verdict (a .what) bytes));
-      status = clock-at c .before .before .is-crashed .ensures;
-      test = c .takes .ensures;
-      time = clock-at c .before .clock-after .ensures;
-      ended = clock-at c .with-clock .ensures;
-      rest = c .before .untaken .ensures;
+      counts = takes-at c .before .taken-as .ensures ∙ ap (takenAs (a .what)) (probe-at c .is-probe .ensures ∙ ap (λ (r : Reading). isProbe (r .verdict)) p);
+      status = crashed-at c .is-crashed .ensures;
+      test = takes-at c .takes .ensures;
+      time = c .before .before .clock-after .ensures;
+      ended = c .before .with-clock .ensures;
+      rest = c .untaken .ensures;
       read = ap (λ (r : Reading). r .message) p;
     }
 
@@ -83,12 +73,14 @@ pub frame-spec : {M : Type 1} → statement M
 frame-spec =
     tie.close
     (tie.spec
-    refusal-requires
-    is-crashed-requires
-    clock-after-requires
-    with-clock-requires
-    untaken-requires
-    takes-requires
+    (λ c κs. search needs)
+    (λ c κs. search needs)
+    (λ c κs. search needs)
+    (λ c κs. search needs)
+    (λ c κs. search needs)
+    (λ c κs. search needs)
+    (λ c κs. search needs)
+    (λ c κs. search needs)
     act-requires
     same-length
     returns

@@ -1,76 +1,12 @@
--- `reader::read` meets its contract: the first no is that of questions 8 and 9, or else that of the message that was loaded.
-use mathlib.Core.Path.{_≡_, sym, ap, _∙_}
-use mathlib.Core.List.{List}
-use Prim.Native.Nat.{ℕ}
+-- `reader::read` meets its contract: no bytes are a probe, and of any others the message decides.
 use native.Mathlib.Omega.{arith}
 use borrow.Author.Needs.{needs}
-use Rattle.message.specs.Message.{meaningWith, meaningFrom, heldAs}
-use Rattle.message.specs.Question.{readRefusal}
-use Rattle.reader.proofs.ReadLaws.{Passed, passed, loadable, refused-first, refused-by, no, yes-read}
+use Rattle.reader.proofs.ReadLaws.{read-none}
 use Rattle.reader.proofs.read.Statement.{statement}
 use Rattle.reader.proofs.read.Tie as tie
 
-abbrev bytes : tie.After-counts-refusal → List ℕ
-bytes c = c .before .before .before .before .args .s .now
-
--- the place where questions 8 and 9 were asked
-abbrev asked : tie.After-load → tie.After-counts-refusal
-asked c = c .before .before
-
 returns : tie.Need-returns
-returns c =
-    let f = c .before .before in
-    let k = f .counts-refusal .result in
-    no (bytes f) k (c .refused .result) (omega arith) (refused-first (bytes f) k (omega arith) (f .counts-refusal .ensures)) (c .refused .ensures)
-
--- questions 8 and 9 were answered yes
-both : (c : tie.Else1) → Passed (bytes (c .before))
-both c =
-    let f = c .before in
-    let z : f .counts-refusal .result ≡ 0 = omega arith in
-    passed (bytes f) (sym (f .counts-refusal .ensures) ∙ z)
-
-load-requires : tie.Need-load-requires
-load-requires c κs =
-    let f = c .before in
-    let i = f .before in
-    loadable (bytes f) (i .before .width-in .ensures) (i .counts-in .ensures) (both c)
-
--- the message that was loaded is the one that the bytes hold
-held : (c : tie.After-load) → c .load .result ≡ heldAs (meaningFrom (bytes (asked c)))
-held c =
-    let f = asked c in
-    c .load .ensures ∙ ap (λ (w : ℕ). heldAs (meaningWith w (bytes f))) (f .before .before .width-in .ensures .width)
-
--- questions 10 and 11 decide
-decided : (c : tie.After-meaning-refusal) → readRefusal (bytes (asked (c .before))) ≡ c .meaning-refusal .result
-decided c =
-    let l = c .before in
-    refused-by (bytes (asked l)) (both (l .before)) (l .load .result) (held l) ∙ sym (c .meaning-refusal .ensures)
-
-returns-2 : tie.Need-returns-2
-returns-2 c =
-    let d = c .before .before in
-    no (bytes (asked (d .before))) (d .meaning-refusal .result) (c .refused2 .result) (omega arith) (decided d) (c .refused2 .ensures)
-
-returns-3 : tie.Need-returns-3
-returns-3 c =
-    let d = c .before in
-    let l = d .before in
-    let z : d .meaning-refusal .result ≡ 0 = omega arith in
-    yes-read (bytes (asked l)) (l .load .result) (decided d ∙ z) (held l)
+returns c = read-none (c .before .before .before .args .s .now) (c .probed .result) (omega arith) (c .probed .ensures)
 
 pub read-spec : {M : Type 1} → statement M
-read-spec =
-    tie.close
-    (tie.spec
-    (λ c κs. search needs)
-    (λ c κs. search needs)
-    (λ c κs. search needs)
-    (λ c κs. search needs)
-    returns
-    load-requires
-    (λ c κs. search needs)
-    (λ c κs. search needs)
-    returns-2
-    returns-3)
+read-spec = tie.close (tie.spec (λ c κs. search needs) returns (λ c κs. search needs) (λ c. search needs))

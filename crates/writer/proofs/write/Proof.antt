@@ -2,13 +2,14 @@
 use mathlib.Core.Path.{_≡_, sym, _∙_}
 use native.Mathlib.Omega.{arith}
 use borrow.Author.Needs.{needs}
+use Rattle.message.specs.Message.{Saying}
 use Rattle.message.specs.Question.{writeRefusal}
 use Rattle.writer.proofs.WriteLaws.{put-ready, no, yes-written}
 use Rattle.writer.proofs.write.Statement.{statement}
 use Rattle.writer.proofs.write.Tie as tie
 
 -- the questions decide
-decided : (c : tie.After-refusal) → writeRefusal (c .before .before .args .m) (c .before .before .args .out .now) ≡ c .refusal .result
+decided : (c : tie.After-refusal) → writeRefusal (Saying (c .before .before .args .m)) (c .before .before .args .out .now) ≡ c .refusal .result
 unfolding writeRefusal
 decided c = sym (c .refusal .ensures)
 
@@ -16,10 +17,10 @@ returns : tie.Need-returns
 returns c =
     let q = c .before in
     let a = q .before .before .args in
-    no (a .m) (a .out .now) (q .refusal .result) (omega arith) (decided q)
+    no (Saying (a .m)) (a .out .now) (q .refusal .result) (omega arith) (decided q)
 
 -- no question was answered no
-accepted : (c : tie.Else1) → let a = c .before .before .before .args in writeRefusal (a .m) (a .out .now) ≡ 0
+accepted : (c : tie.Else1) → let a = c .before .before .before .args in writeRefusal (Saying (a .m)) (a .out .now) ≡ 0
 accepted c =
     let z : c .before .refusal .result ≡ 0 = omega arith in
     decided (c .before) ∙ z
@@ -35,7 +36,8 @@ returns-2 c =
     let p = c .before .before in
     let e = p .before .before in
     let a = e .before .before .before .args in
-    yes-written (a .m) (a .out .now) (p .put-message .result) (p .put-message .last .0) (accepted e) (p .put-message .ensures .0) (p .put-message .ensures .1)
+    let put = p .put-message in
+    yes-written (Saying (a .m)) (a .out .now) (put .result) (put .last .0) (accepted e) (put .ensures .0) (put .ensures .1)
 
 pub write-spec : {M : Type 1} → statement M
 write-spec =

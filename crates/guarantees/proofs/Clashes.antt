@@ -1,14 +1,14 @@
 -- A message that names a held cue with other bytes is answered Clash, no other call is, and nothing changes.
 use mathlib.Core.Path.{_≡_, refl, sym, ap, _∙_}
 use mathlib.Core.Bool.{true, false, not}
-use mathlib.Core.List.{List}
+use mathlib.Core.List.{List, [], _∷_}
 use Prim.Native.Nat.{ℕ}
 use native.Mathlib.Omega.{arith}
 use lib.ListN.{length}
 use lib.Seq.{set-getD}
 use lib.Dec.{eqb, leb}
 use borrow.Author.Tests.{eqb-true, eq-eqb, leb-true, ltb-true}
-use Rattle.message.specs.Message.{DATA, RQST, REPL, Meaning, meaningFrom}
+use Rattle.message.specs.Message.{DATA, RQST, REPL, Meaning, meaningWith, meaningFrom}
 use Rattle.message.specs.Question.{sameHost}
 use Rattle.message.proofs.QuestionLaws.{and-both}
 use Rattle.end.specs.declared.Span.{Span}
@@ -104,8 +104,10 @@ clash-unclock : (e : End) (t : ℕ) (m : Meaning) → Clashing (withClock e t) m
 clash-unclock e t m c = record { member = c .member; another = c .another; carries = c .carries; held = c .held; differs = c .differs }
 
 pub other-bytes-clash : OtherBytesClash
-unfolding eventOf stepOf actOf
-other-bytes-clash e bytes clock room draws asked c =
+unfolding eventOf stepOf actOf meaningWith
+other-bytes-clash e [] clock room draws asked c = clash (sym (c .carries))
+other-bytes-clash e (b ∷ s) clock room draws asked c =
+    let bytes : List ℕ = b ∷ s in
     let m = meaningFrom bytes in
     rw (eq-eqb (questionOf e (Arrival bytes) clock room (length draws)) 0 asked, member-not-crashed (e .status) (c .member))
     (ap done (arrival-answers draws m (withClock e clock) (clash-clock e clock m c)))

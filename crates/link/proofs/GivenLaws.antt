@@ -67,7 +67,7 @@ not-probe : (k : ℕ) → isProbe (verdictFor k) ≡ false
 not-probe zero = refl
 not-probe (suc k) = refl
 
-message-arrives : (b : ℕ) (s : List ℕ) → countsAs Arrival (b ∷ s) ≡ Arrival
+pub message-arrives : (b : ℕ) (s : List ℕ) → countsAs Arrival (b ∷ s) ≡ Arrival
 unfolding readOf
 message-arrives b s = ap (takenAs Arrival) (not-probe (readRefusal (b ∷ s)))
 

@@ -1,15 +1,15 @@
 -- What the code finds as the reason of an event that is not refused is the first of document 02's list that holds.
-use mathlib.Core.Path.{_≡_, refl, sym, ap, _∙_}
+use mathlib.Core.Path.{_≡_, refl, sym, ap, subst, _∙_}
 use Prim.Native.Nat.{ℕ}
 use mathlib.Core.Bool.{Bool, true, false, cond, not}
-use mathlib.Core.List.{List, _∷_}
+use mathlib.Core.List.{List, [], _∷_}
 use mathlib.Core.Option.{Option, none, some}
 use lib.Dec.{eqb, leb}
 use native.Mathlib.Omega.{arith}
 use borrow.Author.Tests.{ne-eqb}
 use Rattle.message.specs.declared.Message.{Message}
 use Rattle.message.specs.Message.{Meaning, meaningOf, meaningFrom}
-use Rattle.message.specs.Question.{ask, firstNo, sameHost, ticksIn, readRefusal}
+use Rattle.message.specs.Question.{ask, firstNo, sameHost, ticksIn, readQuestions, readOf}
 use Rattle.message.proofs.QuestionLaws.{all-passed}
 use Rattle.end.specs.declared.Reason.{Reason}
 use Rattle.end.specs.declared.Reason.the-variants.{Crashed, WrongStatus, OwnMessage}
@@ -24,13 +24,13 @@ use Rattle.end.specs.Sound.{soundOf}
 use Rattle.end.specs.Event.{Action, moves, actionOf, ownQuestions, stateQuestions}
 use Rattle.end.specs.Why.{reasonHolds, refusedAs, because, whyOf, whyRefusal}
 use Rattle.end.proofs.Tools.{byTest, byCond}
-use Rattle.end.specs.Arrival.{saidIn}
+use Rattle.end.specs.Arrival.{namedIn}
 use Rattle.end.proofs.ReasonLaws.{later}
 use Rattle.receive.specs.Reason.{reasonFor}
 use Rattle.receive.proofs.Reasons.{named-later}
 use Rattle.link.specs.Frame.{readingFor}
 use Rattle.link.specs.Reason.{Heard, firstReason}
-use Rattle.link.proofs.GivenLaws.{heard}
+use Rattle.link.proofs.GivenLaws.{heard, countsAs, message-arrives}
 
 -- the event's own questions were answered yes
 pub own-passed : (e : End) (clock : ℕ) (a : Action) → refusedAs e clock a ≡ 0 → firstNo (ownQuestions a e) ≡ 0
@@ -40,41 +40,52 @@ own-passed e clock a h =
     let a4 = all-passed (ticksIn clock) 4 (ask (leb (e .clock) clock) 5 ∷ own) (omega arith) (a3 .1) in
     all-passed (leb (e .clock) clock) 5 own (omega arith) (a4 .1) .1
 
-module _ (e : End) (clock : ℕ) (cue bytes : List ℕ) (message : Message) where
-  -- an arrival's message passed question 10, and means what its bytes mean
-  pub given : (what : Event) → message ≡ readingFor what bytes .message → firstNo (ownQuestions (actionOf what cue bytes) e) ≡ 0 → Heard what message
-  unfolding readRefusal
-  given (Moves m) p h = tt
-  given Send p h = tt
-  given Arrival p h = heard bytes message p h .passing .ranges-in
-  given Fire p h = tt
-  given Report p h = tt
+-- an arrival's message passed question 10; a probe counts as a Report, which has none
+module _ (e : End) (cue : List ℕ) {message : Message} where
+  arrival-given : (bytes : List ℕ) → message ≡ readOf bytes .message → firstNo (readQuestions bytes) ≡ 0 → Heard (countsAs Arrival bytes) message
+  unfolding readOf
+  arrival-given [] p h = tt
+  arrival-given (b ∷ s) p h = subst (λ (what : Event). Heard what message) (sym (message-arrives b s)) (heard b s message p h .passing .ranges-in)
 
-  abbrev First : Event → Meaning → Type 0
-  First what m = firstReason what m (withClock e clock) ≡ firstThat (reasonHolds e clock (actionOf what cue bytes)) reasons
+  pub given : (bytes : List ℕ) (what : Event) → message ≡ readingFor what bytes .message → firstNo (ownQuestions (actionOf what cue bytes) e) ≡ 0 → Heard (countsAs what bytes) message
+  given bytes (Moves m) p h = tt
+  given bytes Send p h = tt
+  given bytes Arrival p h = arrival-given bytes p h
+  given bytes Fire p h = tt
+  given bytes Report p h = tt
 
-  by-member : (b : Bool) (x y : Option Reason) → x ≡ y → cond b x (some WrongStatus) ≡ cond (not b) (some WrongStatus) y
-  by-member true x y p = p
-  by-member false x y p = refl
+by-member : (b : Bool) (x y : Option Reason) → x ≡ y → cond b x (some WrongStatus) ≡ cond (not b) (some WrongStatus) y
+by-member true x y p = p
+by-member false x y p = refl
 
+module _ (e : End) (clock : ℕ) (cue : List ℕ) (message : Message) where
   abbrev Crash : Option Reason → Option Reason
   Crash o = cond (isCrashed (e .status)) (some Crashed) o
 
-  arrival-first : (m : Meaning) → firstReason Arrival m (withClock e clock)
-      ≡ Crash (cond (not (isMember (e .status))) (some WrongStatus) (cond (sameHost (m .sender) (e .host)) (some OwnMessage) (later (withClock e clock) (saidIn m (withClock e clock)))))
-  arrival-first m =
+  -- what the code finds, of the event that a call counts as, is the first that holds
+  abbrev First : Event → List ℕ → Type 0
+  First what bytes = firstReason (countsAs what bytes) (meaningOf message) (withClock e clock) ≡ firstThat (reasonHolds e clock (actionOf what cue bytes)) reasons
+
+  message-first : (m : Meaning) → firstReason Arrival m (withClock e clock)
+      ≡ Crash (cond (not (isMember (e .status))) (some WrongStatus) (cond (sameHost (m .sender) (e .host)) (some OwnMessage) (later (withClock e clock) (namedIn m (withClock e clock)))))
+  message-first m =
       ap Crash (by-member (isMember (e .status)) (reasonFor m (withClock e clock)) _
       (ap (λ (o : Option Reason). cond (sameHost (m .sender) (e .host)) (some OwnMessage) o) (named-later m (withClock e clock))))
 
-  pub first-is : (what : Event) → message ≡ readingFor what bytes .message → firstNo (ownQuestions (actionOf what cue bytes) e) ≡ 0 → First what (meaningOf message)
-  unfolding readRefusal
-  first-is (Moves m) p h = ap Crash (by-member (moves m (e .status)) none none refl)
-  first-is Send p h = ap Crash (by-member (isMember (e .status)) none none refl)
-  first-is Arrival p h =
-      ap (λ (m : Meaning). firstReason Arrival m (withClock e clock)) (heard bytes message p h .means)
-      ∙ arrival-first (meaningFrom bytes)
-  first-is Fire p h = ap Crash (by-member (isMember (e .status)) none none refl)
-  first-is Report p h = ap Crash (by-member (isMember (e .status)) none none refl)
+  arrival-first : (bytes : List ℕ) → message ≡ readOf bytes .message → firstNo (readQuestions bytes) ≡ 0 → First Arrival bytes
+  unfolding readOf
+  arrival-first [] p h = ap Crash (by-member (isMember (e .status)) none none refl)
+  arrival-first (b ∷ s) p h =
+      ap (λ (what : Event). firstReason what (meaningOf message) (withClock e clock)) (message-arrives b s)
+      ∙ ap (λ (m : Meaning). firstReason Arrival m (withClock e clock)) (heard b s message p h .means)
+      ∙ message-first (meaningFrom (b ∷ s))
+
+  pub first-is : (what : Event) (bytes : List ℕ) → message ≡ readingFor what bytes .message → firstNo (ownQuestions (actionOf what cue bytes) e) ≡ 0 → First what bytes
+  first-is (Moves m) bytes p h = ap Crash (by-member (moves m (e .status)) none none refl)
+  first-is Send bytes p h = ap Crash (by-member (isMember (e .status)) none none refl)
+  first-is Arrival bytes p h = arrival-first bytes p h
+  first-is Fire bytes p h = ap Crash (by-member (isMember (e .status)) none none refl)
+  first-is Report bytes p h = ap Crash (by-member (isMember (e .status)) none none refl)
 
 -- ---- what the call promises
 abbrev pub Reasoned : End → ℕ → Action → Why → Type 0
@@ -90,11 +101,11 @@ module _ (e : End) (clock : ℕ) (cue bytes : List ℕ) where
   refused-why what q p n = rw (← p) (rw (ne-eqb q 0 n) refl, refl)
 
   pub unrefused-why : (message : Message) (what : Event) (r : Why) (q : ℕ) → message ≡ readingFor what bytes .message → q ≡ refusedAs e clock (actionOf what cue bytes)
-      → q ≡ 0 → r ≡ because (firstReason what (meaningOf message) (withClock e clock)) → Reasoned e clock (actionOf what cue bytes) r
+      → q ≡ 0 → r ≡ because (firstReason (countsAs what bytes) (meaningOf message) (withClock e clock)) → Reasoned e clock (actionOf what cue bytes) r
   unfolding whyOf
   unrefused-why message what r q m p z h =
       let zero : refusedAs e clock (actionOf what cue bytes) ≡ 0 = sym p ∙ z in
       let own = own-passed e clock (actionOf what cue bytes) zero in (
-        h ∙ ap because (first-is e clock cue bytes message what m own) ∙ sym (rw zero),
-        ap whyRefusal h ∙ because-number (firstReason what (meaningOf message) (withClock e clock)) ∙ sym zero,
+        h ∙ ap because (first-is e clock cue message what bytes m own) ∙ sym (rw zero),
+        ap whyRefusal h ∙ because-number (firstReason (countsAs what bytes) (meaningOf message) (withClock e clock)) ∙ sym zero,
       )

@@ -246,8 +246,10 @@ pub fn reason(e: End, clock: u64, what: Event, cue: [u8; 24], bytes: &[u8]) -> W
     let verdict = reading.verdict;
     let message = reading.message;
     let q = questions::refused_as(e, clock, what, cue, verdict);
+    let probe = is_probe(verdict);
+    let taken = taken_as(what, probe);
     if q == 0 {
-        unrefused_reason(e, clock, what, message)
+        unrefused_reason(e, clock, taken, message)
     } else {
         Why::Refused(q)
     }

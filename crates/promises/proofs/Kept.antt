@@ -19,7 +19,7 @@ use Rattle.end.proofs.Clashes.{same-cue-is-same-bytes}
 use Rattle.end.proofs.Service.Ends.{service}
 use Rattle.end.proofs.Service.Unclashed.{never-clashes}
 use Rattle.end.proofs.Reasons.{ignored-for-the-first-reason}
-use Rattle.end.proofs.ReasonLaws.{reason-is-first, number-exactly, reason-exactly, none-exactly}
+use Rattle.end.proofs.ReasonLaws.{reason-is-first, none-holds, number-exactly, reason-exactly, none-exactly}
 use Rattle.cases.proofs.Shown.{service-shown, never-returns-clash}
 use Rattle.cases.proofs.Cases.{cases-hold, answers-hold, moves-hold, wire-holds, timed-hold, half-trips-hold, reasons-hold, stage-holds, quiet-holds, clashes-hold, probe-holds}
 use Rattle.promises.specs.Promises.{Promises}
@@ -103,7 +103,7 @@ promises = record {
     one-round-per-quiet = one-round-per-quiet;
   };
   first-reason = ignored-for-the-first-reason;
-  reasons = record { reason-is-first = reason-is-first; number-exactly = number-exactly; reason-exactly = reason-exactly; none-exactly = none-exactly };
+  reasons = record { reason-is-first = reason-is-first; none-holds = none-holds; number-exactly = number-exactly; reason-exactly = reason-exactly; none-exactly = none-exactly };
   cases = record {
     starred = cases-hold;
     answers = answers-hold;

@@ -10,7 +10,7 @@ use Rattle.end.specs.declared.Moment.{Moment}
 use Rattle.end.specs.declared.Word.{Word}
 use Rattle.end.specs.Records.{isHeld}
 use Rattle.end.specs.Decide.{decideAs}
-use Rattle.end.specs.Reasons.{holds, reasons, firstThat, reasonOf}
+use Rattle.end.specs.Reasons.{holds, nameReasons, firstThat, reasonOf}
 use Rattle.cases.specs.Case.{Hold}
 use Rattle.cases.specs.Rows.{rows}
 use Rattle.cases.specs.Answers.{answerRows}
@@ -59,7 +59,7 @@ pub record Promises : Type 0 where
   -- a message is ignored for the first of document 02's reasons that holds, and only if one does; in a sound state a closed source
   -- holds nothing
   pub first-reason : (t : Moment) (w : Word) (r : Record) (x : Span) → (x ≡ Closed → isHeld (r .slot) ≡ false)
-      → reasonOf (decideAs (w .says) t w r x) ≡ firstThat (holds (w .says) t w r x) reasons
+      → reasonOf (decideAs (w .says) t w r x) ≡ firstThat (holds (w .says) t w r x) nameReasons
   -- why an event is Ignored: document 02, P3
   pub reasons : ReasonsKept
   -- requests back off, within their bounds

@@ -15,6 +15,8 @@ pub record ReasonsKept : Type 0 where
   -- "The reason named is shown true and those before it false"
   pub reason-is-first : (e : End) (clock : ℕ) (a : Action) (reason : Reason) → whyOf e clock a ≡ why.Because reason
       → (reasonHolds e clock a reason ≡ true) × ((other : Reason) → reasonNumber other < reasonNumber reason → reasonHolds e clock a other ≡ false)
+  -- And where "none" is given, none of the ten holds.
+  pub none-holds : (e : End) (clock : ℕ) (a : Action) → whyOf e clock a ≡ why.NoReason → (reason : Reason) → reasonHolds e clock a reason ≡ false
   -- For every state, event, clock, output of at least 128 bytes and 64 draws: a number exactly where the event is refused with it ..
   pub number-exactly : (e : End) (clock : ℕ) (a : Action) (k room : ℕ) (draws : List ℕ) → 128 ≤ room → length draws ≡ 64
       → (whyOf e clock a ≡ why.Refused k → eventOf e a clock room draws .outcome ≡ Refused k)

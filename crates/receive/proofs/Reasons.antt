@@ -18,7 +18,7 @@ use Rattle.end.specs.declared.End.{End}
 use Rattle.end.specs.State.{sourceAt, distanceTo, momentOf}
 use Rattle.end.specs.Decide.{known, decideData, reached, decideRequest, decideRepair, decideAs, decide}
 use Rattle.end.specs.Reasons.{reasonOf}
-use Rattle.end.specs.Arrival.{messageName, messageCue, requesterIn, wordOf, saidIn}
+use Rattle.end.specs.Arrival.{messageName, messageCue, requesterIn, wordOf, namedIn}
 use Rattle.end.proofs.Tools.{byTest}
 use Rattle.end.proofs.ReasonLaws.{later, later-decided}
 use Rattle.receive.specs.Steps.{isNamed}
@@ -30,7 +30,7 @@ wordAway says m d = record { says = says; name = messageName m; requester = requ
 
 -- a decision does not look at the distance
 apart : (t : Moment) (m : Meaning) (d k : ℕ) (r : Record) (says : Says) (x : Span) → decideAs says t (wordAway says m d) r x ≡ decideAs says t (wordAway says m k) r x
-unfolding decideAs decideData reached decideRequest
+unfolding decideAs decideData reached decideRequest decideRepair
 apart t m d k r Data Closed = refl
 apart t m d k r Data (Open first last) = refl
 apart t m d k r Rqst Closed = refl
@@ -44,7 +44,7 @@ module _ (m : Meaning) (e : End) where
       let s = sourceAt e (messageName m .source) in
       ap reasonOf (apart (momentOf e) m 0 (distanceTo e (requesterIn says m)) (known (wordOf says m e) s) says (s .span)) ∙ sym (later-decided e (wordOf says m e))
 
-  pub named-later : cond (isNamed (m .kind)) (namedReason m e) none ≡ later e (saidIn m e)
+  pub named-later : cond (isNamed (m .kind)) (namedReason m e) none ≡ later e (namedIn m e)
   named-later = byTest (eqb (m .kind) DATA) (λ d. rw d (decided Data))
       (λ d. byTest (eqb (m .kind) RQST) (λ r. rw (d, r) (decided Rqst))
       (λ r. byTest (eqb (m .kind) REPL) (λ p. rw (d, r, p) (decided Repl)) (λ p. rw (d, r, p))))

@@ -27,7 +27,6 @@ enum-told-6 : tie.Need-enum-told-6
 enum-told-6 c = search needs
 
 enum-told-7 : tie.Need-enum-told-7
-    enum-told-8
 enum-told-7 c = search needs
 
 enum-told-8 : tie.Need-enum-told-8

@@ -1,17 +1,21 @@
 -- `link::reason` meets its contract: the number of the first no, or the reason that the code finds, which is the first that holds.
 use mathlib.Core.Path.{_≡_, sym, ap, subst, _∙_}
-use Prim.Native.Nat.{ℕ}
-use mathlib.Core.List.{List}
-use borrow.Author.Tests.{eq-eqb, ne-eqb}
+use mathlib.Core.Bool.{Bool}
 use denote.Ref.{now}
-use Rattle.message.specs.declared.Reading.{Reading}
-use Rattle.end.specs.Event.{actionOf}
-use Rattle.end.specs.Why.{refusedAs, whyOf}
-use Rattle.questions.specs.Read.{ReadAs}
-use Rattle.link.specs.Frame.{readingFor}
-use Rattle.link.proofs.GivenLaws.{read-verdict}
-use Rattle.link.proofs.ReasonLaws.{own-passed, given, refused-why, unrefused-why}
 use borrow.Author.Needs.{needs}
+use Rattle.message.specs.declared.Verdict.{Verdict}
+use Rattle.message.specs.declared.Message.{Message}
+use Rattle.message.specs.declared.Reading.{Reading}
+use Rattle.message.specs.Message.{meaningOf}
+use Rattle.end.specs.declared.Event.{Event}
+use Rattle.end.specs.State.{withClock}
+use Rattle.end.specs.Event.{actionOf}
+use Rattle.end.specs.Why.{refusedAs, because}
+use Rattle.questions.specs.Read.{ReadAs}
+use Rattle.link.specs.Frame.{readingFor, isProbe, takenAs}
+use Rattle.link.specs.Reason.{Heard, firstReason}
+use Rattle.link.proofs.GivenLaws.{read-verdict, countsAs}
+use Rattle.link.proofs.ReasonLaws.{own-passed, given, refused-why, unrefused-why}
 use Rattle.link.proofs.reason.Statement.{statement}
 use Rattle.link.proofs.reason.Tie as tie
 
@@ -21,30 +25,53 @@ reading-for-requires c κs = search needs
 refused-as-requires : tie.Need-refused-as-requires
 refused-as-requires c κs = search needs
 
--- the call, once its questions are asked: the message is what was read, and the number is the first no
-abbrev call : tie.After-refused-as → tie.Start
-call c = c .before .before .before .before
+is-probe-requires : tie.Need-is-probe-requires
+is-probe-requires c κs = search needs
 
-read : (c : tie.After-refused-as) → let a = call c .args in c .before .before .reading-for .result .message ≡ readingFor (a .what) (now (a .bytes)) .message
-read c = ap (λ (r : Reading). r .message) (c .before .before .reading-for .ensures)
+taken-as-requires : tie.Need-taken-as-requires
+taken-as-requires c κs = search needs
 
-number : (c : tie.After-refused-as) → let a = call c .args in c .refused-as .result ≡ refusedAs (a .e) (a .clock) (actionOf (a .what) (a .cue) (now (a .bytes)))
+-- ---- what is known before the test
+abbrev asked : tie.After-taken-as → tie.After-refused-as
+asked c = c .before .before
+
+abbrev call : tie.After-taken-as → tie.Start
+call c = asked c .before .before .before .before
+
+abbrev reading : tie.After-taken-as → Reading
+reading c = asked c .before .before .reading-for .result
+
+-- the reading is that of the bytes, the number is the first no, and the event is what the call counts as
+read : (c : tie.After-taken-as) → let a = call c .args in reading c ≡ readingFor (a .what) (now (a .bytes))
+read c = asked c .before .before .reading-for .ensures
+
+number : (c : tie.After-taken-as) → let a = call c .args in asked c .refused-as .result ≡ refusedAs (a .e) (a .clock) (actionOf (a .what) (a .cue) (now (a .bytes)))
 number c =
     let a = call c .args in
-    c .refused-as .ensures (now (a .bytes))
-    (subst (λ (r : Reading). ReadAs (a .what) (r .verdict) (now (a .bytes))) (sym (c .before .before .reading-for .ensures)) (read-verdict (a .what) (now (a .bytes))))
+    asked c .refused-as .ensures (now (a .bytes))
+    (subst (λ (r : Reading). ReadAs (a .what) (r .verdict) (now (a .bytes))) (sym (read c)) (read-verdict (a .what) (now (a .bytes))))
+
+counted : (c : tie.After-taken-as) → let a = call c .args in c .taken-as .result ≡ countsAs (a .what) (now (a .bytes))
+counted c =
+    let what = call c .args .what in
+    c .taken-as .ensures ∙ ap (takenAs what) (c .before .is-probe .ensures) ∙ ap (λ (r : Reading). takenAs what (isProbe (r .verdict))) (read c)
 
 unrefused-reason-requires : tie.Need-unrefused-reason-requires
 unrefused-reason-requires c κs =
     let found = c .before in
     let a = call found .args in
-    given (a .e) (a .clock) (a .cue) (now (a .bytes)) (found .before .before .reading-for .result .message) (a .what) (read found) (own-passed (a .e) (a .clock) (actionOf (a .what) (a .cue) (now (a .bytes))) (sym (number found) ∙ c .if1 .taken))
+    let own = own-passed (a .e) (a .clock) (actionOf (a .what) (a .cue) (now (a .bytes))) (sym (number found) ∙ c .if1 .taken) in
+    subst (λ (what : Event). Heard what (reading found .message)) (sym (counted found))
+    (given (a .e) (a .cue) (now (a .bytes)) (a .what) (ap (λ (r : Reading). r .message) (read found)) own)
 
 returns : tie.Need-returns
 returns c =
     let test = c .before in
-    let a = call (test .before) .args in
-    unrefused-why (a .e) (a .clock) (a .cue) (now (a .bytes)) _ (a .what) _ _ (read (test .before)) (number (test .before)) (test .if1 .taken) (c .unrefused-reason .ensures)
+    let found = test .before in
+    let a = call found .args in
+    unrefused-why (a .e) (a .clock) (a .cue) (now (a .bytes)) (reading found .message) (a .what) _ (asked found .refused-as .result)
+    (ap (λ (r : Reading). r .message) (read found)) (number found) (test .if1 .taken)
+    (c .unrefused-reason .ensures ∙ ap (λ (what : Event). because (firstReason what (meaningOf (reading found .message)) (withClock (a .e) (a .clock)))) (counted found))
 
 returns-2 : tie.Need-returns-2
 returns-2 c =
@@ -52,6 +79,4 @@ returns-2 c =
     refused-why (a .e) (a .clock) (a .cue) (now (a .bytes)) (a .what) _ (number (c .before)) (c .if1 .left)
 
 pub reason-spec : {M : Type 1} → statement M
-reason-spec =
-    tie.close
-    (tie.spec reading-for-requires refused-as-requires unrefused-reason-requires returns returns-2)
+reason-spec = tie.close (tie.spec reading-for-requires refused-as-requires is-probe-requires taken-as-requires unrefused-reason-requires returns returns-2)

@@ -251,6 +251,29 @@ branches! {
     FireKind "Fire: ties: request before reply",
     FireSource "Fire: ties: then lower source",
     FireNumber "Fire: ties: lower number",
+
+    // The reason behind Ignored: document 02, P3
+    WhyNone "reason: none",
+    Why3 "reason: refused 3",
+    Why4 "reason: refused 4",
+    Why5 "reason: refused 5",
+    Why6 "reason: refused 6",
+    Why7 "reason: refused 7",
+    Why8 "reason: refused 8",
+    Why9 "reason: refused 9",
+    Why10 "reason: refused 10",
+    Why11 "reason: refused 11",
+    WhyCrashed "reason: crashed",
+    WhyStatus "reason: wrong status",
+    WhyOwnMessage "reason: own message",
+    WhyNotOpen "reason: source not open",
+    WhyBelow "reason: below first",
+    WhyOwnAbove "reason: own number above last",
+    WhyHeld "reason: already held",
+    WhyReplyWaits "reason: reply waiting",
+    WhyReplyQuiet "reason: reply-quiet",
+    WhyQuiet "reason: request quiet",
+    WhyMore "reason: the first of two or more that hold",
 }
 
 thread_local! {
@@ -319,7 +342,20 @@ pub fn take_answer(answer: Answer, out: &[u8]) {
 
 /// A refusal, in a row of branches that starts with the refusal `from`.
 pub fn take_refusal(row: Branch, from: u8, number: u8) {
-    take(BRANCHES[row as usize + usize::from(number - from)].0);
+    take_nth(row, usize::from(number - from));
+}
+
+/// The branch so many places after the first of a row.
+pub fn take_nth(row: Branch, place: usize) {
+    take(BRANCHES[row as usize + place].0);
+}
+
+/// Does something without counting it.
+pub fn uncounted<T>(does: impl FnOnce() -> T) -> T {
+    let counting = COUNTING.replace(false);
+    let done = does();
+    COUNTING.set(counting);
+    done
 }
 
 /// An event outside membership that is no move.

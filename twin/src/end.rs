@@ -348,6 +348,13 @@ impl End {
     }
 }
 
+/// "Any event: Has the output at least 128 bytes? 1. Are there 64 draws [...]? 2."
+fn questions_of_surroundings(draws: &[Draw], out: &[u8]) -> Result<(), u8> {
+    message::ask(out.len() >= OUTPUT_LEN, 1)?;
+    let enough = unless(draws.len() >= DRAWS, Branch::FewDraws);
+    message::ask(enough && unless(draws.len() <= DRAWS, Branch::ManyDraws), 2)
+}
+
 /// "is the host below 8? 12. Are parameters in range and constrained as above? 13."
 fn opening_questions(host: u8, params: &Params) -> Result<(), u8> {
     message::ask(host < HOSTS, 12)?;
@@ -482,7 +489,17 @@ impl End {
         draws: &[Draw],
         out: &[u8],
     ) -> Result<Option<Message>, u8> {
-        self.questions_of_any(clock, draws, out)?;
+        questions_of_surroundings(draws, out)?;
+        self.questions_of_state(event, clock)
+    }
+
+    /// Questions 3 to 11, which a state, a clock and an event alone decide.
+    pub(crate) fn questions_of_state(
+        &self,
+        event: &Event,
+        clock: u64,
+    ) -> Result<Option<Message>, u8> {
+        self.questions_of_any(clock)?;
         match event {
             Event::Send(cue) => self.questions_of_send(cue).map(|()| None),
             Event::Arrival(bytes) => message::read(bytes).map(Some),
@@ -490,13 +507,9 @@ impl End {
         }
     }
 
-    /// "Any event: Has the output at least 128 bytes? 1. Are there 64 draws [...]? 2. Is
-    /// the state sound? 3. Is the clock at most 2^48−1? 4. Is it at least the state's?
+    /// "Is the state sound? 3. Is the clock at most 2^48−1? 4. Is it at least the state's?
     /// 5."
-    fn questions_of_any(&self, clock: u64, draws: &[Draw], out: &[u8]) -> Result<(), u8> {
-        message::ask(out.len() >= OUTPUT_LEN, 1)?;
-        let enough = unless(draws.len() >= DRAWS, Branch::FewDraws);
-        message::ask(enough && unless(draws.len() <= DRAWS, Branch::ManyDraws), 2)?;
+    fn questions_of_any(&self, clock: u64) -> Result<(), u8> {
         message::ask(self.sound(), 3)?;
         message::ask(clock <= CLOCK_MAX, 4)?;
         message::ask(clock >= self.clock, 5)

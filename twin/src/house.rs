@@ -24,7 +24,16 @@ struct Line {
 /// Reads the script line by line, any number of lines, and prints each answer as
 /// it comes. "At a malformed line, an unknown message number or a 65th message it
 /// prints "bad" and stops"; what came before stays printed.
-pub fn play(mut script: impl BufRead, mut print: impl Write) -> io::Result<()> {
+pub fn play(script: impl BufRead, print: impl Write) -> io::Result<()> {
+    lines(script, print, false)
+}
+
+/// The program `why`: house's lines, with the reason's words after each `ignored`.
+pub fn explain(script: impl BufRead, print: impl Write) -> io::Result<()> {
+    lines(script, print, true)
+}
+
+fn lines(mut script: impl BufRead, mut print: impl Write, explained: bool) -> io::Result<()> {
     // "the ends are hosts 0 and 1", "parameters 9,8,4,4,4,8"
     let mut ends = [0, 1].map(|host| End::open(host, Params::STANDARD).1);
     let mut messages: Vec<Vec<u8>> = Vec::new();
@@ -41,6 +50,7 @@ pub fn play(mut script: impl BufRead, mut print: impl Write) -> io::Result<()> {
         let Some(Line { end, clock, event }) = parse(&line, &messages) else {
             return writeln!(print, "bad");
         };
+        let why = ends[end].why(&event, clock);
         let mut out = [0; OUTPUT_LEN];
         let answer = match ends[end].event(&event, clock, &[0; DRAWS], &mut out) {
             Answer::Out(_) if messages.len() == MESSAGES => return writeln!(print, "bad"),
@@ -54,6 +64,7 @@ pub fn play(mut script: impl BufRead, mut print: impl Write) -> io::Result<()> {
             }
             Answer::Refused(question) => format!("refused {question}"),
             Answer::Done => "done".to_string(),
+            Answer::Ignored if explained => format!("ignored: {why}"),
             Answer::Ignored => "ignored".to_string(),
             Answer::Nothing => "nothing".to_string(),
         };

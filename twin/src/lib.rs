@@ -15,6 +15,7 @@ pub mod house;
 pub mod message;
 pub mod picture;
 pub mod random;
+pub mod reason;
 pub mod replay;
 pub mod text;
 pub mod trace;

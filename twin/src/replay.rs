@@ -9,6 +9,7 @@ use crate::cue::{Cue, CUE_LEN};
 use crate::digest::digest;
 use crate::end::{Answer, Body, End, Event, Heard, Params, Record, Status};
 use crate::message::{self, Message};
+use crate::reason::Why;
 use crate::text::Hex;
 use crate::trace::{row_of_draws, BUFFER, ENDS, MOST_DRAWS};
 use crate::trace::{Asked, At, Brought, Composed, Does, Field, InWords, Kind, Line, Row, Verb};
@@ -71,9 +72,11 @@ enum Outcome {
     Quiet,
     Shown(u8),
     Asked(Said),
-    /// A call without an end.
+    /// A call that leaves no end.
     Alone(Said),
-    OnEnd(u8, Said),
+    Opened(u8, Said),
+    /// An event, with the reason that was asked before it.
+    Event(u8, Said, Why),
 }
 
 /// An answer, and ` CHANGED` or ` OTHER BYTES` where a call did what no call may.
@@ -119,18 +122,22 @@ impl<'a> Player<'a> {
     }
 
     fn row(&mut self, row: &Row, outcome: Outcome, print: &mut impl Write) -> io::Result<()> {
-        let (end, said) = match outcome {
+        let (end, said, why) = match outcome {
             Outcome::Quiet => return Ok(()),
             Outcome::Shown(_) if self.mode == Mode::Rows => return Ok(()),
             Outcome::Shown(end) => return self.show(end, print),
-            Outcome::Asked(said) => (None, said),
+            Outcome::Asked(said) => (None, said, None),
             Outcome::Alone(said) => {
                 self.calls += 1;
-                (None, said)
+                (None, said, None)
             }
-            Outcome::OnEnd(end, said) => {
+            Outcome::Opened(end, said) => {
                 self.calls += 1;
-                (Some(end), said)
+                (Some(end), said, None)
+            }
+            Outcome::Event(end, said, why) => {
+                self.calls += 1;
+                (Some(end), said, Some(why))
             }
         };
         let right = self.judge(row.expected.as_deref(), &said);
@@ -142,6 +149,9 @@ impl<'a> Player<'a> {
             let output = Hex(self.bench.output());
             let digest = digest(self.bench.end(end));
             write!(print, "; {output}; {digest:016X}")?;
+        }
+        if let Some(why) = why {
+            write!(print, "; {why}")?;
         }
         writeln!(print, "{}", if right { "" } else { " WRONG" })?;
         match end {
@@ -252,12 +262,19 @@ impl Bench {
         match does {
             Does::Open { end, host, params } => {
                 let said = self.open(*end, *host, *params);
-                return Some(Outcome::OnEnd(*end, said));
+                return Some(Outcome::Opened(*end, said));
             }
             Does::Call { end, clock, verb } => {
                 let event = self.event_of(verb)?;
+                let why = self.end(*end).why(&event, *clock);
                 let said = self.call(*end, *clock, &event);
-                return Some(Outcome::OnEnd(*end, said));
+                return Some(Outcome::Event(*end, said, why));
+            }
+            Does::Why { end, clock, verb } => {
+                let event = self.event_of(verb)?;
+                self.refill();
+                let why = self.end(*end).why(&event, *clock);
+                return Some(Outcome::Alone(why.to_string().into()));
             }
             Does::Read(bytes) => return Some(Outcome::Alone(self.read(bytes))),
             Does::Write(composed) => return Some(Outcome::Alone(self.write(composed))),

@@ -53,6 +53,7 @@ pub enum Does {
     Fill(u8),
     Open { end: u8, host: u8, params: Params },
     Call { end: u8, clock: u64, verb: Verb },
+    Why { end: u8, clock: u64, verb: Verb },
     Read(Vec<u8>),
     Write(Composed),
     Test(Cue),
@@ -375,7 +376,14 @@ impl Does {
         use Does::*;
         matches!(
             self,
-            Open { .. } | Call { .. } | Read(_) | Write(_) | Test(_) | Ask { .. } | AskOutput
+            Open { .. }
+                | Call { .. }
+                | Why { .. }
+                | Read(_)
+                | Write(_)
+                | Test(_)
+                | Ask { .. }
+                | AskOutput
         )
     }
 }
@@ -415,16 +423,21 @@ fn on_end(end: u8, words: &mut Words) -> Option<Does> {
             asked: asked(words)?,
         },
         "show" => Does::Show { end },
+        "why" => {
+            let (clock, verb) = event(words.word()?, words)?;
+            Does::Why { end, clock, verb }
+        }
         verb => {
-            let clock = words.number()?;
-            let verb = event(verb, words)?;
+            let (clock, verb) = event(verb, words)?;
             Does::Call { end, clock, verb }
         }
     })
 }
 
-fn event(verb: &str, words: &mut Words) -> Option<Verb> {
-    Some(match verb {
+/// What follows END in an event's line: the verb, the clock, and what it brings.
+fn event(verb: &str, words: &mut Words) -> Option<(u64, Verb)> {
+    let clock = words.number()?;
+    let verb = match verb {
         "join" => Verb::Join,
         "joined" => Verb::Joined,
         "leave" => Verb::Leave,
@@ -435,7 +448,8 @@ fn event(verb: &str, words: &mut Words) -> Option<Verb> {
         "send" => Verb::Send(words.cue()?),
         "hear" => Verb::Hear(brought(words)?),
         _ => return None,
-    })
+    };
+    Some((clock, verb))
 }
 
 /// One word is the number of a message; a kind may be a number too, but more follows it.
@@ -729,7 +743,14 @@ impl fmt::Display for Does {
             Does::Room(bytes) => write!(f, "room {bytes}"),
             Does::Fill(byte) => write!(f, "fill {byte}"),
             Does::Open { end, host, params } => write!(f, "{end} open {host} {params}"),
-            Does::Call { end, clock, verb } => print_event(*end, *clock, verb, f),
+            Does::Call { end, clock, verb } => {
+                write!(f, "{end} ")?;
+                print_event(*clock, verb, f)
+            }
+            Does::Why { end, clock, verb } => {
+                write!(f, "{end} why ")?;
+                print_event(*clock, verb, f)
+            }
             Does::Read(bytes) => write!(f, "read {}", Hex(bytes)),
             Does::Write(composed) => write!(f, "write {composed}"),
             Does::Test(cue) => write!(f, "test {cue}"),
@@ -742,17 +763,17 @@ impl fmt::Display for Does {
     }
 }
 
-fn print_event(end: u8, clock: u64, verb: &Verb, f: &mut fmt::Formatter<'_>) -> fmt::Result {
+fn print_event(clock: u64, verb: &Verb, f: &mut fmt::Formatter<'_>) -> fmt::Result {
     match verb {
-        Verb::Join => write!(f, "{end} join {clock}"),
-        Verb::Joined => write!(f, "{end} joined {clock}"),
-        Verb::Leave => write!(f, "{end} leave {clock}"),
-        Verb::Left => write!(f, "{end} left {clock}"),
-        Verb::Crash => write!(f, "{end} crash {clock}"),
-        Verb::Fire => write!(f, "{end} fire {clock}"),
-        Verb::Report => write!(f, "{end} report {clock}"),
-        Verb::Send(cue) => write!(f, "{end} send {clock} {cue}"),
-        Verb::Hear(brought) => write!(f, "{end} hear {clock} {brought}"),
+        Verb::Join => write!(f, "join {clock}"),
+        Verb::Joined => write!(f, "joined {clock}"),
+        Verb::Leave => write!(f, "leave {clock}"),
+        Verb::Left => write!(f, "left {clock}"),
+        Verb::Crash => write!(f, "crash {clock}"),
+        Verb::Fire => write!(f, "fire {clock}"),
+        Verb::Report => write!(f, "report {clock}"),
+        Verb::Send(cue) => write!(f, "send {clock} {cue}"),
+        Verb::Hear(brought) => write!(f, "hear {clock} {brought}"),
     }
 }
 

@@ -40,3 +40,29 @@ fn lines_are_short() {
         assert!(text.len() < 100 * STEPS as usize, "seed {seed}");
     }
 }
+
+/// "It gives "none" exactly where the event would be neither refused nor Ignored."; "An event that would be refused as 3 to 11 yields that
+/// number." Questions 1 and 2 are not asked.
+#[test]
+fn reasons_agree_with_answers() {
+    let mut seen = 0;
+    for seed in 1..=SEEDS {
+        let printed = played(&trace(seed, STEPS).expect("the run is one of the service"));
+        for line in printed.lines() {
+            let parts: Vec<&str> = line.split("; ").collect();
+            let [said, _, _, reason] = parts[..] else {
+                continue;
+            };
+            let answer = said.split_once(' ').map_or("", |(_, answer)| answer);
+            let agrees = match answer {
+                "refused 1" | "refused 2" => true,
+                "ignored" => reason != "none" && !reason.starts_with("refused"),
+                _ if answer.starts_with("refused") => reason == answer,
+                _ => reason == "none",
+            };
+            assert!(agrees, "seed {seed}: {line}");
+            seen += 1;
+        }
+    }
+    assert!(seen > SEEDS * STEPS / 2);
+}

@@ -102,6 +102,9 @@ impl Player {
             }
             Does::Set { end, field } => set(&mut bench.ends[usize::from(*end)], field),
             // These leave the ends as they are.
+            Does::Why { verb, .. } => {
+                bench.event_of(verb)?;
+            }
             Does::Fill(_) | Does::Read(_) | Does::Write(_) | Does::Test(_) => {}
             Does::Ask { .. } | Does::AskOutput | Does::Show { .. } => {}
         }

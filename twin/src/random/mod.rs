@@ -37,11 +37,12 @@ pub fn trace(seed: u64, steps: u64) -> Result<String, String> {
 type Part = fn(&mut Run);
 
 /// The parts of a run, and how many of 100 draws choose each.
-const PARTS: [(u64, Part); 7] = [
-    (50, Run::on_one),
+const PARTS: [(u64, Part); 8] = [
+    (46, Run::on_one),
     (2, Run::opening),
     (10, Run::codec),
     (1, Run::asking),
+    (4, Run::asking_why),
     (8, Run::on_spare),
     (14, Run::on_changed),
     (15, Run::scene),

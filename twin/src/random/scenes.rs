@@ -1,15 +1,15 @@
 //! Scenes: a state about an edge of a rule, and the call that meets it. They are played on the spare end or on a fresh one.
 
 use super::events::MOVES;
-use super::messages::{about, session};
+use super::messages::{about, composed, session};
 use super::stage::{COPY, SPARE};
 use super::{Part, Run};
-use crate::end::{Heard, Reply, Status};
-use crate::message::{self, Echo, Report};
-use crate::trace::{Field, Verb};
+use crate::end::{Heard, Params, Reply, Status};
+use crate::message::{self, Echo, Message, Report};
+use crate::trace::{At, Field, Verb};
 use crate::{CLOCK_MAX, NUMBERS};
 
-const SCENES: [(u64, Part); 12] = [
+const SCENES: [(u64, Part); 13] = [
     (8, request_quiet),
     (8, reply_quiet),
     (10, ties),
@@ -22,6 +22,7 @@ const SCENES: [(u64, Part); 12] = [
     (4, looped),
     (18, statuses),
     (1, full_report),
+    (8, two_reasons),
 ];
 
 impl Run {
@@ -280,4 +281,60 @@ fn looped(run: &mut Run) {
         }
     };
     run.hears(clock, message);
+}
+
+/// "the first that holds" (document 02, P3): a state and a message for which two or more of the reasons hold, and the event that meets
+/// them.
+fn two_reasons(run: &mut Run) {
+    let me = run.me();
+    let mut name = run.name(false);
+    match run.dice.below(4) {
+        // A reply waits and its time is quiet.
+        0 => {
+            run.held(name);
+            let requester = run.dice.host_but(&[me, name.source]);
+            let due = run.after(5);
+            run.stage
+                .set(SPARE, Field::Reply(name, Reply { due, requester }));
+            let ticks = 1 + run.dice.below(3);
+            let quiet = run.after(ticks);
+            run.stage.set(SPARE, Field::Hush(name, quiet));
+        }
+        // A number just outside the span, or a source that is not open.
+        1 => name = run.name_near(SPARE, name.source),
+        2 => name.source = run.dice.small(8),
+        // No member, or a crashed end, hears it: what it kept is gone, so its source is not open either.
+        _ => {
+            let status = run
+                .dice
+                .pick(&[Status::Leaving, Status::Crashed, Status::Idle]);
+            run.stage.open(COPY, me, Params::STANDARD);
+            run.stage.set(COPY, Field::Status(status));
+            let message = run.looped_or_not(me, name);
+            let verb = Verb::Hear(composed(message));
+            run.stage.act(COPY, 9, verb);
+            return;
+        }
+    }
+    let message = run.looped_or_not(me, name);
+    let ticks = run.dice.below(4);
+    let clock = run.after(ticks);
+    run.hears(clock, message);
+}
+
+impl Run {
+    /// An RQST or REPL about a name, every other time of oneself.
+    fn looped_or_not(&mut self, me: u8, name: At) -> Message {
+        let source = name.source;
+        let other = self.dice.host_but(&[me, source]);
+        let looped = self.dice.one_in(2);
+        let cue = self.good_cue();
+        if self.dice.one_in(2) && !(looped && source == me) {
+            let sender = if looped { me } else { other };
+            return about(message::RQST, sender, 5, name, sender, cue);
+        }
+        let sender = if looped { me } else { other };
+        let requester = self.dice.host_but(&[sender, source]);
+        about(message::REPL, sender, 5, name, requester, cue)
+    }
 }

@@ -6,7 +6,7 @@ use super::stage::{COPY, SPARE};
 use super::Run;
 use crate::end::{Reply, Request, Status};
 use crate::message::{self, Message};
-use crate::trace::{At, Field, Verb};
+use crate::trace::{At, Does, Field, Verb};
 use crate::{CLOCK_MAX, NUMBERS};
 
 impl Run {
@@ -46,6 +46,17 @@ impl Run {
         let clock = self.spare_clock(own);
         let (verb, _) = self.verb(kind, place, clock, 60);
         self.stage.act(place, clock, verb);
+    }
+
+    /// The reason of any event on any end, asked alone. It changes nothing, so an invented message may be brought to one of the eight too.
+    pub(super) fn asking_why(&mut self) {
+        let place = self.dice.below(10) as usize;
+        let kind = self.dice.weighted(&ANY);
+        let own = self.stage.ends[place].clock;
+        let clock = self.spare_clock(own);
+        let (verb, _) = self.verb(kind, place, clock, 60);
+        let end = place as u8;
+        self.stage.line(Does::Why { end, clock, verb });
     }
 
     fn spare_clock(&mut self, own: u64) -> u64 {

@@ -78,7 +78,10 @@ impl Stage {
 
     /// A line that changes no end.
     pub fn line(&mut self, does: Does) {
-        if matches!(does, Does::Read(_) | Does::Write(_) | Does::Test(_)) {
+        if matches!(
+            does,
+            Does::Read(_) | Does::Write(_) | Does::Test(_) | Does::Why { .. }
+        ) {
             self.calls += 1;
         }
         let _ = writeln!(self.text, "{does}");

@@ -3,7 +3,7 @@
 use std::io::{self, BufReader, Read, Write};
 use std::process::{Command, Stdio};
 
-use twin::house::play;
+use twin::house::{explain, play};
 
 const SCRIPT: &str = "\
 0 join 0
@@ -112,6 +112,46 @@ fn every_answer() {
 1 10 done
 ";
     assert_eq!(house(script.as_bytes()), printed);
+}
+
+/// `why` prints house's lines, with the reason's words after each `ignored`.
+#[test]
+fn why() {
+    let script = "\
+0 report 5
+0 join 5
+0 joined 5
+0 send 7 1
+0 hear 8 0
+0 hear 7 0
+0 fire 8
+0 hear 9 1
+";
+    let printed = "\
+0 5 ignored: wrong status
+0 5 done
+0 5 done
+0 7 out 0
+0 8 ignored: own message
+0 7 refused 5
+0 8 nothing
+bad
+";
+    let mut explained = Vec::new();
+    explain(script.as_bytes(), &mut explained).unwrap();
+    assert_eq!(String::from_utf8(explained).unwrap(), printed);
+}
+
+/// The stored run of `why` is what the twin prints.
+#[test]
+fn stored_why() {
+    let stored = |file: &str| {
+        let path = concat!(env!("CARGO_MANIFEST_DIR"), "/../crates/why/");
+        std::fs::read_to_string(format!("{path}{file}")).unwrap()
+    };
+    let mut explained = Vec::new();
+    explain(stored("stdin").as_bytes(), &mut explained).unwrap();
+    assert_eq!(String::from_utf8(explained).unwrap(), stored("stdout"));
 }
 
 #[test]

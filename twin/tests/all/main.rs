@@ -8,6 +8,7 @@ mod house;
 mod messages;
 mod picture;
 mod questions;
+mod reasons;
 mod runs;
 mod soundness;
 mod support;

@@ -48,7 +48,7 @@ const AT: At = At {
 };
 
 /// One line of each form, each as it is printed.
-const LINES: [&str; 74] = [
+const LINES: [&str; 79] = [
     "start",
     "draws 66 65535 7",
     "draws 0 0 0",
@@ -120,6 +120,11 @@ const LINES: [&str; 74] = [
     "0 ask same 9",
     "ask output",
     "0 show",
+    "0 why join 40",
+    "1 why send 40 -2 1 0 -1 65535",
+    "2 why hear 40 3",
+    "3 why hear 40 bytes none",
+    "4 why hear 40 rqst 1 392 name 0 1 1 = none",
     "# a heading = with | marks",
     "#",
     "0 fire 3 = out 15 rqst | a remark | and = more",
@@ -222,7 +227,7 @@ fn expectations_and_remarks() {
 }
 
 /// Lines that are malformed in one place each.
-const MALFORMED: [&str; 98] = [
+const MALFORMED: [&str; 105] = [
     " ",
     "0",
     "stop",
@@ -321,6 +326,13 @@ const MALFORMED: [&str; 98] = [
     "0 ask",
     "0 ask output",
     "ask clock",
+    "why join 40",
+    "0 why",
+    "0 why join",
+    "0 why why join 40",
+    "0 why open 0 9 8 4 4 4 8",
+    "0 why show",
+    "0 why hear 40",
 ];
 
 #[test]
@@ -400,6 +412,37 @@ fn a_script_of_house_is_a_trace() {
 }
 
 #[test]
+fn reasons() {
+    let lines = answers(
+        "0 report 5\n0 why report 5\n0 why join 5\n0 join 5\n0 join 4\nroom 127\n0 join 5\nask output\n0 why join 5 = done\n",
+    );
+    let reasons: Vec<&str> = lines
+        .iter()
+        .map(|line| line.rsplit("; ").next().unwrap())
+        .collect();
+    assert_eq!(
+        reasons,
+        [
+            "wrong status",
+            "2 wrong status",
+            "3 none",
+            "none",
+            "refused 5",
+            "wrong status",
+            "8 none",
+            "9 wrong status WRONG",
+        ]
+    );
+    assert_eq!(played("0 why hear 0 0\n", Mode::Plain), "1 bad\n");
+    // It is a call; what was put out stays, and the output that it has none of.
+    let trace = "0 join 0\n0 joined 0\n0 report 0\n0 why fire 0\nask output\n0 why hear 0 0\n";
+    let printed = played(trace, Mode::Plain);
+    assert!(
+        printed.ends_with("4 none\n5 none\n6 own message\n6 lines, 5 calls, 0 right, 0 wrong\n")
+    );
+}
+
+#[test]
 fn the_digest_is_the_pages() {
     // Both were worked out from the page's last paragraph apart from this program: the
     // fresh end of host 0, and what the script leaves of host 1's.
@@ -407,7 +450,7 @@ fn the_digest_is_the_pages() {
         answers("3 open 0 9 8 4 4 4 8\n"),
         ["1 opened; none; C46C89397BAAECC4"]
     );
-    assert!(answers(SCRIPT)[13].ends_with("; 86D9486526BAE414"));
+    assert!(answers(SCRIPT)[13].ends_with("; 86D9486526BAE414; none"));
 }
 
 #[test]
@@ -747,7 +790,8 @@ fn changed_lines() {
         }
         let changed = words.join(" ");
         // A message's number may be unknown, which is bad; `start` would undo too much.
-        let unknown = words.contains(&"hear") && words.len() == 4;
+        let asked = usize::from(words.contains(&"why"));
+        let unknown = words.contains(&"hear") && words.len() == 4 + asked;
         let Some(parsed) = parse(&changed).filter(|_| !unknown && line != "start") else {
             continue;
         };

@@ -24,6 +24,7 @@ branches! {
     OutRepl "out REPL",
     OutSess "out SESS",
     Got "got",
+    Clash "clash",
     Done "done",
     Ignored "ignored",
     Nothing "nothing",
@@ -167,6 +168,7 @@ branches! {
     ReportOutside "Report outside membership: Ignored",
     ArrivalOutside "Arrival outside membership: Ignored",
     OwnMessage "an arrival whose sender is oneself: Ignored",
+    OwnMessageOther "an arrival whose sender is oneself, of a held cue with other bytes: Ignored",
 
     // Send
     SendFirst "Send: it becomes last, and first if none",
@@ -188,7 +190,8 @@ branches! {
     // DATA
     DataNoFirst "DATA: no first: first = last = the number, Got",
     DataBelow "DATA: below first: Ignored",
-    DataHeld "DATA: held: Ignored",
+    DataHeld "DATA: held with the same bytes: Ignored",
+    DataClash "DATA: held with other bytes: Clash",
     DataWaiting "DATA: otherwise hold it, drop its request, Got",
     DataNext "DATA: above last, none between",
     DataGap "DATA: above last, each number between gets round 1",
@@ -215,8 +218,12 @@ branches! {
     ReplWaiting "REPL: not held: as DATA, Got",
     ReplNext "REPL: not held, above last, none between",
     ReplGap "REPL: not held, above last, numbers between get round 1",
-    ReplHeldOwn "REPL: held: Done: own cue",
-    ReplHeldOther "REPL: held: Done: another's cue",
+    ReplHeldOwn "REPL: held with the same bytes: Done: own cue",
+    ReplHeldOther "REPL: held with the same bytes: Done: another's cue",
+    ReplClashOwn "REPL: held with other bytes: Clash: own cue",
+    ReplClashOther "REPL: held with other bytes: Clash: another's cue",
+    ClashFree "Clash: offsets and lamp agree",
+    ClashReplyStays "Clash: its waiting reply stays",
     ReplDropsReply "REPL: its waiting reply goes",
     ReplForOneself "REPL: requester is oneself",
 
@@ -334,6 +341,7 @@ pub fn take_answer(answer: Answer, out: &[u8]) {
             take(BRANCHES[Branch::OutData as usize + kind - 1].0);
         }
         Answer::Got { .. } => take(Branch::Got),
+        Answer::Clash { .. } => take(Branch::Clash),
         Answer::Done => take(Branch::Done),
         Answer::Ignored => take(Branch::Ignored),
         Answer::Nothing => take(Branch::Nothing),

@@ -122,6 +122,11 @@ pub enum Answer {
         source: u8,
         number: u8,
     },
+    /// Document 02, P4: "a new answer, Clash, with the name".
+    Clash {
+        source: u8,
+        number: u8,
+    },
     Done,
     Ignored,
     Nothing,
@@ -711,6 +716,7 @@ impl End {
     /// "an arrival whose sender is oneself: Ignored."
     fn arrival(&mut self, message: &Message, draws: &[Draw], out: &mut [u8]) -> Answer {
         if when(message.sender == self.host, Branch::OwnMessage) {
+            self.take_own_clash(message);
             return Answer::Ignored;
         }
         match (message.kind, &message.names[..], &message.cues[..]) {
@@ -722,21 +728,50 @@ impl End {
     }
 
     /// "DATA: no first: first = last = the number, Got. Below first or held: Ignored.
-    /// Otherwise hold it, drop its request, Got".
+    /// Otherwise hold it, drop its request, Got"; held with other bytes, P4's Clash.
     fn data(&mut self, name: &Name, cue: Cue, draws: &[Draw], out: &mut [u8]) -> Answer {
         const TAKES: [Branch; 3] = [Branch::DataWaiting, Branch::DataNext, Branch::DataGap];
         let kept = self.source_mut(name.source);
         if when(kept.first.is_none(), Branch::DataNoFirst) {
             kept.first = Some(name.number);
             kept.last = Some(name.number);
-        } else if when(kept.is_below_first(name.number), Branch::DataBelow)
-            || when(self.is_held(name), Branch::DataHeld)
-        {
+        } else if when(kept.is_below_first(name.number), Branch::DataBelow) {
+            return Answer::Ignored;
+        } else if when(self.clashes(name, cue), Branch::DataClash) {
+            return self.clash(name, cue);
+        } else if when(self.is_held(name), Branch::DataHeld) {
             return Answer::Ignored;
         } else {
             self.take_rise(name, TAKES);
         }
         self.hand_out(name, cue, draws, out)
+    }
+
+    /// Document 02, P4: "DATA and REPL messages counted as the same cue when their names
+    /// agreed; now all 24 cue bytes must agree too. Such a message from another end that
+    /// names a held cue with other bytes": is this cue held with other bytes?
+    fn clashes(&self, name: &Name, cue: Cue) -> bool {
+        let record = self.record(name.source, name.number);
+        record.is_held() && record.cue.0 != cue.0
+    }
+
+    /// "gets a new answer, Clash, with the name; apart from the clock nothing changes,
+    /// reply waits included."
+    fn clash(&self, name: &Name, cue: Cue) -> Answer {
+        let record = self.record(name.source, name.number);
+        when(record.cue.0[..10] == cue.0[..10], Branch::ClashFree);
+        when(record.reply.is_some(), Branch::ClashReplyStays);
+        Answer::Clash {
+            source: name.source,
+            number: name.number,
+        }
+    }
+
+    /// An own message that would clash, were it another's.
+    fn take_own_clash(&self, message: &Message) {
+        if let ([name], [cue]) = (&message.names[..], &message.cues[..]) {
+            when(self.clashes(name, *cue), Branch::OwnMessageOther);
+        }
     }
 
     /// "Otherwise hold it, drop its request, Got; if it is above last, each number
@@ -832,11 +867,19 @@ impl End {
 
     /// "REPL: Ignored as RQST's first line has it; a repair never opens a source. Not
     /// held: as DATA, Got; held: Done. Either way its waiting reply goes and reply-quiet
-    /// = t + D3×d, d to the requester."
+    /// = t + D3×d, d to the requester."; held with other bytes, P4's Clash.
     fn repl(&mut self, name: &Name, cue: Cue, draws: &[Draw], out: &mut [u8]) -> Answer {
         const IGNORED: [Branch; 3] = [Branch::ReplNoFirst, Branch::ReplBelow, Branch::ReplOwnAbove];
         if self.out_of_reach(name, IGNORED) {
             return Answer::Ignored;
+        }
+        if self.clashes(name, cue) {
+            take(if name.source == self.host {
+                Branch::ReplClashOwn
+            } else {
+                Branch::ReplClashOther
+            });
+            return self.clash(name, cue);
         }
         let answer = if self.is_held(name) {
             take(if name.source == self.host {

@@ -62,6 +62,8 @@ fn lines(mut script: impl BufRead, mut print: impl Write, explained: bool) -> io
                 let focus = i16::from_be_bytes([out[0], out[1]]);
                 format!("got {source} {number} {focus}")
             }
+            // No run of house's has it: its network invents nothing.
+            Answer::Clash { source, number } => format!("clash {source} {number}"),
             Answer::Refused(question) => format!("refused {question}"),
             Answer::Done => "done".to_string(),
             Answer::Ignored if explained => format!("ignored: {why}"),

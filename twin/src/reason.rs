@@ -151,10 +151,11 @@ impl Asked<'_> {
         })
     }
 
-    /// DATA: "held".
+    /// DATA: "held"; by P4 it "counted as the same cue" where "all 24 cue bytes" agree: "The reason call gives "none"" for a Clash.
     fn already_held(&self) -> bool {
+        let cue = self.message.as_ref().and_then(|m| m.cues.first());
         self.named(&[DATA])
-            .is_some_and(|(_, _, record)| record.body == Body::Held)
+            .is_some_and(|(_, _, record)| record.body == Body::Held && Some(&record.cue) == cue)
     }
 
     /// RQST, "Held: with no reply waiting [...]; otherwise Ignored."

@@ -409,6 +409,7 @@ impl Bench {
                 format!("out {length} {} {one} {other}", Kind(kind))
             }
             Answer::Got { source, number } => format!("got {source} {number}"),
+            Answer::Clash { source, number } => format!("clash {source} {number}"),
             Answer::Done => "done".to_string(),
             Answer::Ignored => "ignored".to_string(),
             Answer::Nothing => "nothing".to_string(),

@@ -655,9 +655,7 @@ fn repair_held() {
     let mut end = holder();
     end.sources[5].distance = 9;
     assert_eq!(hear(&mut end, &rqst(0, 4, 2), 30, 0), Answer::Done);
-    let mut other = repl(3, 0, 4, 5);
-    other.cues[0] = Cue::with_focus(77);
-    assert_eq!(hear(&mut end, &other, 40, 0), Answer::Done);
+    assert_eq!(hear(&mut end, &repl(3, 0, 4, 5), 40, 0), Answer::Done);
     let expected = Record {
         body: Body::Held,
         cue: Cue::with_focus(4),
@@ -665,6 +663,16 @@ fn repair_held() {
         reply_quiet: 40 + 8 * 9,
     };
     assert_eq!(*record(&mut end, 0, 4), expected);
+    // With other bytes, document 02, P4: "apart from the clock nothing changes".
+    let mut other = repl(3, 0, 4, 5);
+    other.cues[0] = Cue::with_focus(77);
+    let clash = Answer::Clash {
+        source: 0,
+        number: 4,
+    };
+    assert_eq!(hear(&mut end, &other, 41, 0), clash);
+    assert_eq!(*record(&mut end, 0, 4), expected);
+    assert_eq!(end.clock, 41);
 }
 
 #[test]

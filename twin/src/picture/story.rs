@@ -297,6 +297,10 @@ fn words_of(step: &Step) -> (String, Tone) {
             (words, Tone::HandedOut)
         }
         Answer::Refused(number) => (spaced(&verb, &format!("refused {number}")), Tone::Refused),
+        Answer::Clash { source, number } => (
+            spaced(&verb, &format!("clash {source},{number}")),
+            Tone::Plain,
+        ),
         Answer::Ignored => (spaced(&verb, "ignored"), Tone::Quiet),
         Answer::Nothing => (spaced(&verb, "nothing"), Tone::Quiet),
         Answer::Done => (spaced(&verb, &measured(step)), Tone::Plain),

@@ -4,6 +4,7 @@
 use super::stage::PutOut;
 use super::Run;
 use crate::cue::Cue;
+use crate::end::Body;
 use crate::message::{self, Echo, Message, Name, Report};
 use crate::trace::{At, Brought, Composed};
 use crate::CLOCK_MAX;
@@ -158,6 +159,33 @@ impl Run {
         cue
     }
 
+    /// The cue that a message brings of a name: where the end holds it the held one, or the held one with a byte changed, or seldom any.
+    pub fn cue_of(&mut self, place: usize, name: At) -> Cue {
+        let record = *self.stage.record(place, name);
+        if record.body != Body::Held || self.dice.one_in(8) {
+            return self.good_cue();
+        }
+        match self.dice.below(5) {
+            0..=2 => record.cue,
+            _ => self.forged(record.cue),
+        }
+    }
+
+    /// The cue with one byte changed: mostly a free one, the first and the last of them often; an offset or lamp stays in range.
+    pub fn forged(&mut self, cue: Cue) -> Cue {
+        let any = self.dice.below(24) as usize;
+        let free = 10 + self.dice.below(14) as usize;
+        let place = self.dice.pick(&[any, free, 10, 23, 23]);
+        let mut forged = cue;
+        forged.0[place] ^= self.dice.pick(&[1, 1, 128, 255]);
+        if forged.in_range() {
+            return forged;
+        }
+        forged = cue;
+        forged.0[23] ^= 1;
+        forged
+    }
+
     /// Any cue, 1 in 12 with a field out of range.
     pub fn cue(&mut self) -> Cue {
         let mut cue = self.good_cue();
@@ -214,7 +242,7 @@ impl Run {
         let stamp = self.stamp(clock);
         let source = self.likely_source(reader.place);
         let name = self.name_near(reader.place, source);
-        let cue = self.good_cue();
+        let cue = self.cue_of(reader.place, name);
         match self.dice.weighted(&[(3, 1), (4, 2), (4, 3), (4, 4)]) {
             message::DATA => about(message::DATA, source, stamp, name, source, cue),
             message::RQST => {

@@ -15,7 +15,7 @@ mod spare;
 mod stage;
 
 use crate::book::{Book, Call};
-use crate::end::Params;
+use crate::end::{Answer, Params};
 use crate::trace::{Does, Verb};
 use crate::CLOCK_MAX;
 use dice::Dice;
@@ -223,6 +223,11 @@ impl Run {
         }
         let event = self.stage.event(&verb);
         let answer = self.stage.act(who, clock, verb);
+        // "In runs where the network invents nothing, Clash is shown never to come up." (document 02, P4)
+        if let Answer::Clash { .. } = answer {
+            let line = self.stage.text.lines().count();
+            self.fault = Some(format!("line {line} is a clash, and nothing was invented"));
+        }
         let call = Call {
             host: who as u8,
             event,

@@ -9,7 +9,7 @@ use crate::message::{self, Echo, Message, Report};
 use crate::trace::{At, Field, Verb};
 use crate::{CLOCK_MAX, NUMBERS};
 
-const SCENES: [(u64, Part); 13] = [
+const SCENES: [(u64, Part); 14] = [
     (8, request_quiet),
     (8, reply_quiet),
     (10, ties),
@@ -23,6 +23,7 @@ const SCENES: [(u64, Part); 13] = [
     (18, statuses),
     (1, full_report),
     (8, two_reasons),
+    (10, other_bytes),
 ];
 
 impl Run {
@@ -138,7 +139,7 @@ fn span_edges(run: &mut Run) {
         _ => run.name(false).source,
     };
     let name = run.name_near(SPARE, source);
-    let cue = run.good_cue();
+    let cue = run.cue_of(SPARE, name);
     let ticks = run.dice.below(3);
     let clock = run.after(ticks);
     let stamp = run.dice.below(1000);
@@ -177,7 +178,7 @@ fn repair(run: &mut Run) {
     let any = run.dice.host_but(&[sender, name.source]);
     let asked = sender != me && name.source != me && run.dice.one_in(3);
     let requester = if asked { me } else { any };
-    let cue = run.good_cue();
+    let cue = run.cue_of(SPARE, name);
     let clock = run.after(1);
     run.hears(clock, about(message::REPL, sender, 7, name, requester, cue));
 }
@@ -267,7 +268,7 @@ fn last_numbers(run: &mut Run) {
 fn looped(run: &mut Run) {
     let me = run.me();
     let name = run.name(false);
-    let cue = run.good_cue();
+    let cue = run.cue_of(SPARE, name);
     let clock = run.after(1);
     let source = name.source;
     let requester = run.dice.host_but(&[me, source]);
@@ -328,7 +329,7 @@ impl Run {
         let source = name.source;
         let other = self.dice.host_but(&[me, source]);
         let looped = self.dice.one_in(2);
-        let cue = self.good_cue();
+        let cue = self.cue_of(SPARE, name);
         if self.dice.one_in(2) && !(looped && source == me) {
             let sender = if looped { me } else { other };
             return about(message::RQST, sender, 5, name, sender, cue);
@@ -336,5 +337,45 @@ impl Run {
         let sender = if looped { me } else { other };
         let requester = self.dice.host_but(&[sender, source]);
         about(message::REPL, sender, 5, name, requester, cue)
+    }
+}
+
+/// "Such a message from another end that names a held cue with other bytes gets a new answer, Clash, with the name; apart from the clock
+/// nothing changes, reply waits included." (document 02, P4); now and then with the same bytes, or looped.
+fn other_bytes(run: &mut Run) {
+    let me = run.me();
+    let name = run.name(false);
+    run.held(name);
+    let now = run.spare_now();
+    if run.dice.one_in(2) {
+        let requester = run.dice.host_but(&[me, name.source]);
+        let due = now + run.dice.below(9);
+        run.stage
+            .set(SPARE, Field::Reply(name, Reply { due, requester }));
+    }
+    if run.dice.one_in(4) {
+        let quiet = now + run.dice.below(9);
+        run.stage.set(SPARE, Field::Hush(name, quiet));
+    }
+    let held = run.stage.record(SPARE, name).cue;
+    let cue = match run.dice.one_in(4) {
+        true => held,
+        false => run.forged(held),
+    };
+    let ticks = run.dice.below(3);
+    let clock = run.after(ticks);
+    let source = name.source;
+    let message = match run.dice.below(3) {
+        0 => about(message::DATA, source, 5, name, source, cue),
+        _ => {
+            let other = run.dice.host_but(&[me]);
+            let sender = run.dice.pick(&[other, other, other, me]);
+            let requester = run.dice.host_but(&[sender, source]);
+            about(message::REPL, sender, 5, name, requester, cue)
+        }
+    };
+    run.hears(clock, message);
+    if run.dice.one_in(3) {
+        run.does(clock, Verb::Fire);
     }
 }

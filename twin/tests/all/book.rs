@@ -123,7 +123,11 @@ fn silence_instead_of_a_cue() {
     let verdict = judged(|calls| calls[0].answer = Answer::Ignored);
     assert_eq!(verdict, Err((0, Fault::Answer)));
     let at = place(&story().calls, got(0, 2));
-    for answer in [Answer::Ignored, Answer::Done, Answer::Nothing] {
+    let clash = Answer::Clash {
+        source: 0,
+        number: 2,
+    };
+    for answer in [Answer::Ignored, Answer::Done, Answer::Nothing, clash] {
         let verdict = judged(|calls| calls[at].answer = answer);
         assert_eq!(verdict, Err((at, Fault::Answer)));
     }

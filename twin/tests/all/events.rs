@@ -3,6 +3,7 @@
 use twin::cue::Cue;
 use twin::end::{Answer, Body, End, Event, Reply, Request, Status};
 use twin::message;
+use twin::reason::Why;
 use twin::{CLOCK_MAX, DRAWS, OUTPUT_LEN};
 
 use crate::support::*;
@@ -11,6 +12,10 @@ const C: Cue = Cue([0; 24]);
 
 fn got(source: u8, number: u8) -> Answer {
     Answer::Got { source, number }
+}
+
+fn clash(source: u8, number: u8) -> Answer {
+    Answer::Clash { source, number }
 }
 
 fn body(end: &End, source: usize, number: usize) -> Body {
@@ -255,10 +260,11 @@ fn largest_due_stays_below_the_limit() {
 fn data_rules() {
     let mut end = opened_at_3();
     assert_eq!(span(&end, 0), Some((3, 3)));
-    // "Below first or held: Ignored."
-    assert_eq!(hear(&mut end, &data(0, 2, C), 1), Answer::Ignored);
+    // "Below first or held: Ignored."; held with other bytes: P4's Clash.
     let other = Cue::with_focus(5);
-    assert_eq!(hear(&mut end, &data(0, 3, other), 1), Answer::Ignored);
+    assert_eq!(hear(&mut end, &data(0, 2, other), 1), Answer::Ignored);
+    assert_eq!(hear(&mut end, &data(0, 3, C), 1), Answer::Ignored);
+    assert_eq!(hear(&mut end, &data(0, 3, other), 1), clash(0, 3));
     assert_eq!(end.sources[0].names[3].cue, C);
     // Just above last: no number between.
     assert_eq!(hear(&mut end, &data(0, 4, other), 2), got(0, 4));
@@ -411,17 +417,69 @@ fn repl_rules() {
     // "held: Done. Either way its waiting reply goes": the held cue stays.
     assert_eq!(hear(&mut end, &rqst(6, 0, 4), 11), Answer::Done);
     assert!(end.sources[0].names[4].reply.is_some());
-    assert_eq!(hear(&mut end, &repl(2, 0, 4, 4, cue), 12), Answer::Done);
+    assert_eq!(hear(&mut end, &repl(2, 0, 4, 4, C), 12), Answer::Done);
     assert_eq!(end.sources[0].names[4].reply, None);
     assert_eq!(end.sources[0].names[4].reply_quiet, 12 + 40);
     assert_eq!(end.sources[0].names[4].cue, C);
     // An own cue's repair by another.
     send(&mut end, C, 12);
     assert_eq!(hear(&mut end, &rqst(6, 1, 0), 12), Answer::Done);
-    assert_eq!(hear(&mut end, &repl(2, 1, 0, 4, cue), 13), Answer::Done);
+    assert_eq!(hear(&mut end, &repl(2, 1, 0, 4, C), 13), Answer::Done);
     assert_eq!(end.sources[1].names[0].reply, None);
     assert_eq!(end.sources[1].names[0].reply_quiet, 13 + 40);
     assert_eq!(hear(&mut end, &repl(2, 1, 1, 4, cue), 13), Answer::Ignored);
+}
+
+/// "Such a message from another end that names a held cue with other bytes gets a new answer, Clash, with the name; apart from the clock
+/// nothing changes, reply waits included."
+#[test]
+fn clashes() {
+    let cue = Cue(std::array::from_fn(|place| match place {
+        0..10 => 0,
+        _ => place as u8,
+    }));
+    let mut end = member(1);
+    assert_eq!(hear(&mut end, &data(0, 3, cue), 1), got(0, 3));
+    send(&mut end, cue, 1);
+    assert_eq!(hear(&mut end, &rqst(6, 0, 3), 1), Answer::Done);
+    assert_eq!(hear(&mut end, &rqst(6, 1, 0), 1), Answer::Done);
+    let before = end.clone();
+    let after = |clock| End {
+        clock,
+        ..before.clone()
+    };
+    // Each of the 24 bytes; the low ones of the fields stay in range.
+    for place in [1, 3, 5, 7, 9].into_iter().chain(10..24) {
+        let mut other = cue;
+        other.0[place] ^= 1;
+        let clock = 2 + place as u64;
+        let messages = [
+            (data(0, 3, other), clash(0, 3)),
+            (repl(2, 0, 3, 4, other), clash(0, 3)),
+            (repl(0, 0, 3, 1, other), clash(0, 3)),
+            (repl(2, 1, 0, 4, other), clash(1, 0)),
+            // Looped.
+            (repl(1, 0, 3, 4, other), Answer::Ignored),
+            (repl(1, 1, 0, 4, other), Answer::Ignored),
+            (data(1, 0, other), Answer::Ignored),
+        ];
+        for (message, answer) in messages {
+            let mut end = before.clone();
+            let event = Event::Arrival(bytes(&message));
+            let none = Answer::Ignored != answer;
+            assert_eq!(end.why(&event, clock) == Why::None, none);
+            assert_eq!(act(&mut end, &event, clock), answer, "{message:?}");
+            assert_eq!(end, after(clock));
+        }
+    }
+    // With equal bytes all is as before.
+    assert_eq!(hear(&mut end, &data(0, 3, cue), 9), Answer::Ignored);
+    assert_eq!(end, after(9));
+    assert_eq!(hear(&mut end, &repl(2, 0, 3, 4, cue), 9), Answer::Done);
+    assert_eq!(hear(&mut end, &repl(2, 1, 0, 4, cue), 9), Answer::Done);
+    for name in [end.sources[0].names[3], end.sources[1].names[0]] {
+        assert_eq!((name.reply, name.reply_quiet), (None, 9 + 320));
+    }
 }
 
 #[test]

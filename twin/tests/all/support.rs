@@ -207,7 +207,7 @@ pub fn watched(
             length
         }
         Answer::Got { .. } => 24,
-        Answer::Done | Answer::Ignored | Answer::Nothing => 0,
+        Answer::Clash { .. } | Answer::Done | Answer::Ignored | Answer::Nothing => 0,
     };
     assert!(out[wrote..].iter().all(|&byte| byte == FILL));
     if !matches!(answer, Answer::Refused(_)) {

@@ -24,7 +24,8 @@ pub struct Call {
 #[derive(Clone, Copy, Debug, PartialEq, Eq)]
 pub enum Fault {
     /// It is none of the lists that the book speaks about: a host is above 7, or
-    /// an unrefused Arrival brings bytes that no earlier Out put out.
+    /// an unrefused Arrival brings bytes that no earlier Out put out. P5's probe may come
+    /// from anywhere.
     NoSuchList,
     /// The end's status is not the book's.
     Status,
@@ -89,7 +90,9 @@ impl Book {
             }
             Event::Send(cue) => self.send(call, cue),
             Event::Arrival(bytes) => {
-                if !self.put_out.contains(bytes) {
+                // Document 02, P5: "In the service's runs such a datagram may come from
+                // anywhere."
+                if !bytes.is_empty() && !self.put_out.contains(bytes) {
                     return Err(Fault::NoSuchList);
                 }
                 self.arrival(call, bytes)
@@ -133,7 +136,7 @@ impl Book {
         let number = self.filed[host].len();
         self.filed[host].push(*cue);
         out_bytes(call)
-            .and_then(|bytes| message::read(bytes).ok())
+            .and_then(|bytes| message::read(bytes).ok()?.message())
             .is_some_and(|m| {
                 m.kind == message::DATA
                     && m.names[0].source == call.host
@@ -155,7 +158,7 @@ impl Book {
 
     /// The name and the filed cue that this arrival must hand out, if any.
     fn deliverable(&self, reader: u8, bytes: &[u8]) -> Option<(u8, u8, Cue)> {
-        let message: Message = message::read(bytes).ok()?;
+        let message: Message = message::read(bytes).ok()?.message()?;
         let name = *message.names.first()?;
         let source = usize::from(name.source);
         let handed = &self.handed[usize::from(reader)][source];

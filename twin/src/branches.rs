@@ -29,7 +29,9 @@ branches! {
     Ignored "ignored",
     Nothing "nothing",
     Accepted "reader: accepted",
+    ReaderProbe "reader: probe",
     Written "writer: written",
+    WriterProbe "writer: probe written",
     InRange "cue test: in range",
     OutOfRange "cue test: out of range",
 
@@ -52,6 +54,7 @@ branches! {
     Reader10 "reader: refused 10",
     Reader11 "reader: refused 11",
     Writer1 "writer: refused 1",
+    WriterProbe1 "writer: probe, refused 1",
     Writer9 "writer: refused 9",
     Writer10 "writer: refused 10",
     Writer11 "writer: refused 11",
@@ -106,7 +109,7 @@ branches! {
     NextNotAsked "7: not asked of a non-member with next number 64",
 
     // Messages: question 8
-    ShortMessage "8: 12 bytes or more",
+    ShortMessage "8: lengths 1 to 11",
     CountsPastLength "8: counts past the length",
     LengthPastCounts "8: length past the counts",
 
@@ -169,6 +172,13 @@ branches! {
     ArrivalOutside "Arrival outside membership: Ignored",
     OwnMessage "an arrival whose sender is oneself: Ignored",
     OwnMessageOther "an arrival whose sender is oneself, of a held cue with other bytes: Ignored",
+
+    // A message of no bytes: document 02, P5
+    ProbeIdle "probe: idle: Ignored",
+    ProbeJoining "probe: joining: Ignored",
+    ProbeMember "probe: member: as Report",
+    ProbeLeaving "probe: leaving: Ignored",
+    ProbeCrashed "probe: crashed: Ignored",
 
     // Send
     SendFirst "Send: it becomes last, and first if none",

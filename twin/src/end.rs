@@ -2,7 +2,7 @@
 
 use crate::branches::{self, take, unless, when, Branch};
 use crate::cue::Cue;
-use crate::message::{self, Echo, Message, Name, Report};
+use crate::message::{self, Datagram, Echo, Message, Name, Report};
 use crate::{Draw, CLOCK_MAX, DRAWS, HOSTS, NUMBERS, OUTPUT_LEN};
 
 /// "due and quiet times are below 2^48+2^32".
@@ -486,14 +486,14 @@ impl End {
         }
     }
 
-    /// The questions in their order; the message that an Arrival brings comes with the yes.
+    /// The questions in their order; the datagram that an Arrival brings comes with the yes.
     fn questions(
         &self,
         event: &Event,
         clock: u64,
         draws: &[Draw],
         out: &[u8],
-    ) -> Result<Option<Message>, u8> {
+    ) -> Result<Option<Datagram>, u8> {
         questions_of_surroundings(draws, out)?;
         self.questions_of_state(event, clock)
     }
@@ -503,7 +503,7 @@ impl End {
         &self,
         event: &Event,
         clock: u64,
-    ) -> Result<Option<Message>, u8> {
+    ) -> Result<Option<Datagram>, u8> {
         self.questions_of_any(clock)?;
         match event {
             Event::Send(cue) => self.questions_of_send(cue).map(|()| None),
@@ -534,14 +534,19 @@ impl End {
     /// "An unrefused event sets the clock. On a crashed end everything unrefused is
     /// Ignored and nothing changes, clock included."; "These give Done, from any other
     /// status Ignored."; "Send, Fire, Report, Arrival outside membership [...]: Ignored."
+    /// Document 02, P5: "A message of no bytes is now taken by a member as a Report event at
+    /// that clock, and by any other status as Ignored."
     fn unrefused(
         &mut self,
         event: &Event,
-        arrived: Option<Message>,
+        arrived: Option<Datagram>,
         clock: u64,
         draws: &[Draw],
         out: &mut [u8],
     ) -> Answer {
+        if arrived == Some(Datagram::Probe) {
+            branches::take_nth(Branch::ProbeIdle, self.status as usize);
+        }
         if when(self.status == Status::Crashed, Branch::CrashedIgnored) {
             return Answer::Ignored;
         }
@@ -558,7 +563,10 @@ impl End {
             (Event::Send(cue), _) => self.send(*cue, out),
             (Event::Fire, _) => self.fire(draws, out),
             (Event::Report, _) => self.report(out),
-            (Event::Arrival(_), Some(message)) => self.arrival(&message, draws, out),
+            (Event::Arrival(_), Some(Datagram::Probe)) => self.report(out),
+            (Event::Arrival(_), Some(Datagram::Message(message))) => {
+                self.arrival(&message, draws, out)
+            }
             _ => Answer::Ignored,
         }
     }

@@ -43,6 +43,22 @@ pub struct Message {
     pub echoes: Vec<Echo>,
 }
 
+/// What a datagram brings: a message, or, document 02, P5, "A message of no bytes".
+#[derive(Clone, Debug, PartialEq, Eq)]
+pub enum Datagram {
+    Probe,
+    Message(Message),
+}
+
+impl Datagram {
+    pub fn message(self) -> Option<Message> {
+        match self {
+            Datagram::Probe => None,
+            Datagram::Message(message) => Some(message),
+        }
+    }
+}
+
 /// "Kind (1 byte), sender (1), stamp (6, the sender's clock)".
 const HEAD_LEN: usize = 8;
 
@@ -59,11 +75,15 @@ const REPORT_LEN: usize = 2;
 const ECHO_LEN: usize = 13;
 
 /// The reader: "Arrival, and the reader alone" have questions 8, 9, 10 and 11; "Each
-/// call stops at its first no."
-pub fn read(bytes: &[u8]) -> Result<Message, u8> {
+/// call stops at its first no." Document 02, P5: "The reader alone answers "probe" for"
+/// a message of no bytes.
+pub fn read(bytes: &[u8]) -> Result<Datagram, u8> {
+    if bytes.is_empty() {
+        return Ok(Datagram::Probe);
+    }
     let message = take_apart(bytes)?;
     check(&message)?;
-    Ok(message)
+    Ok(Datagram::Message(message))
 }
 
 /// "The writer has questions 1, 9, 10, 11."; "A refusal gives only its number; state,
@@ -74,6 +94,13 @@ pub fn write(message: &Message, out: &mut [u8]) -> Result<usize, u8> {
     let bytes = put_together(message);
     out[..bytes.len()].copy_from_slice(&bytes);
     Ok(bytes.len())
+}
+
+/// Document 02, P5: "the writer writes it for "probe"". It has nothing that questions 9, 10
+/// and 11 ask about, so only question 1 is asked; no byte is written.
+pub fn write_probe(out: &mut [u8]) -> Result<usize, u8> {
+    ask(out.len() >= OUTPUT_LEN, 1)?;
+    Ok(0)
 }
 
 /// One question: the number is given at a no.
@@ -92,7 +119,8 @@ fn check(message: &Message) -> Result<(), u8> {
     ask(hosts_fit(message) && order_fits(message), 11)
 }
 
-/// "Are there 12 bytes or more, and do the counts account for the length exactly? 8."
+/// "Are there 12 bytes or more, and do the counts account for the length exactly? 8."; by
+/// P5, "Number 8 is from then on for lengths 1 to 11 and counts that miss the length".
 fn take_apart(bytes: &[u8]) -> Result<Message, u8> {
     ask(unless(bytes.len() >= LEAST_LEN, Branch::ShortMessage), 8)?;
     let (head, rest) = bytes.split_at(HEAD_LEN);

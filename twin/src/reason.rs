@@ -5,7 +5,7 @@ use std::fmt;
 
 use crate::branches::{self, take, Branch};
 use crate::end::{Body, End, Event, Record, Source, Status};
-use crate::message::{Message, Name, DATA, REPL, RQST};
+use crate::message::{Datagram, Message, Name, DATA, REPL, RQST};
 
 /// The ten reasons, in the request's order.
 #[derive(Clone, Copy, Debug, PartialEq, Eq)]
@@ -61,7 +61,8 @@ impl End {
     fn first_reason(&self, event: &Event, clock: u64) -> (Why, bool) {
         let message = match self.questions_of_state(event, clock) {
             Err(number) => return (Why::Refused(number), false),
-            Ok(message) => message,
+            // A probe has no sender and no name: only the first two reasons can hold of it.
+            Ok(arrived) => arrived.and_then(Datagram::message),
         };
         let asked = Asked {
             end: self,

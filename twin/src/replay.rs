@@ -8,7 +8,7 @@ use crate::branches::{self, take, Branch};
 use crate::cue::{Cue, CUE_LEN};
 use crate::digest::digest;
 use crate::end::{Answer, Body, End, Event, Heard, Params, Record, Status};
-use crate::message::{self, Message};
+use crate::message::{self, Datagram, Message};
 use crate::reason::Why;
 use crate::text::Hex;
 use crate::trace::{row_of_draws, BUFFER, ENDS, MOST_DRAWS};
@@ -278,6 +278,7 @@ impl Bench {
             }
             Does::Read(bytes) => return Some(Outcome::Alone(self.read(bytes))),
             Does::Write(composed) => return Some(Outcome::Alone(self.write(composed))),
+            Does::WriteProbe => return Some(Outcome::Alone(self.write_probe())),
             Does::Test(cue) => return Some(Outcome::Alone(self.test(cue))),
             Does::Ask { end, asked } => return Some(Outcome::Asked(self.ask(*end, asked).into())),
             Does::AskOutput => return Some(Outcome::Asked(Hex(self.output()).to_string().into())),
@@ -419,7 +420,11 @@ impl Bench {
     fn read(&mut self, bytes: &[u8]) -> Said {
         self.refill();
         let (answer, fault) = match message::read(bytes) {
-            Ok(message) => {
+            Ok(Datagram::Probe) => {
+                take(Branch::ReaderProbe);
+                ("probe".to_string(), "")
+            }
+            Ok(Datagram::Message(message)) => {
                 take(Branch::Accepted);
                 let same = written(&message).is_some_and(|again| again == bytes);
                 let fault = if same { "" } else { " OTHER BYTES" };
@@ -431,6 +436,25 @@ impl Bench {
             }
         };
         Said { answer, fault }
+    }
+
+    fn write_probe(&mut self) -> Said {
+        self.refill();
+        let answer = match message::write_probe(&mut self.buffer[..self.room]) {
+            Ok(length) => {
+                take(Branch::WriterProbe);
+                self.accounted = length;
+                format!("written {length} {}", Hex(self.output()))
+            }
+            Err(number) => {
+                take(Branch::WriterProbe1);
+                refusal(number)
+            }
+        };
+        Said {
+            answer,
+            fault: changed(!self.rest_untouched()),
+        }
     }
 
     fn write(&mut self, composed: &Composed) -> Said {

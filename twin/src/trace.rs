@@ -56,6 +56,7 @@ pub enum Does {
     Why { end: u8, clock: u64, verb: Verb },
     Read(Vec<u8>),
     Write(Composed),
+    WriteProbe,
     Test(Cue),
     Copy { end: u8, other: u8 },
     Set { end: u8, field: Field },
@@ -360,6 +361,7 @@ impl Does {
             "room" => Does::Room(words.below(BUFFER + 1)?),
             "fill" => Does::Fill(words.byte()?),
             "read" => Does::Read(words.bytes()?),
+            "write" if words.takes("probe") => Does::WriteProbe,
             "write" => Does::Write(words.composed()?),
             "test" => Does::Test(words.cue()?),
             "ask" if words.takes("output") => Does::AskOutput,
@@ -381,6 +383,7 @@ impl Does {
                 | Why { .. }
                 | Read(_)
                 | Write(_)
+                | WriteProbe
                 | Test(_)
                 | Ask { .. }
                 | AskOutput
@@ -753,6 +756,7 @@ impl fmt::Display for Does {
             }
             Does::Read(bytes) => write!(f, "read {}", Hex(bytes)),
             Does::Write(composed) => write!(f, "write {composed}"),
+            Does::WriteProbe => f.write_str("write probe"),
             Does::Test(cue) => write!(f, "test {cue}"),
             Does::Copy { end, other } => write!(f, "{end} copy {other}"),
             Does::Set { end, field } => write!(f, "{end} set {field}"),

@@ -1,7 +1,7 @@
 //! Cues, the reader and the writer.
 
 use twin::cue::Cue;
-use twin::message::{self, Echo, Message, Name, Report, DATA, REPL, RQST, SESS};
+use twin::message::{self, Datagram, Echo, Message, Name, Report, DATA, REPL, RQST, SESS};
 
 fn name(source: u8, number: u8, host: u8) -> Name {
     Name {
@@ -79,6 +79,11 @@ fn refused(message: &Message) -> u8 {
     number
 }
 
+/// The reader on what must not be a probe.
+fn read(bytes: &[u8]) -> Result<Message, u8> {
+    message::read(bytes).map(|read| read.message().expect("no probe"))
+}
+
 #[test]
 fn cue_fields() {
     assert_eq!(Cue::with_focus(-2).0[..2], [0xFF, 0xFE]);
@@ -116,7 +121,7 @@ fn cue_range() {
 fn the_listed_request() {
     let listed = [2, 1, 0, 0, 0, 0, 1, 0x88, 1, 0, 1, 1, 0, 0, 0];
     assert_eq!(bytes(&rqst()), listed);
-    assert_eq!(message::read(&listed), Ok(rqst()));
+    assert_eq!(read(&listed), Ok(rqst()));
 }
 
 #[test]
@@ -128,7 +133,7 @@ fn written_is_read() {
         (sess(), 12 + 16 + 91),
     ] {
         assert_eq!(bytes(&message).len(), len);
-        assert_eq!(message::read(&bytes(&message)), Ok(message));
+        assert_eq!(read(&bytes(&message)), Ok(message));
     }
 }
 
@@ -148,17 +153,18 @@ fn question_1() {
 
 #[test]
 fn question_8() {
-    assert_eq!(message::read(&[]), Err(8));
+    // "Number 8 is from then on for lengths 1 to 11 and counts that miss the length".
+    assert_eq!(message::read(&[]), Ok(Datagram::Probe));
     for message in [data(), rqst(), repl(), sess()] {
         let whole = bytes(&message);
-        for len in 0..whole.len() {
-            assert_eq!(message::read(&whole[..len]), Err(8));
+        for len in 1..whole.len() {
+            assert_eq!(read(&whole[..len]), Err(8));
         }
-        assert_eq!(message::read(&[&whole[..], &[0]].concat()), Err(8));
+        assert_eq!(read(&[&whole[..], &[0]].concat()), Err(8));
     }
     // A length that the counts miss comes before the bad kind.
-    assert_eq!(message::read(&[9; 12]), Err(8));
-    assert_eq!(message::read(&[0; 12]), Err(9));
+    assert_eq!(read(&[9; 12]), Err(8));
+    assert_eq!(read(&[0; 12]), Err(9));
 }
 
 #[test]
@@ -251,7 +257,7 @@ fn question_10() {
     }
     let mut wire = bytes(&data());
     wire[13..15].copy_from_slice(&i16::to_be_bytes(-2001));
-    assert_eq!(message::read(&wire), Err(10));
+    assert_eq!(read(&wire), Err(10));
     // Before question 11.
     assert_eq!(
         refused(&Message {
@@ -317,7 +323,7 @@ fn question_11_hosts() {
         names: vec![name(1, 1, 2)],
         ..repl()
     };
-    assert_eq!(message::read(&bytes(&by_source)), Ok(by_source));
+    assert_eq!(read(&bytes(&by_source)), Ok(by_source));
 }
 
 #[test]

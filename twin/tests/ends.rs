@@ -71,6 +71,11 @@ fn bytes(message: &Message) -> Vec<u8> {
     out[..len].to_vec()
 }
 
+/// The reader on what must not be a probe.
+fn read(bytes: &[u8]) -> Result<Message, u8> {
+    message::read(bytes).map(|read| read.message().expect("no probe"))
+}
+
 fn session(sender: u8, stamp: u64, reports: Vec<Report>, echoes: Vec<Echo>) -> Message {
     Message {
         kind: SESS,
@@ -279,7 +284,7 @@ fn questions_6_to_11_in_any_status() {
         };
         assert_eq!(step(&mut end, Event::Send(Cue::ZERO), 1, 0).0, full);
         assert_eq!(
-            step(&mut end, Event::Arrival(vec![]), 2, 0).0,
+            step(&mut end, Event::Arrival(vec![4]), 2, 0).0,
             Answer::Refused(8)
         );
         let mut looped = bytes(&data(0, 0));
@@ -450,7 +455,7 @@ fn sixty_four_sends() {
         let cue = Cue::with_focus(i16::from(number));
         let (answer, out) = step(&mut end, Event::Send(cue), 7, 0);
         assert_eq!(answer, Answer::Out(39));
-        let sent = message::read(&out).unwrap();
+        let sent = read(&out).unwrap();
         let expected = about(DATA, 3, (3, number, 3), Some(cue));
         assert_eq!(
             sent,
@@ -786,7 +791,7 @@ fn reports() {
     let reports = [(0, 4), (1, 0)].map(|(source, last)| Report { source, last });
     let echoes = [(0, 88, 60), (5, 77, 70)].map(|(host, stamp, held)| Echo { host, stamp, held });
     assert_eq!(
-        message::read(&out),
+        read(&out),
         Ok(session(1, 100, reports.to_vec(), echoes.to_vec()))
     );
 }
@@ -806,7 +811,7 @@ fn fire_takes_the_earliest() {
     record(&mut end, 2, 2).body = waiting(1, 50, 0);
     let mut fired = vec![];
     while let (Answer::Out(_), out) = step(&mut end, Event::Fire, 51, 0) {
-        let message = message::read(&out).unwrap();
+        let message = read(&out).unwrap();
         let Name {
             source,
             number,
@@ -1048,7 +1053,7 @@ fn long_runs() {
                 Answer::Refused(number) => panic!("{number}"),
                 Answer::Got { source, number } => assert!(gots[host].insert((source, number))),
                 Answer::Out(_) => {
-                    assert!(message::read(&out).is_ok());
+                    assert!(read(&out).is_ok());
                     messages.push(out);
                 }
                 Answer::Done if event == Event::Joined => gots[host].clear(),

@@ -105,7 +105,7 @@ impl Player {
             Does::Why { verb, .. } => {
                 bench.event_of(verb)?;
             }
-            Does::Fill(_) | Does::Read(_) | Does::Write(_) | Does::Test(_) => {}
+            Does::Fill(_) | Does::Read(_) | Does::Write(_) | Does::WriteProbe | Does::Test(_) => {}
             Does::Ask { .. } | Does::AskOutput | Does::Show { .. } => {}
         }
         Some(())

@@ -2,7 +2,7 @@
 //! they set and end, as the twin's ends have them.
 
 use crate::end::{Answer, Body, End, Event, Record, Status};
-use crate::message::{self, Message};
+use crate::message::{self, Datagram, Message};
 use crate::NUMBERS;
 
 /// One step of an end, with its state before and after.
@@ -175,7 +175,7 @@ impl Story {
     /// The wait of this name ends; it fired where the step put out its name.
     fn end_wait(&mut self, step: &Step, place: usize, source: u8, number: u8) {
         let fired = put_out(step)
-            .and_then(|bytes| message::read(bytes).ok())
+            .and_then(|bytes| message::read(bytes).ok()?.message())
             .is_some_and(|message| name_in(&message) == Some((source, number)));
         let open = self.waits.iter_mut().rev().find(|wait| {
             wait.end == step.end
@@ -246,12 +246,19 @@ fn name_in(message: &Message) -> Option<(u8, u8)> {
 
 /// A message's kind and name, or how many bytes it has where the reader refuses it.
 fn sent(bytes: &[u8]) -> Sent {
-    let Ok(message) = message::read(bytes) else {
-        let words = match bytes.len() {
-            1 => "1 byte".to_string(),
-            length => format!("{length} bytes"),
-        };
-        return Sent { kind: 0, words };
+    let message = match message::read(bytes) {
+        Ok(Datagram::Message(message)) => message,
+        Ok(Datagram::Probe) => {
+            let words = "probe".to_string();
+            return Sent { kind: 0, words };
+        }
+        Err(_) => {
+            let words = match bytes.len() {
+                1 => "1 byte".to_string(),
+                length => format!("{length} bytes"),
+            };
+            return Sent { kind: 0, words };
+        }
     };
     let kind = match message.kind {
         message::DATA => "DATA",

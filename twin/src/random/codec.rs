@@ -21,8 +21,12 @@ impl Run {
 
     fn read(&mut self) {
         let reader = self.any_reader();
-        let bytes = match self.dice.below(2) {
-            0 => message::put_together(&self.defective(&reader)),
+        let bytes = match self.dice.below(20) {
+            0 => {
+                let length = self.dice.pick(&[0, 0, 1, 11, 12]);
+                self.dice.bytes(length)
+            }
+            1..=10 => message::put_together(&self.defective(&reader)),
             _ => {
                 let (brought, _) = self.message(&reader);
                 self.stage.bytes(&brought)
@@ -46,6 +50,9 @@ impl Run {
             let room = self.dice.pick(&[0, 127, 129, 200]);
             let around = self.stage.around.clone();
             self.stage.surround(Surroundings { room, ..around });
+        }
+        if self.dice.one_in(10) {
+            return self.stage.line(Does::WriteProbe);
         }
         let reader = self.any_reader();
         let mut message = match self.dice.one_in(2) {

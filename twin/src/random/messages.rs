@@ -55,8 +55,12 @@ pub struct Reader {
 }
 
 impl Run {
-    /// A message, and whether one of the eight ends put it out.
+    /// A message, and whether the network may bring it: one of the eight ends put it out, or it is a probe.
     pub fn message(&mut self, reader: &Reader) -> (Brought, bool) {
+        // A probe "may come from anywhere" (document 02, P5).
+        if self.dice.one_in(24) {
+            return (Brought::Bytes(vec![]), true);
+        }
         if self.dice.below(100) >= reader.invented {
             if let Some(earlier) = self.earlier(true) {
                 return (self.stage.brought(&earlier), true);

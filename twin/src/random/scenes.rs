@@ -6,10 +6,10 @@ use super::stage::{COPY, SPARE};
 use super::{Part, Run};
 use crate::end::{Heard, Params, Reply, Status};
 use crate::message::{self, Echo, Message, Report};
-use crate::trace::{At, Field, Verb};
+use crate::trace::{At, Brought, Field, Verb};
 use crate::{CLOCK_MAX, NUMBERS};
 
-const SCENES: [(u64, Part); 14] = [
+const SCENES: [(u64, Part); 15] = [
     (8, request_quiet),
     (8, reply_quiet),
     (10, ties),
@@ -24,6 +24,7 @@ const SCENES: [(u64, Part); 14] = [
     (1, full_report),
     (8, two_reasons),
     (10, other_bytes),
+    (8, probe),
 ];
 
 impl Run {
@@ -377,5 +378,31 @@ fn other_bytes(run: &mut Run) {
     run.hears(clock, message);
     if run.dice.one_in(3) {
         run.does(clock, Verb::Fire);
+    }
+}
+
+/// "A message of no bytes is now taken by a member as a Report event at that clock, and by any other status as Ignored." (document 02,
+/// P5): on a copy of the spare end, perhaps moved to another status, beside a message of one byte; and a member's Report at the same clock.
+fn probe(run: &mut Run) {
+    run.stage.copy(COPY, SPARE);
+    let ticks = run.dice.below(40);
+    let clock = run.after(ticks);
+    let way: &[Verb] = match run.dice.below(9) {
+        0 => &[Verb::Leave],
+        1 => &[Verb::Leave, Verb::Left],
+        2 => &[Verb::Leave, Verb::Left, Verb::Join],
+        3 => &[Verb::Crash],
+        _ => &[],
+    };
+    for verb in way {
+        run.stage.act(COPY, run.spare_now(), verb.clone());
+    }
+    let length = run.dice.pick(&[0, 0, 0, 0, 0, 1, 11]);
+    let bytes = run.dice.bytes(length);
+    run.stage
+        .act(COPY, clock, Verb::Hear(Brought::Bytes(bytes)));
+    if way.is_empty() && run.dice.one_in(2) {
+        run.stage.copy(COPY, SPARE);
+        run.stage.act(COPY, clock, Verb::Report);
     }
 }

@@ -80,7 +80,7 @@ impl Stage {
     pub fn line(&mut self, does: Does) {
         if matches!(
             does,
-            Does::Read(_) | Does::Write(_) | Does::Test(_) | Does::Why { .. }
+            Does::Read(_) | Does::Write(_) | Does::WriteProbe | Does::Test(_) | Does::Why { .. }
         ) {
             self.calls += 1;
         }

@@ -73,7 +73,8 @@ fn story() -> Record {
     assert_eq!(r.hear(1, 570, &repair), got(0, 1));
     assert_eq!(r.hear(1, 571, &repair), Answer::Done);
     assert_eq!(r.hear(1, 571, &sent[1]), Answer::Ignored);
-    assert_eq!(r.hear(1, 571, &[]), Answer::Refused(8));
+    assert_eq!(r.hear(1, 571, &[4]), Answer::Refused(8));
+    assert_eq!(r.hear(1, 571, &[]), Answer::Out(14));
     let report = r.call(1, 572, Event::Report);
     assert_eq!(r.hear(0, 573, &report), Answer::Done);
     r.call(1, 574, Event::Leave);
@@ -280,6 +281,28 @@ fn a_wrong_status() {
         });
         assert_eq!(verdict, Err((at, Fault::Status)));
     }
+}
+
+/// "In the service's runs such a datagram may come from anywhere."; "Other Arrivals, [...]: nothing changes, never Got."
+#[test]
+fn probes_come_from_anywhere() {
+    let mut r = Record::new();
+    assert_eq!(r.hear(0, 0, &[]), Answer::Ignored);
+    r.join(0, 1);
+    assert_eq!(r.hear(0, 2, &[]), Answer::Out(12));
+    // What it put out was put out.
+    let bytes = r.calls.last().unwrap().out[..12].to_vec();
+    r.join(1, 2);
+    assert_eq!(r.hear(1, 3, &bytes), Answer::Done);
+    assert_eq!(check(&r.calls), Ok(()));
+    let at = r.calls.len() - 1;
+    let mut calls = r.calls.clone();
+    calls[at].event = Event::Arrival(vec![4]);
+    assert_eq!(check(&calls), Err((at, Fault::NoSuchList)));
+    calls[at].event = Event::Arrival(vec![]);
+    assert_eq!(check(&calls), Ok(()));
+    calls[at].answer = got(0, 0);
+    assert_eq!(check(&calls), Err((at, Fault::Answer)));
 }
 
 #[test]

@@ -2,7 +2,7 @@
 
 use twin::cue::Cue;
 use twin::end::{Answer, End, Event, Params, Status};
-use twin::message;
+use twin::message::{self, Datagram};
 use twin::{CLOCK_MAX, DRAWS, OUTPUT_LEN};
 
 use crate::support::*;
@@ -71,7 +71,7 @@ fn focus() {
     assert_eq!(act(&mut end, &Event::Send(beyond), 0), Answer::Refused(6));
     let mut wire = sent;
     wire[13..15].copy_from_slice(&(-2001i16).to_be_bytes());
-    assert_eq!(message::read(&wire), Err(10));
+    assert_eq!(read(&wire), Err(10));
     assert_eq!(
         act(&mut member(1), &Event::Arrival(wire), 0),
         Answer::Refused(10)
@@ -112,7 +112,7 @@ fn cue_63_and_a_next_send() {
     // "Cue 63 is sent; a next send: 7."
     let mut end = member(2);
     for number in 0..64 {
-        let read = message::read(&send(&mut end, Cue::ZERO, 5)).unwrap();
+        let read = read(&send(&mut end, Cue::ZERO, 5)).unwrap();
         assert_eq!(read.names[0].number, number);
     }
     assert_eq!(end.next, 64);
@@ -127,10 +127,11 @@ fn cue_63_and_a_next_send() {
 
 #[test]
 fn empty_message() {
-    // "Empty message: 8."
-    assert_eq!(message::read(&[]), Err(8));
+    // P5: "the case of the empty message reads "probe""
+    assert_eq!(message::read(&[]), Ok(Datagram::Probe));
     let arrival = Event::Arrival(vec![]);
-    assert_eq!(act(&mut member(0), &arrival, 0), Answer::Refused(8));
+    let report = [4, 0, 0, 0, 0, 0, 0, 3, 0, 0, 0, 0];
+    assert_eq!(put_out(&mut member(0), &arrival, 3), report);
 }
 
 #[test]

@@ -3,7 +3,7 @@
 use twin::cue::Cue;
 use twin::end::{Answer, Body, End, Event, Reply, Request, Status};
 use twin::message;
-use twin::reason::Why;
+use twin::reason::{Reason, Why};
 use twin::{CLOCK_MAX, DRAWS, OUTPUT_LEN};
 
 use crate::support::*;
@@ -142,7 +142,7 @@ fn own_number_and_first_across_a_leave() {
         assert_eq!(act(&mut end, &event, 2), Answer::Done);
     }
     assert_eq!(span(&end, 1), None);
-    let sent = message::read(&send(&mut end, C, 3)).unwrap();
+    let sent = read(&send(&mut end, C, 3)).unwrap();
     assert_eq!(sent.names[0].number, 1);
     assert_eq!(span(&end, 1), Some((1, 1)));
     // Number 2 was below the first before the leave; now it opens the source.
@@ -155,7 +155,7 @@ fn send_holds_and_puts_out_data() {
     let mut end = member(6);
     for number in 0..3 {
         let cue = Cue::with_focus(number.into());
-        let sent = message::read(&send(&mut end, cue, 7)).unwrap();
+        let sent = read(&send(&mut end, cue, 7)).unwrap();
         let mut expected = data(6, number, cue);
         expected.stamp = 7;
         assert_eq!(sent, expected);
@@ -482,6 +482,50 @@ fn clashes() {
     }
 }
 
+/// "A message of no bytes is now taken by a member as a Report event at that clock, and by any other status as Ignored."
+#[test]
+fn probes() {
+    let probe = Event::Arrival(vec![]);
+    let mut end = opened_at_3();
+    send(&mut end, C, 5);
+    hear(&mut end, &rqst(2, 0, 9), 6);
+    hear(&mut end, &sess(5, 77, &[], &[]), 7);
+    for clock in [7, 8, 400, CLOCK_MAX] {
+        let (mut probed, mut reported) = (end.clone(), end.clone());
+        let bytes = put_out(&mut probed, &probe, clock);
+        assert_eq!(bytes, put_out(&mut reported, &Event::Report, clock));
+        assert_eq!(probed, reported);
+        assert_eq!(probed.why(&probe, clock), Why::None);
+        let sent = read(&bytes).unwrap();
+        assert_eq!((sent.kind, sent.stamp), (message::SESS, clock));
+        assert_eq!((sent.reports.len(), sent.echoes.len()), (2, 1));
+    }
+    use Status::*;
+    for status in [Idle, Joining, Leaving, Crashed] {
+        let before = with_status(1, status);
+        let mut end = before.clone();
+        let reason = match status {
+            Crashed => Reason::Crashed,
+            _ => Reason::WrongStatus,
+        };
+        assert_eq!(end.why(&probe, 9), Why::Ignored(reason));
+        assert_eq!(act(&mut end, &probe, 9), Answer::Ignored);
+        let clock = if status == Crashed { 0 } else { 9 };
+        assert_eq!(end, End { clock, ..before });
+    }
+    // Questions 1 to 5 come first; there is no other.
+    let mut end = member(1);
+    end.clock = 5;
+    let ask = |clock, draws: usize, output| {
+        watched(&mut end.clone(), &probe, clock, &vec![0; draws], output).0
+    };
+    assert_eq!(ask(5, 64, 127), Answer::Refused(1));
+    assert_eq!(ask(5, 63, 128), Answer::Refused(2));
+    assert_eq!(ask(CLOCK_MAX + 1, 64, 128), Answer::Refused(4));
+    assert_eq!(ask(4, 64, 128), Answer::Refused(5));
+    assert_eq!(ask(5, 64, 128), Answer::Out(12));
+}
+
 #[test]
 fn sess_raises_lasts() {
     let mut end = opened_at_3();
@@ -562,7 +606,7 @@ fn report_rules() {
     hear(&mut end, &rqst(2, 0, 6), 1);
     hear(&mut end, &sess(7, 5, &[], &[]), 100);
     hear(&mut end, &sess(0, 6, &[], &[]), 110);
-    let sent = message::read(&put_out(&mut end, &Event::Report, 150)).unwrap();
+    let sent = read(&put_out(&mut end, &Event::Report, 150)).unwrap();
     let expected = sess(1, 150, &[(0, 6), (1, 0)], &[(0, 6, 40), (7, 5, 50)]);
     assert_eq!(sent, expected);
     // The longest: eight sources, seven stamps.
@@ -599,7 +643,7 @@ fn fire_takes_the_earliest() {
     let mut order = Vec::new();
     assert_eq!(act(&mut end, &Event::Fire, 498), Answer::Nothing);
     for _ in 0..5 {
-        let sent = message::read(&put_out(&mut end, &Event::Fire, 500)).unwrap();
+        let sent = read(&put_out(&mut end, &Event::Fire, 500)).unwrap();
         let name = sent.names[0];
         order.push((sent.kind, name.source, name.number, name.host));
     }
@@ -626,7 +670,7 @@ fn fire_of_a_reply() {
     end.sources[3].distance = 25;
     hear(&mut end, &rqst(3, 0, 0), 0);
     assert_eq!(act(&mut end, &Event::Fire, 99), Answer::Nothing);
-    let sent = message::read(&put_out(&mut end, &Event::Fire, 130)).unwrap();
+    let sent = read(&put_out(&mut end, &Event::Fire, 130)).unwrap();
     let mut expected = repl(0, 0, 0, 3, named);
     expected.stamp = 130;
     assert_eq!(sent, expected);

@@ -1,7 +1,7 @@
 //! Byte layouts, the reader's and the writer's refusals, and arbitrary bytes.
 
 use twin::cue::Cue;
-use twin::message::{read, write, Echo, Message, Name, Report};
+use twin::message::{write, write_probe, Datagram, Echo, Message, Name, Report};
 use twin::{CLOCK_MAX, OUTPUT_LEN};
 
 use crate::support::*;
@@ -98,7 +98,7 @@ fn written_reads_back() {
 fn question_8() {
     for message in samples() {
         let good = bytes(&message);
-        for length in 0..good.len() {
+        for length in 1..good.len() {
             assert_eq!(read(&good[..length]), Err(8));
         }
         let mut longer = good.clone();
@@ -296,6 +296,22 @@ fn question_1_of_the_writer() {
     }
 }
 
+/// "The reader alone answers "probe" for it, and the writer writes it for "probe"."
+#[test]
+fn probes() {
+    assert_eq!(twin::message::read(&[]), Ok(Datagram::Probe));
+    assert_eq!(read(&[4]), Err(8));
+    assert_eq!(read(&[4; 11]), Err(8));
+    for length in [0, 1, 127] {
+        let mut out = vec![FILL; length];
+        assert_eq!(write_probe(&mut out), Err(1));
+        assert_eq!(out, vec![FILL; length]);
+    }
+    let mut out = [FILL; OUTPUT_LEN];
+    assert_eq!(write_probe(&mut out), Ok(0));
+    assert_eq!(out, [FILL; OUTPUT_LEN]);
+}
+
 #[test]
 fn arbitrary_bytes() {
     // The reader never panics, and what it accepts writes back as it was.
@@ -321,12 +337,13 @@ fn arbitrary_bytes() {
                 _ => candidate.insert(at, rng.small(9)),
             }
         }
-        match read(&candidate) {
-            Ok(message) => {
+        match twin::message::read(&candidate) {
+            Ok(Datagram::Message(message)) => {
                 accepted += 1;
                 assert_eq!(bytes(&message), candidate);
             }
-            Err(number) => assert!((8..=11).contains(&number)),
+            Ok(Datagram::Probe) => assert!(candidate.is_empty()),
+            Err(number) => assert!((8..=11).contains(&number) && !candidate.is_empty()),
         }
     }
     assert!(accepted > 1000);

@@ -65,7 +65,8 @@ fn send_and_arrival_ask_in_every_status() {
         let mut looped = bytes(&data(1, 0, Cue::ZERO));
         looped[10] = 64;
         for (bytes, number) in [
-            (vec![], 8),
+            (vec![4], 8),
+            (vec![4; 11], 8),
             (vec![0; 12], 9),
             (looped, 10),
             (vec![4, 1, 0, 0, 0, 0, 0, 0, 0, 0, 2, 2, 0, 1, 0, 0], 11),

@@ -60,7 +60,8 @@ fn event(rng: &mut Rng, status: Status, net: &[Vec<u8>], calm: u64) -> Event {
 
 /// An earlier message, mostly a late one, or bytes that the reader refuses.
 fn arriving(rng: &mut Rng, net: &[Vec<u8>]) -> Vec<u8> {
-    if net.is_empty() {
+    // A probe comes from anywhere.
+    if net.is_empty() || rng.once_in(30) {
         return vec![];
     }
     let length = net.len() as u64;
@@ -73,8 +74,8 @@ fn arriving(rng: &mut Rng, net: &[Vec<u8>]) -> Vec<u8> {
     if rng.once_in(20) {
         let at = rng.below(bytes.len() as u64) as usize;
         bytes[at] = rng.byte();
-        if message::read(&bytes).is_ok() {
-            bytes.truncate(at);
+        if read(&bytes).is_ok() {
+            bytes.truncate(at.max(1));
         }
     }
     bytes

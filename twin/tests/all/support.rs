@@ -154,6 +154,11 @@ pub fn sess(sender: u8, stamp: u64, reports: &[(u8, u8)], echoes: &[(u8, u64, u6
     }
 }
 
+/// The reader on what must not be a probe.
+pub fn read(bytes: &[u8]) -> Result<Message, u8> {
+    message::read(bytes).map(|read| read.message().expect("no probe"))
+}
+
 /// A written message's bytes.
 pub fn bytes(message: &Message) -> Vec<u8> {
     let mut out = [FILL; OUTPUT_LEN];
@@ -203,7 +208,7 @@ pub fn watched(
             0
         }
         Answer::Out(length) => {
-            assert!(message::read(&out[..length]).is_ok());
+            assert!(read(&out[..length]).is_ok());
             length
         }
         Answer::Got { .. } => 24,

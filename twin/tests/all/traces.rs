@@ -48,7 +48,7 @@ const AT: At = At {
 };
 
 /// One line of each form, each as it is printed.
-const LINES: [&str; 79] = [
+const LINES: [&str; 80] = [
     "start",
     "draws 66 65535 7",
     "draws 0 0 0",
@@ -80,6 +80,7 @@ const LINES: [&str; 79] = [
     "read none",
     "read 020100000000018801000101000000",
     "write sess 0 0",
+    "write probe",
     "write data 0 5 cue 0 0 0 0 0 counts 1 1 0 0",
     "write sess 0 0 report 0 0 report 1 0 report 2 0 report 3 0 report 4 0 report 5 0 report 6 0 report 7 0",
     "write sess 7 0 echo 0 0 0 echo 1 0 0 echo 2 0 0 echo 3 0 0 echo 4 0 0 echo 5 0 0 echo 6 0 0",
@@ -227,7 +228,7 @@ fn expectations_and_remarks() {
 }
 
 /// Lines that are malformed in one place each.
-const MALFORMED: [&str; 105] = [
+const MALFORMED: [&str; 109] = [
     " ",
     "0",
     "stop",
@@ -333,6 +334,10 @@ const MALFORMED: [&str; 105] = [
     "0 why open 0 9 8 4 4 4 8",
     "0 why show",
     "0 why hear 40",
+    "write probe 0 0",
+    "write Probe",
+    "0 hear 0 probe",
+    "read probe",
 ];
 
 #[test]
@@ -575,7 +580,9 @@ fn outputs_are_asked() {
 #[test]
 fn calls_without_an_end() {
     for (line, answer) in [
-        ("read none", "refused 8"),
+        ("read none", "probe"),
+        ("read 04", "refused 8"),
+        ("write probe", "written 0 none"),
         (
             "read 020100000000018801000101000000",
             "accepted rqst 1 392 name 0 1 1",
@@ -595,6 +602,8 @@ fn calls_without_an_end() {
         assert_eq!(last(&format!("{line}\n")), answer, "{line}");
     }
     assert_eq!(last("room 127\nwrite sess 0 0\n"), "refused 1");
+    assert_eq!(last("room 127\nwrite probe\n"), "refused 1");
+    assert_eq!(last("write probe\nask output\n"), "none");
     assert_eq!(
         last("write sess 0 5 report 1 2 counts 0 0 0 0\n"),
         "written 12 040000000000000500000000"
@@ -644,9 +653,11 @@ fn composed_messages_are_heard() {
     assert_eq!(hear("sess 0 5"), "done");
     assert_eq!(hear("sess 1 5"), "ignored");
     assert_eq!(hear("data 0 5 name 0 9 0 cue 1 2 3 4 5"), "got 0 9");
-    // Refused by the writer, so the message is empty.
-    assert_eq!(hear("data 0 5 name 0 64 0 cue 1 2 3 4 5"), "refused 8");
-    assert_eq!(hear("bytes none"), "refused 8");
+    // Refused by the writer, so the message is empty: a probe.
+    let refused = hear("data 0 5 name 0 64 0 cue 1 2 3 4 5");
+    assert_eq!(refused, "out 12 sess 0 0");
+    assert_eq!(hear("bytes none"), "out 12 sess 0 0");
+    assert_eq!(last("1 hear 5 bytes none\n"), "ignored");
     assert_eq!(hear("bytes 050000000000000000000000"), "refused 9");
 }
 

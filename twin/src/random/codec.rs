@@ -52,6 +52,9 @@ impl Run {
             self.stage.surround(Surroundings { room, ..around });
         }
         if self.dice.one_in(10) {
+            let room = self.dice.pick(&[0, 127, 128, 128, 129]);
+            let around = self.stage.around.clone();
+            self.stage.surround(Surroundings { room, ..around });
             return self.stage.line(Does::WriteProbe);
         }
         let reader = self.any_reader();

@@ -301,6 +301,9 @@ fn two_reasons(run: &mut Run) {
             let ticks = 1 + run.dice.below(3);
             let quiet = run.after(ticks);
             run.stage.set(SPARE, Field::Hush(name, quiet));
+            let ticks = run.dice.below(ticks);
+            run.hears_request(name, ticks);
+            return;
         }
         // A number just outside the span, or a source that is not open.
         1 => name = run.name_near(SPARE, name.source),
@@ -390,8 +393,8 @@ fn probe(run: &mut Run) {
     let way: &[Verb] = match run.dice.below(9) {
         0 => &[Verb::Leave],
         1 => &[Verb::Leave, Verb::Left],
-        2 => &[Verb::Leave, Verb::Left, Verb::Join],
-        3 => &[Verb::Crash],
+        2..=4 => &[Verb::Leave, Verb::Left, Verb::Join],
+        5 => &[Verb::Crash],
         _ => &[],
     };
     for verb in way {

@@ -16,7 +16,7 @@ use Rattle.end.specs.declared.Span.the-variants.{Closed, Open}
 use Rattle.end.specs.declared.Source.{Source}
 use Rattle.end.specs.declared.Says.{Says}
 use Rattle.end.specs.declared.Says.the-variants.{Data, Repl}
-use Rattle.end.specs.declared.Reason.the-variants.{NotOpen, BelowFirst, OwnAboveLast, AlreadyHeld, ReplyWaiting, ReplyQuiet, RequestQuiet}
+use Rattle.end.specs.declared.Reason.the-variants.{Crashed, WrongStatus, OwnMessage, NotOpen, BelowFirst, OwnAboveLast, AlreadyHeld, ReplyWaiting, ReplyQuiet, RequestQuiet}
 use Rattle.end.specs.declared.Decision.{Decision}
 use Rattle.end.specs.declared.Decision.the-variants.{Ignores, Opens, Takes, Repairs, Hushes, Replies, Learns, BacksOff, Clashes}
 use Rattle.end.specs.declared.End.{End}
@@ -62,6 +62,9 @@ module _ (us : List ℕ) (m : Meaning) (e : End) (c : Clashing e m) where
       → Grounds (momentOf e) (wordOf says m e) (namedRecord e m) span d
       → Answers (stepBy (momentOf e) us (wordOf says m e) e d)
   unfolding Grounds apply effectOf
+  decided says k (Ignores Crashed) g = clash (sym g)
+  decided says k (Ignores WrongStatus) g = clash (sym g)
+  decided says k (Ignores OwnMessage) g = clash (sym g)
   decided says k (Ignores NotOpen) g = absurd (inside-open span n inside (and-both (not (isData says)) _ g .1))
   decided says k (Ignores BelowFirst) g = absurd (inside-not-below span n inside g)
   decided says k (Ignores OwnAboveLast) g =

@@ -69,6 +69,6 @@ abbrev pub gotByProbe : Limit
 gotByProbe = record {
   before = [];
   wrong = hears 1 [] (got 0);
-  right = hears 1 [] (Did Ignored);
+  right = hears 1 [] (Did (Out (SESS ∷ 1 ∷ replicate 10 0)));
   instead = hears 1 message0 (got 0) ∷ [];
 }

@@ -2,14 +2,18 @@
 -- nothing is kept, after some calls.
 use Prim.Native.Nat.{ℕ}
 use mathlib.Core.List.{List, [], _∷_}
-use lib.ListN.{replicate}
+use lib.ListN.{set, replicate}
 use lib.IntN.{pos, negsuc}
 use Rattle.message.specs.Limit.{ticksLimit}
-use Rattle.message.specs.Message.{RQST, SESS}
+use Rattle.message.specs.Entry.{asHost}
+use Rattle.message.specs.Message.{DATA, RQST, REPL, SESS}
 use Rattle.end.specs.declared.Move.the-variants.{Join, Crash}
 use Rattle.end.specs.declared.Reason.the-variants.{Crashed, WrongStatus, OwnMessage, NotOpen, BelowFirst, OwnAboveLast, AlreadyHeld, ReplyWaiting, ReplyQuiet, RequestQuiet}
 use Rattle.end.specs.declared.Why.the-variants.{Refused, Because, NoReason}
+use Rattle.end.specs.declared.Status.the-variants.{Idle}
 use Rattle.end.specs.declared.End.{End}
+use Rattle.end.specs.State.{freshEnd, withNext, onSource}
+use Rattle.end.specs.Records.{recordAt, withRecord}
 use Rattle.end.specs.Event.{Moves, Send, Arrival, Else, Fire, Report}
 use Rattle.end.specs.Opening.{houseParams}
 use Rattle.end.specs.Run.{World, Call, resultOf, worldAfter}
@@ -47,10 +51,24 @@ askedFor = call 0 10 (Send minusTwo) ∷ call 0 100 (asks 1 99 0) ∷ []
 abbrev pub repaired : List Call
 repaired = call 1 12 (Arrival message0) ∷ call 1 100 (repairs 2 99 0 3) ∷ []
 
+-- an idle end, a crashed one, and one whose reply-quiet time of cue 0 is another
+abbrev pub idle0 : End
+idle0 = freshEnd (asHost 0) houseParams Idle
+
+abbrev pub crashed1 : End
+crashed1 = endBy 1 (call 1 5 (Moves Crash) ∷ [])
+
+abbrev pub hushed : End → ℕ → End
+hushed e t = onSource e (asHost 0) (λ s. withRecord s 0 (record { slot = recordAt s 0 .slot; cue = recordAt s 0 .cue; hush = t }))
+
+-- the cue with its last free byte changed
+abbrev pub otherCue : List ℕ
+otherCue = set minusTwo 23 1
+
 unfoldable pub reasonRows : List Case
 reasonRows =
     -- "crashed", before the wrong status that a crashed end has too
-    case (whyOf (endBy 1 (call 1 5 (Moves Crash) ∷ [])) 10 (Else Fire)) (Because Crashed)
+    case (whyOf crashed1 10 (Else Fire)) (Because Crashed)
     -- "wrong status"
     ∷ case (whyOf (endBy 1 []) 10 (Moves Join)) (Because WrongStatus)
     -- "own message"
@@ -89,4 +107,24 @@ reasonRows =
     ∷ case (whyOf (endBy 0 []) 20 (Arrival (9 ∷ replicate 11 0))) (Refused 9)
     ∷ case (whyOf (endBy 0 []) 20 (Arrival (SESS ∷ 8 ∷ replicate 10 0))) (Refused 10)
     ∷ case (whyOf (endBy 0 []) 20 (Arrival (about RQST 1 9 0 2 []))) (Refused 11)
+    -- a number comes before every reason; 7 is asked of a member alone
+    ∷ case (whyOf crashed1 4 (Else Fire)) (Refused 5)
+    ∷ case (whyOf idle0 20 (Arrival (SESS ∷ []))) (Refused 8)
+    ∷ case (whyOf idle0 20 (Send (cueOfFocus (negsuc 2000)))) (Refused 6)
+    ∷ case (whyOf (withNext idle0 64) 20 (Send minusTwo)) (Because WrongStatus)
+    -- where two reasons hold, the first is named: wrong status and own message; reply waiting and reply-quiet (a sound state that no run reaches)
+    ∷ case (whyOf idle0 20 (Arrival message0)) (Because WrongStatus)
+    ∷ case (whyOf (hushed (endBy 0 askedFor) 1000) 101 (asks 3 9 0)) (Because ReplyWaiting)
+    -- a SESS of another and one's own, a REPL of a held cue
+    ∷ case (whyOf (endBy 0 []) 20 (Arrival (SESS ∷ 1 ∷ replicate 10 0))) NoReason
+    ∷ case (whyOf (endBy 0 []) 20 (Arrival (SESS ∷ 0 ∷ replicate 10 0))) (Because OwnMessage)
+    ∷ case (whyOf (endBy 1 heard0) 20 (repairs 2 9 0 3)) NoReason
+    -- P4: "The reason call gives "none" for it."
+    ∷ case (whyOf (endBy 1 heard0) 20 (Arrival (about DATA 0 10 0 0 (otherCue ∷ [])))) NoReason
+    ∷ case (whyOf (endBy 1 heard0) 20 (Arrival (about REPL 2 9 0 3 (otherCue ∷ [])))) NoReason
+    -- P5: of a probe crashed, wrong status or none, also on host 0, and the questions 3 to 5
+    ∷ case (whyOf (endBy 0 []) 20 (Arrival [])) NoReason
+    ∷ case (whyOf idle0 20 (Arrival [])) (Because WrongStatus)
+    ∷ case (whyOf crashed1 20 (Arrival [])) (Because Crashed)
+    ∷ case (whyOf (endBy 0 sent) 9 (Arrival [])) (Refused 5)
     ∷ []

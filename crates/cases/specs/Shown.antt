@@ -50,4 +50,5 @@ ServiceShown = (w : World) → Fresh w → (cs : List Call) → Allowed w cs →
 
 -- Document 02, P4: "In runs where the network invents nothing, Clash is shown never to come up", of the answers that the calls return.
 abbrev pub NeverReturnsClash : Type 0
-NeverReturnsClash = (w : World) → Fresh w → (cs : List Call) → Allowed w cs → (x : Returned) → List·Memᴰ x (returned w cs) → (name : Name) → x .answer ≡ answer.Clash name → ⊥
+NeverReturnsClash = (w : World) → Fresh w → (cs : List Call) → Allowed w cs
+    → (x : Returned) → List·Memᴰ x (returned w cs) → (name : Name) → x .answer ≡ answer.Clash name → ⊥

@@ -11,6 +11,7 @@ use borrow.Author.Tests.{ltb-true, lt-ltb, le-leb, eq-eqb, eqb-true}
 use Rattle.message.specs.declared.CueNumber.{CueNumber}
 use Rattle.message.specs.declared.Report.{Report}
 use Rattle.message.specs.Section.{all}
+use Rattle.message.specs.Entry.{asHost}
 use Rattle.message.specs.Message.{DATA, RQST, REPL, Meaning, meaningFrom}
 use Rattle.message.specs.Question.{reportIn, hostIn, sameHost}
 use Rattle.message.proofs.QuestionLaws.{and-both}
@@ -248,5 +249,16 @@ reply-quiet-stays e bytes clock room draws h n hh = hear-heard e bytes clock roo
 pub spans-as-heard : SpansAsHeard
 spans-as-heard e bytes clock room draws h hh = hear-heard e bytes clock room draws .sources h hh .rest .0
 
+-- a probe changes nothing but the clock
+probe-apart : (e : End) (clock room : ℕ) (draws : List ℕ) (h : ℕ) → sourceAt (hear e [] clock room draws .left) (asHost h) ≡ sourceAt e (asHost h)
+unfolding actOf
+probe-apart e clock room draws h =
+    let Apart : Result → Type 0 = λ r. sourceAt (r .left) (asHost h) ≡ sourceAt e (asHost h) in
+    call-cases Apart e (Arrival []) clock room draws (λ k. refl) (λ z. refl)
+    (λ z c. byCond (λ (s : Step). sourceAt (s .left) (asHost h) ≡ sourceAt e (asHost h)) (isMember (e .status)) (λ _. refl) (λ _. refl))
+
 pub distances-stay : DistancesStay
-distances-stay e bytes clock room draws h hh t = hear-heard e bytes clock room draws .sources h hh .rest .1 t
+distances-stay e [] clock room draws h hh t =
+    let same = probe-apart e clock room draws h in
+    (ap (λ (s : Source). s .distance) same, ap (λ (s : Source). s .heard) same)
+distances-stay e (b ∷ s) clock room draws h hh t = hear-heard e (b ∷ s) clock room draws .sources h hh .rest .1 t

@@ -160,8 +160,13 @@ SpansAsHeard = (e : End) (bytes : List ℕ) (clock room : ℕ) (draws : List ℕ
 unfoldable pub isSessionOf : Meaning → ℕ → Bool
 isSessionOf m h = not (hasName m) && eqb (m .sender .0) h
 
+-- .. and a probe, which has no sender, is none
+abbrev pub isSessionFrom : List ℕ → ℕ → Bool
+isSessionFrom [] h = false
+isSessionFrom (b ∷ s) h = isSessionOf (meaningFrom (b ∷ s)) h
+
 -- Distance and heard stamp of a host stay, unless a SESS of that host arrives.
 abbrev pub DistancesStay : Type 0
-DistancesStay = (e : End) (bytes : List ℕ) (clock room : ℕ) (draws : List ℕ) (h : ℕ) → h < 8 → isSessionOf (meaningFrom bytes) h ≡ false
+DistancesStay = (e : End) (bytes : List ℕ) (clock room : ℕ) (draws : List ℕ) (h : ℕ) → h < 8 → isSessionFrom bytes h ≡ false
     → (distanceTo (hear e bytes clock room draws .left) (asHost h) ≡ distanceTo e (asHost h))
     × (sourceAt (hear e bytes clock room draws .left) (asHost h) .heard ≡ sourceAt e (asHost h) .heard)

@@ -23,7 +23,7 @@ use Rattle.end.specs.Event.{Action, Arrival, Else, Report as Reporting, questio
 use Rattle.end.specs.Clashes.{Clashing}
 use Rattle.guarantees.specs.Calls.{momentAt}
 use Rattle.guarantees.specs.Records.{recordOf, slotOf, HeardAs, ReplyAs}
-use Rattle.guarantees.specs.Arrivals.{hear, ProbeTaken, SameEnd, isAbout, repairs, risen, reportedUp, hasName, touches, SpanAs, isDataOf, isSessionOf}
+use Rattle.guarantees.specs.Arrivals.{hear, ProbeTaken, SameEnd, isAbout, repairs, risen, reportedUp, hasName, touches, SpanAs, isDataOf, isSessionFrom}
 use Rattle.guarantees.specs.Clashes.{WasClash}
 
 pub record ArrivalsKept : Type 0 where
@@ -71,7 +71,7 @@ pub record ArrivalsKept : Type 0 where
   pub spans-as-heard : (e : End) (bytes : List ℕ) (clock room : ℕ) (draws : List ℕ) (h : ℕ) → h < 8
       → SpanAs (isDataOf (meaningFrom bytes) h) (sourceAt e (asHost h) .span) (sourceAt (hear e bytes clock room draws .left) (asHost h) .span)
   -- Distance and heard stamp of a host stay, unless a SESS of that host arrives.
-  pub distances-stay : (e : End) (bytes : List ℕ) (clock room : ℕ) (draws : List ℕ) (h : ℕ) → h < 8 → isSessionOf (meaningFrom bytes) h ≡ false
+  pub distances-stay : (e : End) (bytes : List ℕ) (clock room : ℕ) (draws : List ℕ) (h : ℕ) → h < 8 → isSessionFrom bytes h ≡ false
       → (distanceTo (hear e bytes clock room draws .left) (asHost h) ≡ distanceTo e (asHost h))
       × (sourceAt (hear e bytes clock room draws .left) (asHost h) .heard ≡ sourceAt e (asHost h) .heard)
   -- Document 02, P4. Two cues are the same exactly where their bytes are.

@@ -35,7 +35,7 @@ pub record BackOffKept : Type 0 where
   pub share-rises : (wait u v : ℕ) → u ≤ v → share wait u ≤ share wait v
   -- A half trip (document 02, P2), before it is brought into 1..1000: the least whole number of milliseconds that is at least e/8.
   pub least-milliseconds : (e : ℕ) → (e ≤ 8 * eighthUp e) × ((ms : ℕ) → e ≤ 8 * ms → eighthUp e ≤ ms)
-  -- And the distance that a SESS sets is that, brought into 1..1000.
+  -- And a half trip is that, brought into 1..1000.
   pub half-trip : (e : ℕ) → halfTrip e ≡ max 1 (min 1000 (eighthUp e))
   -- Every call of every event changes a slot only as `MayBecome` says.
   pub slots-may-become : (e : End) (a : Action) (clock room : ℕ) (draws : List ℕ) (h n : ℕ) → h < 8

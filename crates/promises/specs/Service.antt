@@ -15,6 +15,8 @@ pub record ServiceKept : Type 0 where
   -- the same of what the calls return: their declared answers, and the outputs that they leave
   pub shown : (w : World) → Fresh w → (cs : List Call) → Allowed w cs → RunFrom emptyBook (map onlooked (returned w cs))
   -- document 02, P4: "In runs where the network invents nothing, Clash is shown never to come up": no call of such a list answers it
-  pub never-clashes : (w : World) → Fresh w → (cs : List Call) → Allowed w cs → (x : Entry) → List·Memᴰ x (seen w cs) → (name : Name) → x .outcome ≡ Did (Clash name) → ⊥
+  pub never-clashes : (w : World) → Fresh w → (cs : List Call) → Allowed w cs
+      → (x : Entry) → List·Memᴰ x (seen w cs) → (name : Name) → x .outcome ≡ Did (Clash name) → ⊥
   -- and none returns it
-  pub never-returns-clash : (w : World) → Fresh w → (cs : List Call) → Allowed w cs → (x : Returned) → List·Memᴰ x (returned w cs) → (name : Name) → x .answer ≡ answer.Clash name → ⊥
+  pub never-returns-clash : (w : World) → Fresh w → (cs : List Call) → Allowed w cs
+      → (x : Returned) → List·Memᴰ x (returned w cs) → (name : Name) → x .answer ≡ answer.Clash name → ⊥

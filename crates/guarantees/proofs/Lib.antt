@@ -7,3 +7,4 @@ pub mod Choice
 pub mod Slots
 pub mod Fires
 pub mod BackOff
+pub mod Reasons

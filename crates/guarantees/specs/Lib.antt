@@ -5,3 +5,4 @@ pub mod Records
 pub mod Arrivals
 pub mod BackOff
 pub mod Clashes
+pub mod Reasons

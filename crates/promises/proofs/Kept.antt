@@ -10,6 +10,7 @@ use Rattle.guarantees.proofs.BackOff.{opened-c3-below-c1, opened-firing-ends, r
 use Rattle.guarantees.proofs.Slots.{host-and-params-stay, slots-may-become, waits-until-held, held-until-cleared}
 use Rattle.guarantees.proofs.Arrivals.{probe-is-report, probes-answered, refused-changes-nothing, arrival-keeps-status-and-next, held-stays, untouched-stays, other-sources-stay, slots-as-heard, held-is-carried, replies-as-heard, reply-quiet-stays, spans-as-heard, distances-stay}
 use Rattle.guarantees.proofs.Clashes.{other-bytes-clash, clash-means}
+use Rattle.guarantees.proofs.Reasons.{request-quiet-waits}
 use Rattle.roundtrip.proofs.RoundTrip.{reads-back, very-bytes, rewritten, at-most-119, probe-is-empty, only-probe-is-empty}
 use Rattle.numbers.proofs.NumberLaws.{value-digits, digits-value}
 use Rattle.numbers.proofs.SignedLaws.{signed-back, two-bytes-back}
@@ -103,7 +104,7 @@ promises = record {
     one-round-per-quiet = one-round-per-quiet;
   };
   first-reason = ignored-for-the-first-reason;
-  reasons = record { reason-is-first = reason-is-first; none-holds = none-holds; number-exactly = number-exactly; reason-exactly = reason-exactly; none-exactly = none-exactly };
+  reasons = record { reason-is-first = reason-is-first; none-holds = none-holds; request-quiet-waits = request-quiet-waits; number-exactly = number-exactly; reason-exactly = reason-exactly; none-exactly = none-exactly };
   cases = record {
     starred = cases-hold;
     answers = answers-hold;

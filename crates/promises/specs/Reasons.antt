@@ -2,14 +2,21 @@
 use mathlib.Core.Path.{_≡_}
 use mathlib.Core.Bool.{true, false}
 use mathlib.Core.List.{List}
+use mathlib.Core.Option.{some}
 use Prim.Native.Nat.{ℕ, _≤_, _<_}
 use lib.ListN.{length}
+use Rattle.end.specs.declared.Request.{Request}
+use Rattle.end.specs.declared.Slot.the-variants.{Waiting}
+use Rattle.end.specs.declared.Word.{Word}
 use Rattle.end.specs.declared.Reason.{Reason}
+use Rattle.end.specs.declared.Reason.the-variants.{RequestQuiet}
 use Rattle.end.specs.declared.Why.the-variants as why
 use Rattle.end.specs.declared.End.{End}
+use Rattle.end.specs.State.{sourceAt, withClock}
+use Rattle.end.specs.Decide.{known}
 use Rattle.end.specs.Answer.{Effect, Ignored, Refused, Did}
 use Rattle.end.specs.Event.{Action, eventOf}
-use Rattle.end.specs.Why.{reasonHolds, reasonNumber, isIgnored, whyOf}
+use Rattle.end.specs.Why.{namedBy, reasonHolds, reasonNumber, isIgnored, whyOf}
 
 pub record ReasonsKept : Type 0 where
   -- "The reason named is shown true and those before it false"
@@ -17,6 +24,9 @@ pub record ReasonsKept : Type 0 where
       → (reasonHolds e clock a reason ≡ true) × ((other : Reason) → reasonNumber other < reasonNumber reason → reasonHolds e clock a other ≡ false)
   -- And where "none" is given, none of the ten holds.
   pub none-holds : (e : End) (clock : ℕ) (a : Action) → whyOf e clock a ≡ why.NoReason → (reason : Reason) → reasonHolds e clock a reason ≡ false
+  -- Where "request quiet" is named, a request for the name waits, and the clock is at most its quiet-until.
+  pub request-quiet-waits : (e : End) (clock : ℕ) (a : Action) → whyOf e clock a ≡ why.Because RequestQuiet
+      → (w : Word) × (q : Request) × (namedBy a (withClock e clock) ≡ some w) × (known w (sourceAt e (w .name .source)) .slot ≡ Waiting q) × (clock ≤ q .quiet)
   -- For every state, event, clock, output of at least 128 bytes and 64 draws: a number exactly where the event is refused with it ..
   pub number-exactly : (e : End) (clock : ℕ) (a : Action) (k room : ℕ) (draws : List ℕ) → 128 ≤ room → length draws ≡ 64
       → (whyOf e clock a ≡ why.Refused k → eventOf e a clock room draws .outcome ≡ Refused k)

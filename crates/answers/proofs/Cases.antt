@@ -4,7 +4,9 @@ use mathlib.Core.List.{[], _∷_, _++_}
 use lib.IntN.{negsuc}
 use Rattle.message.specs.Entry.{asHost, asNumber}
 use Rattle.decimal.specs.Decimal.{figures, decimal, signedDecimal}
-use Rattle.answers.specs.declared.Shown.the-variants.{Out, Got, Done, Ignored, Nothing, Refused, Clash}
+use Rattle.end.specs.declared.Reason.the-variants.{AlreadyHeld}
+use Rattle.end.specs.Why.{reasonWords}
+use Rattle.answers.specs.declared.Shown.the-variants.{Out, Got, Done, Ignored, IgnoredFor, Nothing, Refused, Clash}
 use Rattle.answers.specs.AnswerLine.{done, ignored, nothing, answerWords, answerLine}
 
 -- "0 0 done"
@@ -31,6 +33,11 @@ nothing-line = refl
 ignored-line : answerLine (asHost 0) 5 Ignored ≡ 48 ∷ 32 ∷ 53 ∷ 32 ∷ ignored ++ (10 ∷ [])
 unfolding answerLine answerWords decimal figures
 ignored-line = refl
+
+-- "1 40 ignored: already held"
+reason-line : answerLine (asHost 1) 40 (IgnoredFor AlreadyHeld) ≡ 49 ∷ 32 ∷ 52 ∷ 48 ∷ 32 ∷ ignored ++ (58 ∷ 32 ∷ reasonWords AlreadyHeld ++ (10 ∷ []))
+unfolding answerLine answerWords decimal figures
+reason-line = refl
 
 -- "0 5 refused 7"
 refused-line : answerLine (asHost 0) 5 (Refused 7) ≡ 48 ∷ 32 ∷ 53 ∷ 32 ∷ 114 ∷ 101 ∷ 102 ∷ 117 ∷ 115 ∷ 101 ∷ 100 ∷ 32 ∷ 55 ∷ 10 ∷ []

@@ -1,14 +1,16 @@
 -- The line that is printed for a played line of a script. Document 01, "Cases": "prints, without header, end, clock, answer; after
 -- out the message number, after got source, cue number and focus, after "refused" the number". Characters are ASCII codes: 32 is
--- the space, 10 the line feed. Document 02, P4: after clash, which a script cannot bring about, source and cue number.
+-- the space, 10 the line feed. Document 02, P4: after clash, which a script cannot bring about, source and cue number. Where the reason is
+-- asked for too, its words stand after "ignored": document 02, P3.
 use mathlib.Core.List.{List, [], _∷_, _++_}
 use Prim.Native.Nat.{ℕ}
 use Rattle.message.specs.declared.Host.{Host}
 use Rattle.decimal.specs.Decimal.{decimal, signedDecimal}
+use Rattle.end.specs.Why.{reasonWords}
 use Rattle.answers.specs.declared.Shown.{Shown}
-use Rattle.answers.specs.declared.Shown.the-variants.{Out, Got, Done, Ignored, Nothing, Refused, Clash}
+use Rattle.answers.specs.declared.Shown.the-variants.{Out, Got, Done, Ignored, IgnoredFor, Nothing, Refused, Clash}
 
--- the answers' letters; a space follows where a number does
+-- the answers' letters; a space follows where a number does, and a colon and a space where a reason does
 abbrev pub out : List ℕ
 out = 111 ∷ 117 ∷ 116 ∷ 32 ∷ []
 
@@ -20,6 +22,9 @@ done = 100 ∷ 111 ∷ 110 ∷ 101 ∷ []
 
 abbrev pub ignored : List ℕ
 ignored = 105 ∷ 103 ∷ 110 ∷ 111 ∷ 114 ∷ 101 ∷ 100 ∷ []
+
+abbrev pub ignoredFor : List ℕ
+ignoredFor = ignored ++ (58 ∷ 32 ∷ [])
 
 abbrev pub nothing : List ℕ
 nothing = 110 ∷ 111 ∷ 116 ∷ 104 ∷ 105 ∷ 110 ∷ 103 ∷ []
@@ -40,6 +45,7 @@ answerWords (Out message) = out ++ decimal message
 answerWords (Got source number focus) = got ++ (spaced (source .0) ++ (spaced (number .0) ++ signedDecimal focus))
 answerWords Done = done
 answerWords Ignored = ignored
+answerWords (IgnoredFor reason) = ignoredFor ++ reasonWords reason
 answerWords Nothing = nothing
 answerWords (Refused question) = refused ++ decimal question
 answerWords (Clash source number) = clash ++ (spaced (source .0) ++ decimal (number .0))

@@ -1,21 +1,24 @@
 // The line that is printed for a played line of a script, put into a buffer. The definition is specs/AnswerLine.antt.
+use end::Reason;
 use message::CueNumber;
 use message::Host;
 ghost use mathlib.Core.List.{[], _∷_, _++_};
 ghost use Prim.Native.Nat.{_+_, _≤_};
 ghost use lib.ListN.{length};
 ghost use Rattle.decimal.specs.Decimal.{decimal as decimalOf, signedDecimal};
-ghost use Rattle.answers.specs.declared.Shown.the-variants.{Out, Got, Refused, Clash};
+ghost use Rattle.end.specs.Why.{reasonWords};
+ghost use Rattle.answers.specs.declared.Shown.the-variants.{Out, Got, IgnoredFor, Refused, Clash};
 ghost use Rattle.answers.specs.AnswerLine.{spaced as spacedOf, answerWords, answerLine};
 ghost use Rattle.answers.specs.Put.{Put};
 
 // An answer as it is shown: a message number after out, the name and the focus after got, the question's number after refused, the name
-// after clash.
+// after clash. Where the reason is asked for too, its words stand after ignored.
 pub enum Shown {
     Out(u64),
     Got(Host, CueNumber, i16),
     Done,
     Ignored,
+    IgnoredFor(Reason),
     Nothing,
     Refused(u8),
     Clash(Host, CueNumber),
@@ -111,15 +114,42 @@ fn put_clash(out: &mut [u8], at: usize, source: Host, number: CueNumber) -> usiz
     small_number(out, second, number.0)
 }
 
+fn put_reason(out: &mut [u8], at: usize, reason: Reason) -> usize
+    requires { ⌜ at + 21 ≤ length (now out) ⌝ }
+    ensures { λ r. ⌜ Put 21 at (reasonWords reason) (now (out .entry)) (now (out .exit)) r ⌝ }
+{
+    match reason {
+        Reason::Crashed => text(out, at, b"crashed"),
+        Reason::WrongStatus => text(out, at, b"wrong status"),
+        Reason::OwnMessage => text(out, at, b"own message"),
+        Reason::NotOpen => text(out, at, b"source not open"),
+        Reason::BelowFirst => text(out, at, b"below first"),
+        Reason::OwnAboveLast => text(out, at, b"own number above last"),
+        Reason::AlreadyHeld => text(out, at, b"already held"),
+        Reason::ReplyWaiting => text(out, at, b"reply waiting"),
+        Reason::ReplyQuiet => text(out, at, b"reply-quiet"),
+        Reason::RequestQuiet => text(out, at, b"request quiet"),
+    }
+}
+
+fn put_ignored_for(out: &mut [u8], at: usize, reason: Reason) -> usize
+    requires { ⌜ at + 30 ≤ length (now out) ⌝ }
+    ensures { λ r. ⌜ Put 30 at (answerWords (IgnoredFor reason)) (now (out .entry)) (now (out .exit)) r ⌝ }
+{
+    let end = text(out, at, b"ignored: ");
+    put_reason(out, end, reason)
+}
+
 fn put_answer(out: &mut [u8], at: usize, a: Shown) -> usize
-    requires { ⌜ at + 24 ≤ length (now out) ⌝ }
-    ensures { λ r. ⌜ Put 24 at (answerWords a) (now (out .entry)) (now (out .exit)) r ⌝ }
+    requires { ⌜ at + 30 ≤ length (now out) ⌝ }
+    ensures { λ r. ⌜ Put 30 at (answerWords a) (now (out .entry)) (now (out .exit)) r ⌝ }
 {
     match a {
         Shown::Out(message) => put_out(out, at, message),
         Shown::Got(source, number, focus) => put_got(out, at, source, number, focus),
         Shown::Done => text(out, at, b"done"),
         Shown::Ignored => text(out, at, b"ignored"),
+        Shown::IgnoredFor(reason) => put_ignored_for(out, at, reason),
         Shown::Nothing => text(out, at, b"nothing"),
         Shown::Refused(question) => put_refused(out, at, question),
         Shown::Clash(source, number) => put_clash(out, at, source, number),
@@ -128,17 +158,17 @@ fn put_answer(out: &mut [u8], at: usize, a: Shown) -> usize
 
 // The answer and the line feed.
 fn put_ending(out: &mut [u8], at: usize, a: Shown) -> usize
-    requires { ⌜ at + 25 ≤ length (now out) ⌝ }
-    ensures { λ r. ⌜ Put 25 at (answerWords a ++ (10 ∷ [])) (now (out .entry)) (now (out .exit)) r ⌝ }
+    requires { ⌜ at + 31 ≤ length (now out) ⌝ }
+    ensures { λ r. ⌜ Put 31 at (answerWords a ++ (10 ∷ [])) (now (out .entry)) (now (out .exit)) r ⌝ }
 {
     let end = put_answer(out, at, a);
     text(out, end, b"\n")
 }
 
-// The line of an answer: of fifty bytes at most.
+// The line of an answer: of 56 bytes at most.
 pub fn put_line(out: &mut [u8], at: usize, end: Host, clock: u64, a: Shown) -> usize
-    requires { ⌜ at + 50 ≤ length (now out) ⌝ }
-    ensures { λ r. ⌜ Put 50 at (answerLine end clock a) (now (out .entry)) (now (out .exit)) r ⌝ }
+    requires { ⌜ at + 56 ≤ length (now out) ⌝ }
+    ensures { λ r. ⌜ Put 56 at (answerLine end clock a) (now (out .entry)) (now (out .exit)) r ⌝ }
 {
     let first = spaced(out, at, end.0);
     let second = spaced_clock(out, first, clock);

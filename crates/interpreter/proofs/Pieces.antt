@@ -1,4 +1,4 @@
--- However a script is cut into pieces, they print together what `houseOf` says of the whole script.
+-- However a script is cut into pieces, they print together what `printsOf` says of the whole script.
 use mathlib.Core.Path.{_≡_, refl, sym, ap, _∙_}
 use mathlib.Core.Bool.{Bool, true, false, cond, true≢false}
 use mathlib.Core.List.{List, [], _∷_, _++_, append-assoc}
@@ -126,4 +126,4 @@ all-pieces s (piece ∷ pieces) =
     ∙ (λ i. sym (prints-both s piece (joined pieces)) i ++ endPrints (sym (after-both s piece (joined pieces)) i))
 
 pub house-in-pieces : PrintsInPieces
-house-in-pieces pieces = all-pieces start pieces ∙ whole-piece (start .house) [] (joined pieces) (omega arith)
+house-in-pieces explains pieces = all-pieces (start explains) pieces ∙ whole-piece (start explains .house) [] (joined pieces) (omega arith)

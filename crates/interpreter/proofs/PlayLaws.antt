@@ -18,7 +18,8 @@ use Rattle.store.specs.Store.{messagesIn}
 use Rattle.answers.specs.Put.{Put}
 use Rattle.answers.proofs.PutLaws.{put-same}
 use Rattle.player.specs.declared.Played.{Played}
-use Rattle.player.specs.Play.{Turn, playedOf}
+use Rattle.player.specs.Play.{Turn}
+use Rattle.player.specs.Explain.{playedBy}
 use Rattle.player.specs.Promise.{Plays}
 use Rattle.player.specs.House.{House, widest, isBad, printedLine, endAt, turnAt, atEnd, badLine}
 use Rattle.interpreter.specs.declared.Pair.{Pair}
@@ -37,13 +38,14 @@ module _ (p : Pair) (call : Call) where
 
   pub called : {e first second : End} {places lengths before output : List ℕ} {played : Played} {at used : ℕ} {stopped : Bool}
       → e ≡ endAt (call .end) (houseIn p)
-      → Plays e (call .verb) (call .clock) (messagesIn (p .places) (p .lengths) (p .count)) played (messagesIn places lengths (played .count))
+      → Plays (p .explains) e (call .verb) (call .clock) (messagesIn (p .places) (p .lengths) (p .count)) played (messagesIn places lengths (played .count))
       → Put widest at (printedLine (call .end) (call .clock) (played .printed)) before output used
       → stopped ≡ isBad (played .printed) → first ≡ cond isZero (played .end) (p .zero) → second ≡ cond isZero (p .one) (played .end)
       → PlaysLine (Play call) (houseIn p) at before output
-      (record { pair = record { zero = first; one = second; places = places; lengths = lengths; count = played .count }; len = 0; stopped = stopped; used = used })
+      (record { pair = record { zero = first; one = second; places = places; lengths = lengths; count = played .count; explains = p .explains }; len = 0; stopped = stopped; used = used })
   called {e} {first} {second} {places} {lengths} {before} {output} {played} is-e plays put bad is-first is-second =
-      let t : playedOf e (call .verb) (call .clock) (houseIn p .messages) ≡ gives = ap (λ (x : End). playedOf x (call .verb) (call .clock) (houseIn p .messages)) is-e in
+      let by : End → Turn = λ x. playedBy (p .explains) x (call .verb) (call .clock) (houseIn p .messages) in
+      let t : by e ≡ gives = ap by is-e in
       let printed : played .printed ≡ gives .printed = plays .printed ∙ ap (λ (x : Turn). x .printed) t in
       let left : played .end ≡ gives .left = plays .left ∙ ap (λ (x : Turn). x .left) t in
       let kept = plays .kept ∙ ap (λ (x : Turn). x .messages) t in
@@ -51,7 +53,7 @@ module _ (p : Pair) (call : Call) where
       let two = is-second ∙ ap (λ (x : End). cond isZero (p .one) x) left in
       let stops = bad ∙ ap isBad printed in
       record {
-        stands = λ i. record { house = record { zero = one i; one = two i; messages = kept i }; line = []; stopped = stops i };
+        stands = λ i. record { house = record { zero = one i; one = two i; messages = kept i; explains = p .explains }; line = []; stopped = stops i };
         fresh = refl;
         put = put-same put (ap (printedLine (call .end) (call .clock)) printed);
       }

@@ -1,5 +1,5 @@
 -- A script that comes in pieces: where its playing stands between two of them, and what each piece prints. That the pieces together
--- print what the whole script does, `houseOf` of the crate player, is the statement `PrintsInPieces`, proved in proofs/Pieces.antt.
+-- print what the whole script does, `printsOf` of the crate player, is the statement `PrintsInPieces`, proved in proofs/Pieces.antt.
 use mathlib.Core.Path.{_≡_}
 use mathlib.Core.Bool.{Bool, false, cond}
 use mathlib.Core.List.{List, [], _∷_, _++_}
@@ -11,7 +11,7 @@ use Rattle.script.specs.declared.Line.{Line}
 use Rattle.script.specs.declared.Line.the-variants.{Malformed}
 use Rattle.script.specs.Line.{lineOf}
 use Rattle.store.specs.Store.{messagesIn}
-use Rattle.player.specs.House.{House, opened, linePrints, lineHouse, lineStops, atEnd, houseOf}
+use Rattle.player.specs.House.{House, opened, linePrints, lineHouse, lineStops, atEnd, printsOf}
 use Rattle.interpreter.specs.declared.Pair.{Pair}
 use Rattle.interpreter.specs.declared.Playing.{Playing}
 
@@ -21,9 +21,9 @@ pub record Standing : Type 0 where
   pub line : List ℕ
   pub stopped : Bool
 
--- before the first byte
-abbrev pub start : Standing
-start = record { house = opened; line = []; stopped = false }
+-- before the first byte, for a program that explains or not
+abbrev pub start : Bool → Standing
+start explains = record { house = opened explains; line = []; stopped = false }
 
 -- in the middle of a line
 abbrev pub within : House → List ℕ → Standing
@@ -69,14 +69,14 @@ unfoldable pub joined : List (List ℕ) → List ℕ
 joined [] = []
 joined (piece ∷ pieces) = piece ++ joined pieces
 
--- however a script is cut, its pieces print together what is printed from the whole
+-- however a script is cut, its pieces print together what is printed from the whole: by "house", and by "why"
 abbrev pub PrintsInPieces : Type 0
-PrintsInPieces = (pieces : List (List ℕ)) → allPrint start pieces ≡ houseOf (joined pieces)
+PrintsInPieces = (explains : Bool) (pieces : List (List ℕ)) → allPrint (start explains) pieces ≡ printsOf explains (joined pieces)
 
 -- ---- as the code keeps it
 
 abbrev pub houseIn : Pair → House
-houseIn p = record { zero = p .zero; one = p .one; messages = messagesIn (p .places) (p .lengths) (p .count) }
+houseIn p = record { zero = p .zero; one = p .one; messages = messagesIn (p .places) (p .lengths) (p .count); explains = p .explains }
 
 abbrev pub standingOf : Pair → List ℕ → ℕ → Bool → Standing
 standingOf p line len stopped = record { house = houseIn p; line = take len line; stopped = stopped }

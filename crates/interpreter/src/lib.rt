@@ -1,5 +1,5 @@
 // Plays a script that comes in pieces, from bytes to bytes. The definitions are in specs/: Interpreter.antt (where a script stands between
-// two pieces, and what each prints) and Promise.antt. That the pieces together print what `houseOf` says of the whole script, however
+// two pieces, and what each prints) and Promise.antt. That the pieces together print what `printsOf` says of the whole script, however
 // it is cut, is proofs/Pieces.antt.
 use end::End;
 use end::Params;
@@ -9,7 +9,7 @@ use player::Printed;
 use script::Call;
 use script::Line;
 ghost use mathlib.Core.Path.{_≡_};
-ghost use mathlib.Core.Bool.{cond};
+ghost use mathlib.Core.Bool.{true, false, cond};
 ghost use Prim.Native.Nat.{_+_, _≤_};
 ghost use lib.ListN.{length, take};
 ghost use Rattle.numbers.specs.Splice.{splice};
@@ -19,13 +19,15 @@ ghost use Rattle.player.specs.House.{widest, isBad};
 ghost use Rattle.interpreter.specs.Interpreter.{start, endPrints, houseIn, standing};
 ghost use Rattle.interpreter.specs.Promise.{PlaysLine, Turns, Feeds};
 
-// The two ends, hosts 0 and 1, and the messages that they have put out, `count` of them, each in a place of 128 bytes.
+// The two ends, hosts 0 and 1, and the messages that they have put out, `count` of them, each in a place of 128 bytes. Where it explains,
+// the reason is printed after "ignored".
 pub struct Pair {
     pub zero: End,
     pub one: End,
     pub places: [u8; 8192],
     pub lengths: [u8; 64],
     pub count: usize,
+    pub explains: bool,
 }
 
 // Where a script stands between two of its pieces: the line so far is the first `len` bytes of its buffer. After "bad" it has stopped.
@@ -53,7 +55,7 @@ struct Turned {
 }
 
 // No line that is printed has more bytes.
-const WIDEST: usize = 50;
+const WIDEST: usize = 56;
 
 // A host's end, freshly opened with the parameters of the house.
 fn fresh(host: Host) -> End
@@ -71,9 +73,8 @@ fn fresh(host: Host) -> End
     opened.end
 }
 
-// A script before its first byte.
-pub fn opened() -> Playing
-    ensures { λ r. ⌜ standing r ≡ start ⌝ }
+fn opened_as(explains: bool) -> Playing
+    ensures { λ r. ⌜ standing r ≡ start explains ⌝ }
 {
     let zero = fresh(Host(0));
     let one = fresh(Host(1));
@@ -83,6 +84,7 @@ pub fn opened() -> Playing
         places: [0; 8192],
         lengths: [0; 64],
         count: 0,
+        explains,
     };
     Playing {
         line: [0; 34],
@@ -90,6 +92,20 @@ pub fn opened() -> Playing
         stopped: false,
         pair,
     }
+}
+
+// A script before its first byte, as the program house plays it.
+pub fn opened() -> Playing
+    ensures { λ r. ⌜ standing r ≡ start false ⌝ }
+{
+    opened_as(false)
+}
+
+// The same as the program why plays it: with the reason after "ignored".
+pub fn opened_explaining() -> Playing
+    ensures { λ r. ⌜ standing r ≡ start true ⌝ }
+{
+    opened_as(true)
 }
 
 fn is_bad(printed: Printed) -> bool
@@ -121,7 +137,16 @@ fn play_call(pair: Pair, call: Call, out: &mut [u8], at: usize) -> Turned
     let mut places = pair.places;
     let mut lengths = pair.lengths;
     let e = chosen(is_zero, zero, one);
-    let played = player::play(e, verb, call.clock, &mut places, &mut lengths, pair.count);
+    let explains = pair.explains;
+    let played = player::play(
+        explains,
+        e,
+        verb,
+        call.clock,
+        &mut places,
+        &mut lengths,
+        pair.count,
+    );
     let printed = played.printed;
     let end = played.end;
     let used = player::put_printed(out, at, host, call.clock, printed);
@@ -132,6 +157,7 @@ fn play_call(pair: Pair, call: Call, out: &mut [u8], at: usize) -> Turned
         places,
         lengths,
         count: played.count,
+        explains,
     };
     Turned {
         pair: next,

@@ -1,2 +1,3 @@
 pub mod CueLaws
 pub mod PlayLaws
+pub mod ReasonLaws

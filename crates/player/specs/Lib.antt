@@ -1,3 +1,4 @@
+pub mod Explain
 pub mod House
 pub mod Play
 pub mod Promise

@@ -1,6 +1,6 @@
--- What the functions promise: that of `play` by the definition of Play.antt, those of its parts by the call's answer and output.
+-- What the functions promise: that of `play` by the definition of Explain.antt, those of its parts by the call's answer and output.
 use mathlib.Core.Path.{_≡_}
-use mathlib.Core.Bool.{cond}
+use mathlib.Core.Bool.{Bool, cond}
 use mathlib.Core.List.{List, [], _∷_, _++_}
 use Prim.Native.Nat.{ℕ, _*_, _≤_}
 use lib.ListN.{length, take}
@@ -9,6 +9,7 @@ use Rattle.message.specs.Cue.{stepsAt}
 use Rattle.end.specs.declared.Answer.{Answer}
 use Rattle.end.specs.declared.Answer.the-variants as answer
 use Rattle.end.specs.declared.End.{End}
+use Rattle.end.specs.declared.Why.{Why}
 use Rattle.script.specs.declared.Verb.{Verb}
 use Rattle.answers.specs.declared.Shown.the-variants as shown
 use Rattle.store.specs.Store.{most, room}
@@ -16,17 +17,17 @@ use Rattle.player.specs.declared.Printed.{Printed}
 use Rattle.player.specs.declared.Printed.the-variants.{Bad, Shows}
 use Rattle.player.specs.declared.Played.{Played}
 use Rattle.player.specs.declared.Told.{Told}
-use Rattle.player.specs.Play.{playedOf}
+use Rattle.player.specs.Explain.{explained, playedBy}
 
 -- a line was played: `after` are the messages that are kept then
-pub record Plays (e : End) (v : Verb) (clock : ℕ) (messages : List (List ℕ)) (r : Played) (after : List (List ℕ)) : Type 0 where
-  pub printed : r .printed ≡ playedOf e v clock messages .printed
-  pub left : r .end ≡ playedOf e v clock messages .left
-  pub kept : after ≡ playedOf e v clock messages .messages
+pub record Plays (explains : Bool) (e : End) (v : Verb) (clock : ℕ) (messages : List (List ℕ)) (r : Played) (after : List (List ℕ)) : Type 0 where
+  pub printed : r .printed ≡ playedBy explains e v clock messages .printed
+  pub left : r .end ≡ playedBy explains e v clock messages .left
+  pub kept : after ≡ playedBy explains e v clock messages .messages
 
 -- the same with how many messages there are then, which all have a place
-pub record PlaysOn (e : End) (v : Verb) (clock : ℕ) (messages : List (List ℕ)) (r : Played) (after : List (List ℕ)) : Type 0 where
-  pub plays : Plays e v clock messages r after
+pub record PlaysOn (explains : Bool) (e : End) (v : Verb) (clock : ℕ) (messages : List (List ℕ)) (r : Played) (after : List (List ℕ)) : Type 0 where
+  pub plays : Plays explains e v clock messages r after
   pub few : r .count ≤ most
 
 -- ---- by the answer of a call and the output that it left
@@ -61,9 +62,9 @@ InOutput answer.Ignored output = Unit {0}
 InOutput answer.Nothing output = Unit {0}
 InOutput (answer.Clash name) output = Unit {0}
 
--- what is told of an answer: what is printed for it, and the messages that are kept after it
-pub record Tells (a : Answer) (output : List ℕ) (messages : List (List ℕ)) (count : ℕ) (r : Told) (after : List (List ℕ)) : Type 0 where
-  pub printed : r .printed ≡ printedFor a output count
+-- what is told of an answer: what is printed for it, with the reason that was asked for, and the messages that are kept after it
+pub record Tells (w : Why) (a : Answer) (output : List ℕ) (messages : List (List ℕ)) (count : ℕ) (r : Told) (after : List (List ℕ)) : Type 0 where
+  pub printed : r .printed ≡ explained w (printedFor a output count)
   pub few : r .count ≤ most
   pub kept : after ≡ messagesFor a output messages
 

@@ -1,23 +1,28 @@
 // Plays a line of a script on the end that it names, and prints what it gives. The definitions are in specs/: Play.antt (what a line
-// gives) and House.antt (what is printed, for a line and for a whole script).
+// gives), Explain.antt (the reason after "ignored") and House.antt (what is printed, for a line and for a whole script).
 use answers::Shown;
 use end::Answer;
 use end::Draw;
 use end::End;
+use end::Event;
+use end::Move;
 use end::Stepped;
+use end::Why;
 use message::Host;
 use script::Verb;
 use store::MOST;
 use store::ROOM;
 ghost use mathlib.Core.Path.{_≡_};
-ghost use mathlib.Core.Bool.{true};
+ghost use mathlib.Core.Bool.{true, cond};
 ghost use Prim.Native.Nat.{_+_, _*_, _≤_, _<_};
 ghost use lib.ListN.{length};
 ghost use Rattle.store.specs.Store.{most, room, messageIn, firstMessages, messagesIn};
 ghost use Rattle.answers.specs.Put.{Put};
 ghost use Rattle.end.specs.Event.{eventOf};
 ghost use Rattle.end.specs.Answer.{calledOf, bufferOf};
+ghost use Rattle.end.specs.Why.{whyOf};
 ghost use Rattle.player.specs.Play.{draws, eventFor, heardNumber, isKnown};
+ghost use Rattle.player.specs.Explain.{ignoredFor};
 ghost use Rattle.player.specs.House.{widest, badLine, printedLine};
 ghost use Rattle.player.specs.Promise.{Plays, PlaysOn, Tells, Shelf, InOutput};
 
@@ -38,6 +43,12 @@ pub struct Played {
 struct Told {
     printed: Printed,
     count: usize,
+}
+
+// What an event gives, and why it was ignored, where that is asked for.
+struct Happened {
+    stepped: Stepped,
+    why: Why,
 }
 
 // A line names a message that was put out.
@@ -94,32 +105,73 @@ fn event(e: End, verb: Verb, clock: u64, bytes: &[u8], out: &mut [u8]) -> Steppe
     }
 }
 
-// The same with the message that is heard in its place.
+// Why the event of a verb would be ignored.
+fn reason(e: End, verb: Verb, clock: u64, bytes: &[u8]) -> Why
+    ensures { λ r. ⌜ r ≡ whyOf e clock (eventFor verb (now (bytes .entry))) ⌝ }
+{
+    let none = [0u8; 24];
+    match verb {
+        Verb::Join => link::reason(e, clock, Event::Moves(Move::Join), none, bytes),
+        Verb::Joined => link::reason(e, clock, Event::Moves(Move::Joined), none, bytes),
+        Verb::Leave => link::reason(e, clock, Event::Moves(Move::Leave), none, bytes),
+        Verb::Left => link::reason(e, clock, Event::Moves(Move::Left), none, bytes),
+        Verb::Crash => link::reason(e, clock, Event::Moves(Move::Crash), none, bytes),
+        Verb::Send(focus) => {
+            link::reason(
+                e,
+                clock,
+                Event::Send,
+                message::cue_with(focus, 0, 0, 0, 0),
+                bytes,
+            )
+        }
+        Verb::Hear(_) => link::reason(e, clock, Event::Arrival, none, bytes),
+        Verb::Fire => link::reason(e, clock, Event::Fire, none, bytes),
+        Verb::Report => link::reason(e, clock, Event::Report, none, bytes),
+    }
+}
+
+// The same where it is asked for.
+fn reason_asked(explains: bool, e: End, verb: Verb, clock: u64, bytes: &[u8]) -> Why
+    ensures { λ r. ⌜ r ≡ cond explains (whyOf e clock (eventFor verb (now (bytes .entry)))) Why.NoReason ⌝ }
+{
+    if explains {
+        reason(e, verb, clock, bytes)
+    } else {
+        Why::NoReason
+    }
+}
+
+// The event with the message that is heard in its place, and why it was ignored.
 fn event_in(
+    explains: bool,
     e: End,
     verb: Verb,
     clock: u64,
     places: &[u8],
     lengths: &[u8],
     out: &mut [u8],
-) -> Stepped
+) -> Happened
     requires { ⌜ length (now places) ≡ most * room ⌝ }
     requires { ⌜ length (now lengths) ≡ most ⌝ }
     requires { ⌜ heardNumber verb < most ⌝ }
-    ensures { λ r. ⌜ r ≡ calledOf (eventOf e (eventFor verb (messageIn (now (places .entry)) (now (lengths .entry)) (heardNumber verb))) clock (length (now (out .entry))) draws) ⌝ }
+    ensures { λ r. ⌜ r .stepped ≡ calledOf (eventOf e (eventFor verb (messageIn (now (places .entry)) (now (lengths .entry)) (heardNumber verb))) clock (length (now (out .entry))) draws) ⌝ }
     ensures { λ _. ⌜ now (out .exit) ≡ bufferOf (eventOf e (eventFor verb (messageIn (now (places .entry)) (now (lengths .entry)) (heardNumber verb))) clock (length (now (out .entry))) draws .outcome) (now (out .entry)) ⌝ }
+    ensures { λ r. ⌜ r .why ≡ cond explains (whyOf e clock (eventFor verb (messageIn (now (places .entry)) (now (lengths .entry)) (heardNumber verb)))) Why.NoReason ⌝ }
 {
     let k = heard_number(verb) as usize;
     let n = store::size(lengths, k);
     let at = k * ROOM;
-    event(e, verb, clock, &places[at..at + n], out)
+    let stepped = event(e, verb, clock, &places[at..at + n], out);
+    let why = reason_asked(explains, e, verb, clock, &places[at..at + n]);
+    Happened { stepped, why }
 }
 
 // A message of n bytes that was put out is kept under the next number, if there is one.
 fn put_out(n: usize, out: &[u8], places: &mut [u8], lengths: &mut [u8], count: usize) -> Told
     requires { ⌜ n ≤ length (now out) ⌝ }
     requires { ⌜ Shelf (now out) (now places) (now lengths) count ⌝ }
-    ensures { λ r. ⌜ Tells (Answer.Out n) (now (out .entry)) (firstMessages (now (places .entry)) (now (lengths .entry)) count) count r (firstMessages (now (places .exit)) (now (lengths .exit)) (r .count)) ⌝ }
+    ensures { λ r. ⌜ Tells Why.NoReason (Answer.Out n) (now (out .entry)) (firstMessages (now (places .entry)) (now (lengths .entry)) count) count r (firstMessages (now (places .exit)) (now (lengths .exit)) (r .count)) ⌝ }
 {
     if count < MOST {
         store::keep(places, lengths, count, &out[..n]);
@@ -144,11 +196,28 @@ fn shows(shown: Shown, count: usize) -> Told
     }
 }
 
-// What an answer tells, with the output that the call left.
-fn tell(answer: Answer, out: &[u8], places: &mut [u8], lengths: &mut [u8], count: usize) -> Told
+fn ignored_for(why: Why) -> Shown
+    ensures { λ r. ⌜ r ≡ ignoredFor why ⌝ }
+{
+    match why {
+        Why::Refused(_) => Shown::Ignored,
+        Why::Because(reason) => Shown::IgnoredFor(reason),
+        Why::NoReason => Shown::Ignored,
+    }
+}
+
+// What an answer tells, with the output that the call left and the reason that it was asked for.
+fn tell(
+    why: Why,
+    answer: Answer,
+    out: &[u8],
+    places: &mut [u8],
+    lengths: &mut [u8],
+    count: usize,
+) -> Told
     requires { ⌜ InOutput answer (now out) ⌝ }
     requires { ⌜ Shelf (now out) (now places) (now lengths) count ⌝ }
-    ensures { λ r. ⌜ Tells answer (now (out .entry)) (firstMessages (now (places .entry)) (now (lengths .entry)) count) count r (firstMessages (now (places .exit)) (now (lengths .exit)) (r .count)) ⌝ }
+    ensures { λ r. ⌜ Tells why answer (now (out .entry)) (firstMessages (now (places .entry)) (now (lengths .entry)) count) count r (firstMessages (now (places .exit)) (now (lengths .exit)) (r .count)) ⌝ }
 {
     match answer {
         Answer::Refused(question) => shows(Shown::Refused(question), count),
@@ -160,7 +229,7 @@ fn tell(answer: Answer, out: &[u8], places: &mut [u8], lengths: &mut [u8], count
             shows(Shown::Got(source, number, focus), count)
         }
         Answer::Done => shows(Shown::Done, count),
-        Answer::Ignored => shows(Shown::Ignored, count),
+        Answer::Ignored => shows(ignored_for(why), count),
         Answer::Nothing => shows(Shown::Nothing, count),
         Answer::Clash(name) => {
             let source = name.source;
@@ -172,6 +241,7 @@ fn tell(answer: Answer, out: &[u8], places: &mut [u8], lengths: &mut [u8], count
 
 // Plays a line that names no unknown message, with the first messages, `used` of them.
 fn play_known(
+    explains: bool,
     e: End,
     verb: Verb,
     clock: u64,
@@ -181,12 +251,14 @@ fn play_known(
 ) -> Played
     requires { ⌜ isKnown verb used ≡ true ⌝ }
     requires { ⌜ used ≤ most ⌝ }
-    ensures { λ r. ⌜ PlaysOn e verb clock (firstMessages (now (places .entry)) (now (lengths .entry)) used) r (firstMessages (now (places .exit)) (now (lengths .exit)) (r .count)) ⌝ }
+    ensures { λ r. ⌜ PlaysOn explains e verb clock (firstMessages (now (places .entry)) (now (lengths .entry)) used) r (firstMessages (now (places .exit)) (now (lengths .exit)) (r .count)) ⌝ }
 {
     let mut out = [0u8; 128];
-    let stepped = event_in(e, verb, clock, places, lengths, &mut out);
+    let happened = event_in(explains, e, verb, clock, places, lengths, &mut out);
+    let stepped = happened.stepped;
+    let why = happened.why;
     let answer = stepped.answer;
-    let t = tell(answer, &out, places, lengths, used);
+    let t = tell(why, answer, &out, places, lengths, used);
     let printed = t.printed;
     let end = stepped.end;
     Played {
@@ -197,8 +269,9 @@ fn play_known(
 }
 
 // Plays a line: the verb and the clock on an end, with the messages that were put out so far, of which there are `count`, 64 at
-// most. The next message goes into the next place.
+// most. The next message goes into the next place. Where it explains, the reason follows "ignored".
 pub fn play(
+    explains: bool,
     e: End,
     verb: Verb,
     clock: u64,
@@ -206,11 +279,11 @@ pub fn play(
     lengths: &mut [u8; 64],
     count: usize,
 ) -> Played
-    ensures { λ r. ⌜ Plays e verb clock (messagesIn (now (places .entry)) (now (lengths .entry)) count) r (messagesIn (now (places .exit)) (now (lengths .exit)) (r .count)) ⌝ }
+    ensures { λ r. ⌜ Plays explains e verb clock (messagesIn (now (places .entry)) (now (lengths .entry)) count) r (messagesIn (now (places .exit)) (now (lengths .exit)) (r .count)) ⌝ }
 {
     let used = store::least(count, MOST);
     if is_known(verb, used) {
-        play_known(e, verb, clock, places, lengths, used)
+        play_known(explains, e, verb, clock, places, lengths, used)
     } else {
         Played {
             printed: Printed::Bad,

@@ -11,13 +11,13 @@ use Rattle.answers.proofs.put_answer.Statement.{statement}
 use Rattle.answers.proofs.put_answer.Tie as tie
 
 returns : tie.Need-returns
-returns c = put-same (c .before .before .put-out .ensures) (cc)
+returns c = put-same (put-wider (c .before .before .put-out .ensures) (omega arith)) (cc)
 
 returns-2 : tie.Need-returns-2
 returns-2 c =
     let t = c .before .before in
     let f : SFits w16 (t .before .before .before .a2 .given .0 .1 .1 .0) = search needs in
-    put-same (t .put-got .ensures) (cc (toZ-ofZ f))
+    put-same (put-wider (t .put-got .ensures) (omega arith)) (cc (toZ-ofZ f))
 
 returns-3 : tie.Need-returns-3
 unfolding answerWords
@@ -32,16 +32,19 @@ returns-4 c =
     put-same (put-wider (t .text2 .ensures) (omega arith)) (sym (ap answerWords (t .before .before .before .enum-told2 .given .1)))
 
 returns-5 : tie.Need-returns-5
+returns-5 c = put-same (c .before .before .put-ignored-for .ensures) (cc)
+
+returns-6 : tie.Need-returns-6
 unfolding answerWords
-returns-5 c =
+returns-6 c =
     let t = c .before .before in
     put-same (put-wider (t .text3 .ensures) (omega arith)) (sym (ap answerWords (t .before .before .before .enum-told3 .given .1)))
 
-returns-6 : tie.Need-returns-6
-returns-6 c = put-same (c .before .before .put-refused .ensures) (cc)
-
 returns-7 : tie.Need-returns-7
-returns-7 c = put-same (c .before .before .put-clash .ensures) (cc)
+returns-7 c = put-same (put-wider (c .before .before .put-refused .ensures) (omega arith)) (cc)
+
+returns-8 : tie.Need-returns-8
+returns-8 c = put-same (put-wider (c .before .before .put-clash .ensures) (omega arith)) (cc)
 
 pub put-answer-spec : {M : Type 1} → statement M
 put-answer-spec =
@@ -55,6 +58,8 @@ put-answer-spec =
     (λ c. search needs)
     (λ c κs. search needs)
     (λ c. search needs)
+    (λ c. search needs)
+    (λ c κs. search needs)
     (λ c. search needs)
     (λ c κs. search needs)
     (λ c. search needs)
@@ -77,4 +82,6 @@ put-answer-spec =
     (λ c. search needs)
     returns-6
     (λ c. search needs)
-    returns-7)
+    returns-7
+    (λ c. search needs)
+    returns-8)

@@ -1,4 +1,4 @@
--- `answers::put_line` meets its contract: the pieces are one write, of at most fifty bytes.
+-- `answers::put_line` meets its contract: the pieces are one write, of at most 56 bytes.
 use native.Mathlib.Omega.{arith}
 use Rattle.answers.specs.AnswerLine.{answerLine}
 use Rattle.answers.proofs.PutLaws.{put-both}
@@ -11,7 +11,7 @@ unfolding answerLine
 returns c =
     let t = c .before .before in
     let s = t .before .before .before .before in
-    let q = put-both {most = 46} (s .spaced-clock .ensures) (t .put-ending .ensures) (omega arith) (omega arith) in
+    let q = put-both {most = 52} (s .spaced-clock .ensures) (t .put-ending .ensures) (omega arith) (omega arith) in
     put-both (s .before .before .before .before .spaced .ensures) q (omega arith) (omega arith)
 
 pub put-line-spec : {M : Type 1} → statement M

@@ -15,13 +15,13 @@ returns : tie.Need-returns
 returns c =
     let l = c .before .before .before .before .before in
     let a = l .before .args in
-    play-on (a .e) (a .verb) (a .clock) (a .count) (l .least .result) (a .places .now) (a .lengths .now) (l .least .ensures) _ _ _ (c .play-known .ensures)
+    play-on (a .explains) (a .e) (a .verb) (a .clock) (a .count) (l .least .result) (a .places .now) (a .lengths .now) (l .least .ensures) _ _ _ (c .play-known .ensures)
 
 returns-2 : tie.Need-returns-2
 returns-2 c =
     let l = c .before .before in
     let a = l .before .args in
-    play-bad (a .e) (a .verb) (a .clock) (a .count) (l .least .result) (a .places .now) (a .lengths .now) (l .least .ensures)
+    play-bad (a .explains) (a .e) (a .verb) (a .clock) (a .count) (l .least .result) (a .places .now) (a .lengths .now) (l .least .ensures)
     (sym (c .before .is-known .ensures) ∙ c .if1 .left)
 
 pub play-spec : {M : Type 1} → statement M

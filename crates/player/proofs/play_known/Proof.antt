@@ -15,21 +15,21 @@ event-in-requires c κs =
 
 tell-requires : tie.Need-tell-requires
 tell-requires c κs =
-    let f = c .before .before .before .before in
+    let f = c .before .before .before .before .before in
     let s = start f in
     let a = s .args in
-    let h = in-output (a .e) (a .verb) (a .clock) (a .used) (a .places .now) (a .lengths .now) (s .pre .0) _ _
-    (f .event-in .ensures .0) (f .event-in .ensures .1) in
-    (h, record { out-size = f .event-in .kept .1 .1 .1 .1 .1 .0; places-size = search needs; lengths-size = search needs; few = s .pre .1 })
+    let h = in-output (a .explains) (a .e) (a .verb) (a .clock) (a .used) (a .places .now) (a .lengths .now) (s .pre .0) _ _
+    (f .event-in .ensures .0) (f .event-in .ensures .1 .0) in
+    (h, record { out-size = f .event-in .kept .1 .1 .1 .1 .1 .1 .0; places-size = search needs; lengths-size = search needs; few = s .pre .1 })
 
 returns : tie.Need-returns
 returns c =
     let t = c .before in
-    let f = t .before .before .before .before .before in
+    let f = t .before .before .before .before .before .before in
     let s = start f in
     let a = s .args in
-    played (a .e) (a .verb) (a .clock) (a .used) (a .places .now) (a .lengths .now) (s .pre .0) _ _
-    (f .event-in .ensures .0) (f .event-in .ensures .1) _ _ (t .tell .ensures)
+    played (a .explains) (a .e) (a .verb) (a .clock) (a .used) (a .places .now) (a .lengths .now) (s .pre .0) _ _
+    (f .event-in .ensures .0) (f .event-in .ensures .1 .0) _ _ _ (f .event-in .ensures .1 .1) (t .tell .ensures)
 
 pub play-known-spec : {M : Type 1} → statement M
 play-known-spec =

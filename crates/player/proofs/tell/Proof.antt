@@ -1,11 +1,12 @@
 -- `player::tell` meets its contract: the answer is the one that was matched.
 use native.Mathlib.Omega.{arith}
-use mathlib.Core.Path.{refl, _∙_}
+use mathlib.Core.Path.{refl, sym, ap, _∙_}
 use mir.Syntax.{w16}
 use mir.Val.{SFits}
 use mir.Facts.{toZ-ofZ}
+use Rattle.player.specs.declared.Printed.the-variants.{Shows}
 use Rattle.player.specs.Promise.{printedFor, messagesFor}
-use Rattle.player.proofs.PlayLaws.{tells, tells-as, out-there}
+use Rattle.player.proofs.PlayLaws.{tells, tells-out, out-there}
 use borrow.Author.Needs.{needs}
 use Rattle.player.proofs.tell.Statement.{statement}
 use Rattle.player.proofs.tell.Tie as tie
@@ -23,7 +24,7 @@ returns c = tells _ _ (c .before .before .answer .given .1) (omega arith) (c .sh
 returns-2 : tie.Need-returns-2
 returns-2 c =
     let p = c .before .before .before .before in
-    tells-as (p .before .before .before .before .answer2 .given .1) (p .put-out .ensures)
+    tells-out (p .before .before .before .before .answer2 .given .1) (p .put-out .ensures)
 
 returns-3 : tie.Need-returns-3
 unfolding printedFor messagesFor
@@ -39,7 +40,9 @@ returns-4 c = tells _ _ (c .before .enum-told .given .1) (omega arith) (c .shows
 
 returns-5 : tie.Need-returns-5
 unfolding printedFor messagesFor
-returns-5 c = tells _ _ (c .before .enum-told2 .given .1) (omega arith) (c .shows4 .ensures) refl (λ _. refl)
+returns-5 c =
+    let i = c .before in
+    tells _ _ (i .before .enum-told2 .given .1) (omega arith) (c .shows4 .ensures) (sym (ap Shows (i .ignored-for .ensures))) (λ _. refl)
 
 returns-6 : tie.Need-returns-6
 unfolding printedFor messagesFor
@@ -63,6 +66,7 @@ tell-spec =
     (λ c. search needs)
     (λ c κs. search needs)
     (λ c. search needs)
+    (λ c κs. search needs)
     (λ c κs. search needs)
     (λ c. search needs)
     (λ c κs. search needs)

@@ -1,10 +1,10 @@
--- `house::main` is safe and ends: the measure is the number of pieces that are left.
+-- `console::play` is safe and ends: the measure is the number of pieces that are left.
 use mathlib.Core.Path.{sym}
 use native.Mathlib.Omega.{arith}
 use lib.Seq.{length-take-le}
 use borrow.Author.Needs.{needs}
-use Rattle.house.proofs.main.Statement.{statement}
-use Rattle.house.proofs.main.Tie as tie
+use Rattle.console.proofs.play.Statement.{statement}
+use Rattle.console.proofs.play.Tie as tie
 
 abbrev Inv-loop : tie.InvT-loop
 Inv-loop playing₀ pieces₀ playing pieces = Unit {0}
@@ -15,13 +15,12 @@ abbrev μ-loop : tie.MeasureT-loop
 loop-less : tie.Need-loop-less Inv-loop μ-loop
 loop-less c = omega (arith, c .before .before .before .before .loop-test .taken)
 
-pub main-spec : {M : Type 1} → statement M
-main-spec =
+pub play-spec : {M : Type 1} → statement M
+play-spec =
     tie.close
     (tie.spec
     Inv-loop
     μ-loop
-    (λ c κs. search needs)
     (λ c. tt)
     (λ c. omega arith)
     (λ c κs. search needs)

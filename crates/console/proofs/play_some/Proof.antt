@@ -1,13 +1,13 @@
--- `house::play_some` meets its contract: the output has room for a line, so that bytes are taken.
+-- `console::play_some` meets its contract: the output has room for a line, so that bytes are taken.
 use mathlib.Core.Path.{_≡_, sym}
 use Prim.Native.Nat.{ℕ}
 use native.Mathlib.Omega.{arith}
 use lib.ListN.{length, replicate, length-replicate}
 use lib.Seq.{length-take-le}
-use Rattle.house.proofs.PieceLaws.{some-taken, output-size}
+use Rattle.console.proofs.PieceLaws.{some-taken, output-size}
 use borrow.Author.Needs.{needs}
-use Rattle.house.proofs.play_some.Statement.{statement}
-use Rattle.house.proofs.play_some.Tie as tie
+use Rattle.console.proofs.play_some.Statement.{statement}
+use Rattle.console.proofs.play_some.Tie as tie
 
 room : length {A = ℕ} (replicate 4096 0) ≡ 4096
 room = length-replicate {A = ℕ} 4096 0

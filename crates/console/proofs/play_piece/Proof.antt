@@ -1,11 +1,11 @@
--- `house::play_piece` meets its contract: each call takes bytes of the piece, until there are none or the script has stopped.
+-- `console::play_piece` meets its contract: each call takes bytes of the piece, until there are none or the script has stopped.
 use Prim.Native.Nat.{_-_}
 use native.Mathlib.Omega.{arith}
 use lib.ListN.{length}
 use Rattle.interpreter.specs.Interpreter.{standing}
-use Rattle.house.proofs.PieceLaws.{SoFar, none-taken, all-taken, left, plays-on, part-size, more-taken}
-use Rattle.house.proofs.play_piece.Statement.{statement}
-use Rattle.house.proofs.play_piece.Tie as tie
+use Rattle.console.proofs.PieceLaws.{SoFar, none-taken, all-taken, left, plays-on, part-size, more-taken}
+use Rattle.console.proofs.play_piece.Statement.{statement}
+use Rattle.console.proofs.play_piece.Tie as tie
 
 abbrev Inv-loop : tie.InvT-loop
 Inv-loop piece playing₀ at₀ playing at = SoFar (standing playing₀) piece playing at

@@ -5,7 +5,7 @@ use Rattle.cases.specs.Rows.{rows}
 use Rattle.cases.specs.Answers.{answerRows}
 use Rattle.cases.specs.Moves.{moveRows}
 use Rattle.cases.specs.Wire.{wireRows}
-use Rattle.cases.specs.Timed.{timedRows, halfTripRows}
+use Rattle.cases.specs.Timed.{timedRows, halfTripRows, factorRows}
 use Rattle.cases.specs.Reasons.{reasonRows}
 use Rattle.cases.specs.Quiet.{quietRows}
 use Rattle.cases.specs.Stage.{stageRows}
@@ -56,3 +56,7 @@ clashes-hold = (refl, (refl, (refl, (refl, (refl, (refl, (refl, (refl, (refl, (r
 pub probe-holds : Hold probeRows
 unfolding probeRows opened
 probe-holds = (refl, (refl, (refl, (refl, (refl, (refl, (refl, (refl, (refl, (refl, (refl, (refl, tt))))))))))))
+
+pub factors-hold : Hold factorRows
+unfolding factorRows opened
+factors-hold = (refl, (refl, (refl, (refl, (refl, (refl, (refl, (refl, (refl, (refl, (refl, (refl, (refl, (refl, (refl, (refl, tt))))))))))))))))

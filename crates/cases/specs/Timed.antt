@@ -10,7 +10,7 @@ use Rattle.message.specs.declared.Report.{Report}
 use Rattle.end.specs.declared.Params.{Params}
 use Rattle.end.specs.declared.Status.the-variants.{Member}
 use Rattle.end.specs.State.{freshEnd}
-use Rattle.end.specs.Round.{halfTrip}
+use Rattle.end.specs.Round.{factor, halfTrip}
 use Rattle.end.specs.Answer.{Out, Done, Ignored, Nothing}
 use Rattle.end.specs.Event.{Action, Send, Arrival, Else, Fire}
 use Rattle.end.specs.Answer.{Outcome, Did}
@@ -151,4 +151,25 @@ halfTripRows =
     ∷ case (halfTrip 8000) 1000
     ∷ case (halfTrip 8001) 1000
     ∷ case (halfTrip (ticksLimit - 1)) 1000
+    ∷ []
+
+-- "the factor worked out is shown to be 2^(k−1) in each round" (document 02, P6): the sixteen factors
+unfoldable pub factorRows : List Case
+factorRows =
+    case (factor 1) 1
+    ∷ case (factor 2) 2
+    ∷ case (factor 3) 4
+    ∷ case (factor 4) 8
+    ∷ case (factor 5) 16
+    ∷ case (factor 6) 32
+    ∷ case (factor 7) 64
+    ∷ case (factor 8) 128
+    ∷ case (factor 9) 256
+    ∷ case (factor 10) 512
+    ∷ case (factor 11) 1024
+    ∷ case (factor 12) 2048
+    ∷ case (factor 13) 4096
+    ∷ case (factor 14) 8192
+    ∷ case (factor 15) 16384
+    ∷ case (factor 16) 32768
     ∷ []

@@ -1,5 +1,6 @@
 -- Every promise is kept: one term of the type `Promises`. What is below may be proved in any way; what it proves stands in specs/.
-use mathlib.Core.Path.{refl}
+use mathlib.Core.Path.{_≡_, refl}
+use Prim.Native.Nat.{ℕ, _-_, _^_, _≤_}
 use Rattle.invariants.proofs.Stays.{opens-sound, stays-sound}
 use Rattle.invariants.proofs.Lists.{ends-stay-sound, never-refused-as-3, clocks-never-fall, never-heard-later}
 use Rattle.invariants.proofs.Clocks.{clock-never-falls, heard-by-now}
@@ -15,6 +16,7 @@ use Rattle.roundtrip.proofs.RoundTrip.{reads-back, very-bytes, rewritten, at-mo
 use Rattle.numbers.proofs.NumberLaws.{value-digits, digits-value}
 use Rattle.numbers.proofs.SignedLaws.{signed-back, two-bytes-back}
 use Rattle.message.proofs.CueLaws.{cue-fields-back}
+use Rattle.end.specs.Round.{factor}
 use Rattle.end.proofs.Bounds.{share-none, share-whole, share-most, share-rises, least-milliseconds}
 use Rattle.end.proofs.Clashes.{same-cue-is-same-bytes}
 use Rattle.end.proofs.Service.Ends.{service}
@@ -22,8 +24,13 @@ use Rattle.end.proofs.Service.Unclashed.{never-clashes}
 use Rattle.end.proofs.Reasons.{ignored-for-the-first-reason}
 use Rattle.end.proofs.ReasonLaws.{reason-is-first, none-holds, number-exactly, reason-exactly, none-exactly}
 use Rattle.cases.proofs.Shown.{service-shown, never-returns-clash}
-use Rattle.cases.proofs.Cases.{cases-hold, answers-hold, moves-hold, wire-holds, timed-hold, half-trips-hold, reasons-hold, stage-holds, quiet-holds, clashes-hold, probe-holds}
+use Rattle.cases.proofs.Cases.{cases-hold, answers-hold, moves-hold, wire-holds, timed-hold, half-trips-hold, factors-hold, reasons-hold, stage-holds, quiet-holds, clashes-hold, probe-holds}
 use Rattle.promises.specs.Promises.{Promises}
+
+-- by its definition
+factor-power : (k : ℕ) → 1 ≤ k → k ≤ 16 → factor k ≡ 2 ^ (k - 1)
+unfolding factor
+factor-power k a b = refl
 
 pub promises : Promises
 promises = record {
@@ -88,6 +95,7 @@ promises = record {
     share-whole = share-whole;
     share-most = share-most;
     share-rises = share-rises;
+    factor-power = factor-power;
     least-milliseconds = least-milliseconds;
     half-trip = λ e. refl;
     slots-may-become = slots-may-become;
@@ -112,6 +120,7 @@ promises = record {
     wire = wire-holds;
     timed = timed-hold;
     half-trips = half-trips-hold;
+    factors = factors-hold;
     reasons = reasons-hold;
     stage = stage-holds;
     quiet = quiet-holds;

@@ -3,7 +3,7 @@ use mathlib.Core.Path.{_≡_}
 use mathlib.Core.Bool.{true, false}
 use mathlib.Core.List.{List, [], _∷_}
 use mathlib.Core.Logic.{_⊎_}
-use Prim.Native.Nat.{ℕ, _+_, _*_, _≤_, _<_, min, max}
+use Prim.Native.Nat.{ℕ, _+_, _-_, _*_, _^_, _≤_, _<_, min, max}
 use lib.ListN.{length}
 use Rattle.message.specs.declared.Host.{Host}
 use Rattle.message.specs.Entry.{asHost}
@@ -33,6 +33,8 @@ pub record BackOffKept : Type 0 where
   pub share-whole : (wait : ℕ) → share wait 65535 ≡ wait
   pub share-most : (wait u : ℕ) → u ≤ 65535 → share wait u ≤ wait
   pub share-rises : (wait u v : ℕ) → u ≤ v → share wait u ≤ share wait v
+  -- The factor of a round (document 02, P6), which `timing::round_factor` gives for k from 1 to 16: 2^(k−1).
+  pub factor-power : (k : ℕ) → 1 ≤ k → k ≤ 16 → factor k ≡ 2 ^ (k - 1)
   -- A half trip (document 02, P2), before it is brought into 1..1000: the least whole number of milliseconds that is at least e/8.
   pub least-milliseconds : (e : ℕ) → (e ≤ 8 * eighthUp e) × ((ms : ℕ) → e ≤ 8 * ms → eighthUp e ≤ ms)
   -- And a half trip is that, brought into 1..1000.

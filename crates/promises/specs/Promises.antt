@@ -16,7 +16,7 @@ use Rattle.cases.specs.Rows.{rows}
 use Rattle.cases.specs.Answers.{answerRows}
 use Rattle.cases.specs.Moves.{moveRows}
 use Rattle.cases.specs.Wire.{wireRows}
-use Rattle.cases.specs.Timed.{timedRows, halfTripRows}
+use Rattle.cases.specs.Timed.{timedRows, halfTripRows, factorRows}
 use Rattle.cases.specs.Reasons.{reasonRows}
 use Rattle.cases.specs.Stage.{stageRows}
 use Rattle.cases.specs.Quiet.{quietRows}
@@ -39,6 +39,7 @@ pub record CasesKept : Type 0 where
   pub wire : Hold wireRows
   pub timed : Hold timedRows
   pub half-trips : Hold halfTripRows
+  pub factors : Hold factorRows
   pub reasons : Hold reasonRows
   pub stage : Hold stageRows
   pub quiet : Hold quietRows

@@ -13,19 +13,13 @@ ghost use Rattle.end.specs.Ready.{Ranges};
 // The greatest value of a draw.
 const MOST_DRAW: u64 = 65535;
 
-// The factor of round k, worked out and not stored: 2^(k-1).
+// The factor of round k, 2^(k-1): one shift, no loop and no stored table (document 02, P6).
 fn round_factor(k: u8) -> u64
     requires { ⌜ (1 ≤ k) × (k ≤ 16) ⌝ }
     ensures { λ r. ⌜ r ≡ factor k ⌝ }
     ensures { λ r. ⌜ r ≤ 32768 ⌝ }
 {
-    let mut f: u64 = 1;
-    let mut i: u8 = 1;
-    while i < k {
-        f = f * 2;
-        i = i + 1;
-    }
-    f
+    1u64 << (k - 1)
 }
 
 // Parameter times distance, in ticks: a wait for a reply.

@@ -19,6 +19,7 @@ pub mod reason;
 pub mod replay;
 pub mod text;
 pub mod trace;
+pub mod windows;
 
 /// "Hosts are 0..7".
 pub const HOSTS: u8 = 8;

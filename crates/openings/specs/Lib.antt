@@ -1,0 +1,4 @@
+pub mod Windows
+pub mod Find
+pub mod Pass
+pub mod Promise

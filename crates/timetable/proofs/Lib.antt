@@ -1,0 +1,4 @@
+pub mod LineLaws
+pub mod PlayLaws
+pub mod Pieces
+pub mod FeedLaws

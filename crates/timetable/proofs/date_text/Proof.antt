@@ -1,0 +1,55 @@
+-- `timetable::date_text` meets its contract: digit by digit.
+use Rattle.timetable.specs.Table.{dateText}
+use borrow.Author.Needs.{needs}
+use Rattle.timetable.proofs.date_text.Statement.{statement}
+use Rattle.timetable.proofs.date_text.Tie as tie
+
+cast-month : tie.Need-cast-month
+cast-month c = search needs
+
+cast-day : tie.Need-cast-day
+cast-day c = search needs
+
+tens-requires : tie.Need-tens-requires
+tens-requires c κs = search needs
+
+ones-requires : tie.Need-ones-requires
+ones-requires c κs = search needs
+
+tens-requires-2 : tie.Need-tens-requires-2
+tens-requires-2 c κs = search needs
+
+ones-requires-2 : tie.Need-ones-requires-2
+ones-requires-2 c κs = search needs
+
+tens-requires-3 : tie.Need-tens-requires-3
+tens-requires-3 c κs = search needs
+
+ones-requires-3 : tie.Need-ones-requires-3
+ones-requires-3 c κs = search needs
+
+tens-requires-4 : tie.Need-tens-requires-4
+tens-requires-4 c κs = search needs
+
+ones-requires-4 : tie.Need-ones-requires-4
+ones-requires-4 c κs = search needs
+
+returns : tie.Need-returns
+unfolding dateText
+returns c = cc
+
+pub date-text-spec : {M : Type 1} → statement M
+date-text-spec =
+    tie.close
+    (tie.spec
+    cast-month
+    cast-day
+    tens-requires
+    ones-requires
+    tens-requires-2
+    ones-requires-2
+    tens-requires-3
+    ones-requires-3
+    tens-requires-4
+    ones-requires-4
+    returns)

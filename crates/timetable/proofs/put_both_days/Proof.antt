@@ -1,0 +1,25 @@
+-- `timetable::put_both_days` meets its contract: one piece after the other.
+use native.Mathlib.Omega.{arith}
+use Rattle.answers.proofs.PutLaws.{put-both}
+use borrow.Author.Needs.{needs}
+use Rattle.timetable.proofs.put_both_days.Statement.{statement}
+use Rattle.timetable.proofs.put_both_days.Tie as tie
+
+returns : tie.Need-returns
+returns c =
+    let r = put-both {most = 11} (c .before .before .before .before .before .before .before .put-date2 .ensures) (c .before .before .text2 .ensures) (omega arith) (omega arith) in
+    let q = put-both {most = 12} (c .before .before .before .before .before .before .before .before .before .before .before .text .ensures) r (omega arith) (omega arith) in
+    put-both (c .before .before .before .before .before .before .before .before .before .before .before .before .before .before .before .before .put-date .ensures) q (omega arith) (omega arith)
+
+pub put-both-days-spec : {M : Type 1} → statement M
+put-both-days-spec =
+    tie.close
+    (tie.spec
+    (λ c κs. search needs)
+    (λ c. search needs)
+    (λ c κs. search needs)
+    (λ c κs. search needs)
+    (λ c. search needs)
+    (λ c κs. search needs)
+    (λ c. search needs)
+    returns)

@@ -1,0 +1,53 @@
+-- `timetable::put_rolled` meets its contract: a date that exists has a day after it, another is refused.
+use native.Mathlib.Omega.{arith}
+use mathlib.Core.Path.{sym, _∙_}
+use Rattle.answers.proofs.PutLaws.{put-both, put-same}
+use Rattle.timetable.proofs.PlayLaws.{rolled-line, refused-roll}
+use borrow.Author.Needs.{needs}
+use Rattle.timetable.proofs.put_rolled.Statement.{statement}
+use Rattle.timetable.proofs.put_rolled.Tie as tie
+
+exists-requires : tie.Need-exists-requires
+exists-requires c κs = search needs
+
+day-after-requires : tie.Need-day-after-requires
+day-after-requires c κs = search needs
+
+put-date-requires : tie.Need-put-date-requires
+put-date-requires c κs = search needs
+
+slice-aggregate-text : tie.Need-slice-aggregate-text
+slice-aggregate-text c = search needs
+
+text-requires : tie.Need-text-requires
+text-requires c κs = search needs
+
+put-refused-requires : tie.Need-put-refused-requires
+put-refused-requires c κs = search needs
+
+same-length : tie.Need-same-length
+same-length c = search needs
+
+returns : tie.Need-returns
+returns c = let p = put-both {most = 32} (c .before .before .before .before .before .before .before .put-date .ensures) (c .before .before .text .ensures) (omega arith) (omega arith) in put-same p (rolled-line _ _ (sym (c .before .before .before .before .before .before .before .before .before .before .before .exists .ensures) ∙ c .before .before .before .before .before .before .before .before .before .before .if1 .taken) (c .before .before .before .before .before .before .before .before .before .day-after .ensures))
+
+same-length-2 : tie.Need-same-length-2
+same-length-2 c = search needs
+
+returns-2 : tie.Need-returns-2
+returns-2 c = put-same (c .before .before .put-refused .ensures) (refused-roll _ (sym (c .before .before .before .before .before .exists .ensures) ∙ c .before .before .before .before .if1 .left))
+
+pub put-rolled-spec : {M : Type 1} → statement M
+put-rolled-spec =
+    tie.close
+    (tie.spec
+    exists-requires
+    day-after-requires
+    put-date-requires
+    slice-aggregate-text
+    text-requires
+    put-refused-requires
+    same-length
+    returns
+    same-length-2
+    returns-2)

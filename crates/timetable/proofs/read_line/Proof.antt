@@ -1,0 +1,213 @@
+-- `timetable::read_line` meets its contract: the words end where the spaces stand.
+use native.Mathlib.Omega.{arith}
+use mathlib.Core.Path.{sym, _∙_}
+use lib.Seq.{length-take-le}
+use Rattle.timetable.proofs.LineLaws.{one-word, two-words, three-words, four-words, five-words, more-words}
+use borrow.Author.Needs.{needs}
+use Rattle.timetable.proofs.read_line.Statement.{statement}
+use Rattle.timetable.proofs.read_line.Tie as tie
+
+space-requires : tie.Need-space-requires
+space-requires c κs = search needs
+
+clear-in-requires : tie.Need-clear-in-requires
+clear-in-requires c κs = search needs
+
+returns : tie.Need-returns
+returns c = c .clear-in .ensures ∙ one-word _ _ (c .before .before .space .ensures .next) (c .before .if1 .taken)
+
+add-space : tie.Need-add-space
+add-space c = search needs
+
+space-requires-2 : tie.Need-space-requires-2
+space-requires-2 c κs = search needs
+
+slice-aggregate-roll-in : tie.Need-slice-aggregate-roll-in
+slice-aggregate-roll-in c = sym (length-take-le _ _ (omega (arith, c .before .before .before .if1 .left)))
+
+add-roll-in : tie.Need-add-roll-in
+add-roll-in c = search needs
+
+sub-roll-in : tie.Need-sub-roll-in
+sub-roll-in c = search needs
+
+part-roll-in-start : tie.Need-part-roll-in-start
+part-roll-in-start c = search needs
+
+part-roll-in-end : tie.Need-part-roll-in-end
+part-roll-in-end c = search needs
+
+roll-in-requires : tie.Need-roll-in-requires
+roll-in-requires c κs = search needs
+
+returns-2 : tie.Need-returns-2
+returns-2 c = c .roll-in .ensures ∙ two-words _ _ (c .before .before .before .before .before .before .space .ensures .next) _ (c .before .before .before .before .space2 .ensures .next) (c .before .before .before .before .before .if1 .left) (c .before .before .before .if2 .taken)
+
+add-space-2 : tie.Need-add-space-2
+add-space-2 c = search needs
+
+space-requires-3 : tie.Need-space-requires-3
+space-requires-3 c κs = search needs
+
+slice-aggregate-next-in : tie.Need-slice-aggregate-next-in
+slice-aggregate-next-in c = sym (length-take-le _ _ (omega (arith, c .before .before .before .before .before .if1 .left)))
+
+add-next-in : tie.Need-add-next-in
+add-next-in c = search needs
+
+sub-next-in : tie.Need-sub-next-in
+sub-next-in c = search needs
+
+part-next-in-start : tie.Need-part-next-in-start
+part-next-in-start c = search needs
+
+part-next-in-end : tie.Need-part-next-in-end
+part-next-in-end c = search needs
+
+add-next-in-2 : tie.Need-add-next-in-2
+add-next-in-2 c = search needs
+
+sub-next-in-2 : tie.Need-sub-next-in-2
+sub-next-in-2 c = search needs
+
+part-next-in-start-2 : tie.Need-part-next-in-start-2
+part-next-in-start-2 c = search needs
+
+part-next-in-end-2 : tie.Need-part-next-in-end-2
+part-next-in-end-2 c = search needs
+
+next-in-requires : tie.Need-next-in-requires
+next-in-requires c κs = search needs
+
+returns-3 : tie.Need-returns-3
+returns-3 c = c .next-in .ensures ∙ three-words _ _ (c .before .before .before .before .before .before .before .before .before .space .ensures .next) _ (c .before .before .before .before .before .before .before .space2 .ensures .next) _ (c .before .before .before .before .before .space3 .ensures .next) (c .before .before .before .before .before .before .if2 .left) (c .before .before .before .before .if3 .taken)
+
+add-space-3 : tie.Need-add-space-3
+add-space-3 c = search needs
+
+space-requires-4 : tie.Need-space-requires-4
+space-requires-4 c κs = search needs
+
+returns-4 : tie.Need-returns-4
+returns-4 c = four-words _ _ (c .before .before .before .before .before .before .before .space .ensures .next) _ (c .before .before .before .before .before .space2 .ensures .next) _ (c .before .before .before .space3 .ensures .next) _ (c .before .space4 .ensures .next) (c .before .before .if3 .left) (c .if4 .taken)
+
+add-space-4 : tie.Need-add-space-4
+add-space-4 c = search needs
+
+space-requires-5 : tie.Need-space-requires-5
+space-requires-5 c κs = search needs
+
+slice-aggregate-window-in : tie.Need-slice-aggregate-window-in
+slice-aggregate-window-in c = sym (length-take-le _ _ (omega (arith, c .before .before .before .before .before .before .before .before .before .if1 .left)))
+
+add-window-in : tie.Need-add-window-in
+add-window-in c = search needs
+
+sub-window-in : tie.Need-sub-window-in
+sub-window-in c = search needs
+
+part-window-in-start : tie.Need-part-window-in-start
+part-window-in-start c = search needs
+
+part-window-in-end : tie.Need-part-window-in-end
+part-window-in-end c = search needs
+
+add-window-in-2 : tie.Need-add-window-in-2
+add-window-in-2 c = search needs
+
+sub-window-in-2 : tie.Need-sub-window-in-2
+sub-window-in-2 c = search needs
+
+part-window-in-start-2 : tie.Need-part-window-in-start-2
+part-window-in-start-2 c = search needs
+
+part-window-in-end-2 : tie.Need-part-window-in-end-2
+part-window-in-end-2 c = search needs
+
+add-window-in-3 : tie.Need-add-window-in-3
+add-window-in-3 c = search needs
+
+sub-window-in-3 : tie.Need-sub-window-in-3
+sub-window-in-3 c = search needs
+
+part-window-in-start-3 : tie.Need-part-window-in-start-3
+part-window-in-start-3 c = search needs
+
+part-window-in-end-3 : tie.Need-part-window-in-end-3
+part-window-in-end-3 c = search needs
+
+add-window-in-4 : tie.Need-add-window-in-4
+add-window-in-4 c = search needs
+
+sub-window-in-4 : tie.Need-sub-window-in-4
+sub-window-in-4 c = search needs
+
+part-window-in-start-4 : tie.Need-part-window-in-start-4
+part-window-in-start-4 c = search needs
+
+part-window-in-end-4 : tie.Need-part-window-in-end-4
+part-window-in-end-4 c = search needs
+
+window-in-requires : tie.Need-window-in-requires
+window-in-requires c κs = search needs
+
+returns-5 : tie.Need-returns-5
+returns-5 c = c .window-in .ensures ∙ five-words _ _ (c .before .before .before .before .before .before .before .before .before .before .before .before .before .before .before .space .ensures .next) _ (c .before .before .before .before .before .before .before .before .before .before .before .before .before .space2 .ensures .next) _ (c .before .before .before .before .before .before .before .before .before .before .before .space3 .ensures .next) _ (c .before .before .before .before .before .before .before .before .before .space4 .ensures .next) _ (c .before .before .before .before .before .before .before .space5 .ensures .next) (c .before .before .before .before .before .before .before .before .if4 .left) (c .before .before .before .before .before .before .if5 .taken)
+
+returns-6 : tie.Need-returns-6
+returns-6 c = more-words _ _ (c .before .before .before .before .before .before .before .before .before .space .ensures .next) _ (c .before .before .before .before .before .before .before .space2 .ensures .next) _ (c .before .before .before .before .before .space3 .ensures .next) _ (c .before .before .before .space4 .ensures .next) _ (c .before .space5 .ensures .next) (c .if5 .left)
+
+pub read-line-spec : {M : Type 1} → statement M
+read-line-spec =
+    tie.close
+    (tie.spec
+    space-requires
+    clear-in-requires
+    returns
+    add-space
+    space-requires-2
+    slice-aggregate-roll-in
+    add-roll-in
+    sub-roll-in
+    part-roll-in-start
+    part-roll-in-end
+    roll-in-requires
+    returns-2
+    add-space-2
+    space-requires-3
+    slice-aggregate-next-in
+    add-next-in
+    sub-next-in
+    part-next-in-start
+    part-next-in-end
+    add-next-in-2
+    sub-next-in-2
+    part-next-in-start-2
+    part-next-in-end-2
+    next-in-requires
+    returns-3
+    add-space-3
+    space-requires-4
+    returns-4
+    add-space-4
+    space-requires-5
+    slice-aggregate-window-in
+    add-window-in
+    sub-window-in
+    part-window-in-start
+    part-window-in-end
+    add-window-in-2
+    sub-window-in-2
+    part-window-in-start-2
+    part-window-in-end-2
+    add-window-in-3
+    sub-window-in-3
+    part-window-in-start-3
+    part-window-in-end-3
+    add-window-in-4
+    sub-window-in-4
+    part-window-in-start-4
+    part-window-in-end-4
+    window-in-requires
+    returns-5
+    returns-6)

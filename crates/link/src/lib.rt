@@ -195,13 +195,13 @@ pub fn event(
 fn suits(what: Event, status: Status) -> bool
     ensures { λ r. ⌜ r ≡ suits what status ⌝ }
 {
-    let member = state::is_member(status);
+    let taken = takes(what, status);
     match what {
         Event::Moves(m) => membership::may_move(m, status),
-        Event::Send => member,
-        Event::Arrival => member,
-        Event::Fire => member,
-        Event::Report => member,
+        Event::Send => taken,
+        Event::Arrival => taken,
+        Event::Fire => taken,
+        Event::Report => taken,
     }
 }
 
@@ -243,10 +243,10 @@ pub fn reason(e: End, clock: u64, what: Event, cue: [u8; 24], bytes: &[u8]) -> W
     ensures { λ r. ⌜ whyRefusal r ≡ refusedAs e clock (actionOf what cue (now (bytes .entry))) ⌝ }
 {
     let reading = reading_for(what, bytes);
-    let verdict = reading.verdict;
+    let said = reading.verdict;
     let message = reading.message;
-    let q = questions::refused_as(e, clock, what, cue, verdict);
-    let probe = is_probe(verdict);
+    let q = questions::refused_as(e, clock, what, cue, said);
+    let probe = is_probe(said);
     let taken = taken_as(what, probe);
     if q == 0 {
         unrefused_reason(e, clock, taken, message)

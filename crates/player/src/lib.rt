@@ -142,7 +142,7 @@ fn reason_asked(explains: bool, e: End, verb: Verb, clock: u64, bytes: &[u8]) ->
     }
 }
 
-// The event with the message that is heard in its place, and why it was ignored.
+// The event, with the message that is heard in its place, and why the end as it was before it ignores it, where that is asked for.
 fn event_in(
     explains: bool,
     e: End,
@@ -206,7 +206,7 @@ fn ignored_for(why: Why) -> Shown
     }
 }
 
-// What an answer tells, with the output that the call left and the reason that it was asked for.
+// What an answer tells, with the output that the call left, and with the reason where it was asked for.
 fn tell(
     why: Why,
     answer: Answer,

@@ -3,8 +3,8 @@ use borrow.Author.Needs.{needs}
 use Rattle.link.proofs.suits.Statement.{statement}
 use Rattle.link.proofs.suits.Tie as tie
 
-is-member-requires : tie.Need-is-member-requires
-is-member-requires c κs = search needs
+takes-requires : tie.Need-takes-requires
+takes-requires c κs = search needs
 
 enum-known-what : tie.Need-enum-known-what
 enum-known-what c = search needs
@@ -28,22 +28,30 @@ returns : tie.Need-returns
 returns c = rw (c .before .before .what .given .1) (c .may-move .ensures)
 
 returns-2 : tie.Need-returns-2
-returns-2 c = search needs
+returns-2 c =
+    let known = c .enum-told .given .1 in
+    rw known (rw known at (c .before .before .takes .ensures))
 
 returns-3 : tie.Need-returns-3
-returns-3 c = search needs
+returns-3 c =
+    let known = c .enum-told2 .given .1 in
+    rw known (rw known at (c .before .before .takes .ensures))
 
 returns-4 : tie.Need-returns-4
-returns-4 c = search needs
+returns-4 c =
+    let known = c .enum-told3 .given .1 in
+    rw known (rw known at (c .before .before .takes .ensures))
 
 returns-5 : tie.Need-returns-5
-returns-5 c = search needs
+returns-5 c =
+    let known = c .enum-told4 .given .1 in
+    rw known (rw known at (c .before .before .takes .ensures))
 
 pub suits-spec : {M : Type 1} → statement M
 suits-spec =
     tie.close
     (tie.spec
-    is-member-requires
+    takes-requires
     enum-known-what
     may-move-requires
     enum-told

@@ -31,7 +31,10 @@ returns-3 : tie.Need-returns-3
 returns-3 c =
     let l = c .before .before in
     let e = l .before .before in
-    over _ _ (sym (e .before .not-after .ensures) ∙ not-false _ (e .if1 .left)) (sym (l .before .lasts .ensures) ∙ l .if2 .left) (sym (c .before .not-after2 .ensures) ∙ c .if3 .taken)
+    over _ _
+    (sym (e .before .not-after .ensures) ∙ not-false _ (e .if1 .left))
+    (sym (l .before .lasts .ensures) ∙ l .if2 .left)
+    (sym (c .before .not-after2 .ensures) ∙ c .if3 .taken)
 
 day-after-requires : tie.Need-day-after-requires
 day-after-requires c κs = search needs
@@ -41,7 +44,12 @@ returns-4 c =
     let t = c .before in
     let l = t .before .before in
     let e = l .before .before in
-    tomorrow _ _ (sym (e .before .not-after .ensures) ∙ not-false _ (e .if1 .left)) (sym (l .before .lasts .ensures) ∙ l .if2 .left) _ (c .day-after .ensures) (sym (t .before .not-after2 .ensures) ∙ t .if3 .left)
+    tomorrow _ _
+    (sym (e .before .not-after .ensures) ∙ not-false _ (e .if1 .left))
+    (sym (l .before .lasts .ensures) ∙ l .if2 .left)
+    _
+    (c .day-after .ensures)
+    (sym (t .before .not-after2 .ensures) ∙ t .if3 .left)
 
 pub candidate-spec : {M : Type 1} → statement M
 candidate-spec =

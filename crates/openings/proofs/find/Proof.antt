@@ -155,7 +155,8 @@ module _ {M : Type 1} (𝓤 : URA M) (H : Heap 𝓤) (A : Atoms 𝓤) (W : Given
     exits : (f : Opening) → Is Op.the-row f (openVal f ∷ []) → f ≡ findOf ws m → ent 𝓤 (⋆ 𝓤 H A (‵ (flft κ q) ∷ ‵ Own ∷ [])) (Post (openVal f))
     exits f is e =
         qed W (‵ (flft κ q) ∷ ‵ Own ∷ []) ∵ suffices ! _ (ends-at 𝓤 H A find.ended stayed (find.clauses 𝓤 H A at-mem run) W (((κ, tt), (q, tt), tt, x, at), tt) (openVal f) f (tt, (tt, tt)) (tt, (tt, tt))) $ says ! e $
-        nothing ! $ move ! (1 ∷ 0 ∷ []) $ join ! $ frame ! $ nothing ! $ owned ! Mo.the-row (Is Mo.the-row) (LL.makes Mo.the-type Mo′.the-plain 𝓤 H A) m _ is-m $ fjoin ! $ move ! (1 ∷ 0 ∷ []) $ fjoin ! $ frame ! $
+        nothing ! $ move ! (1 ∷ 0 ∷ []) $ join ! $ frame ! $ nothing ! $
+        owned ! Mo.the-row (Is Mo.the-row) (LL.makes Mo.the-type Mo′.the-plain 𝓤 H A) m _ is-m $ fjoin ! $ move ! (1 ∷ 0 ∷ []) $ fjoin ! $ frame ! $
         owned ! Op.the-row (Is Op.the-row) (EL.makes Op.the-type Op′.the-plain 𝓤 H A) f _ is $ done !
 
     module _ (𝓣 : Tables 𝓤 H) (known : Triple 𝓤 (𝓣 .C #openings·with-window) (With 𝓤 H A at-mem run)) (g : Room Win.the-row n) (l₀ l₁ l₂ l₃ l₄ l₅ l₆ l₇ l₈ l₉ : ℕ) (q′ : Share) where
@@ -187,14 +188,18 @@ module _ {M : Type 1} (𝓤 : URA M) (H : Heap 𝓤) (A : Atoms 𝓤) (W : Given
       turn-at s false e =
           assigns ! (of-opd ! (load ! (from ! (fld ! refl (stop !))) (look-in ! 17 (sub ! 1 refl (whole !))))) (from ! (stop !)) (init ! 7 refl (tt, record { fits = g .0 })) $
           assigns ! (bin ! (load ! (from ! (stop !)) (look ! 11 refl)) (load ! (from ! (stop !)) (look ! 7 refl)) tt) (from ! (stop !)) (init ! 5 refl (tt, tt)) $
-          rewrite ! 5 (λ (t : Bool). ‵ (fat fullShare tyBool l₇ 0 (vbool t))) e refl $ leaves-loop ! (load ! (from ! (stop !)) (look ! 5 refl)) $ exec ! (𝓣 .C) (𝓣 .Λ) En body.t-5 (atRet En Post) $
+          rewrite ! 5 (λ (t : Bool). ‵ (fat fullShare tyBool l₇ 0 (vbool t))) e refl $ leaves-loop ! (load ! (from ! (stop !)) (look ! 5 refl)) $
+          exec ! (𝓣 .C) (𝓣 .Λ) En body.t-5 (atRet En Post) $
           assigns ! (of-opd ! (load ! (from ! (stop !)) (look ! 13 refl))) (from ! (stop !)) (init ! 19 refl (EL.lawful Op.the-type Op′.the-laws 𝓤 H A W tt .typed (s .acc) _ (s .good) .0)) $
           move ! (0 ∷ 21 ∷ []) $ shuts-slice ! tt Win.the-row q′ ws b o $
           -- [the token; _9; …; _0; …; the fractured borrow; res; the slice's fact]
-          returns ! (look ! 19 refl) $ forget ! 5 refl $ forget ! 7 refl $ forget ! 11 refl $ forget ! 13 refl $ forget ! 15 refl $ forget ! 17 refl $ forget ! 19 refl $
-          move ! (19 ∷ 20 ∷ []) $ free1 ! $ move ! (17 ∷ 18 ∷ []) $ free1 ! $ move ! (15 ∷ 16 ∷ []) $ free1 ! $ move ! (13 ∷ 14 ∷ []) $ free1 ! $ move ! (11 ∷ 12 ∷ []) $ free1 ! $ move ! (9 ∷ 10 ∷ []) $ free1 ! $
+          returns ! (look ! 19 refl) $ forget ! 5 refl $ forget ! 7 refl $ forget ! 11 refl $ forget ! 13 refl $ forget ! 15 refl $ forget ! 17 refl $
+          forget ! 19 refl $
+          move ! (19 ∷ 20 ∷ []) $ free1 ! $ move ! (17 ∷ 18 ∷ []) $ free1 ! $ move ! (15 ∷ 16 ∷ []) $ free1 ! $ move ! (13 ∷ 14 ∷ []) $ free1 ! $
+          move ! (11 ∷ 12 ∷ []) $ free1 ! $ move ! (9 ∷ 10 ∷ []) $ free1 ! $
           move ! (7 ∷ 8 ∷ []) $ free1 ! $ move ! (5 ∷ 6 ∷ []) $ free1 ! $ move ! (3 ∷ 4 ∷ []) $ free1 ! $ move ! (1 ∷ 2 ∷ []) $ free1 ! $ free0 ! $
-          move ! (2 ∷ 1 ∷ []) $ fjoin ! $ move ! (2 ∷ 0 ∷ []) $ fjoin ! $ move ! (1 ∷ 0 ∷ []) $ by ! (exits (s .acc) (s .good) (at-end (fold m n) ws s (ltb-false _ _ e) ∙ pass-finds ws m))
+          move ! (2 ∷ 1 ∷ []) $ fjoin ! $ move ! (2 ∷ 0 ∷ []) $ fjoin ! $ move ! (1 ∷ 0 ∷ []) $
+          by ! (exits (s .acc) (s .good) (at-end (fold m n) ws s (ltb-false _ _ e) ∙ pass-finds ws m))
       turn-at s true e =
           assigns ! (of-opd ! (load ! (from ! (fld ! refl (stop !))) (look-in ! 17 (sub ! 1 refl (whole !))))) (from ! (stop !)) (init ! 7 refl (tt, record { fits = g .0 })) $
           assigns ! (bin ! (load ! (from ! (stop !)) (look ! 11 refl)) (load ! (from ! (stop !)) (look ! 7 refl)) tt) (from ! (stop !)) (init ! 5 refl (tt, tt)) $
@@ -206,12 +211,16 @@ module _ {M : Type 1} (𝓤 : URA M) (H : Heap 𝓤) (A : Atoms 𝓤) (W : Given
           -- [the window's cell; what it owns; the others; _9; …; _8; …]
           assigns ! (of-opd ! (load ! (from ! (hop ! (look ! 5 refl) (stop !))) (look-raw ! 0 refl))) (from ! (stop !)) (init ! 3 refl (LL.lawful Win.the-type Win′.the-laws 𝓤 H A W .typed w _ is .0)) $
           elem-back ! Win.the-row q′ ws (s .i) none (winVal w ∷ []) b o small $
-          owned ! Mo.the-row (Is Mo.the-row) (LL.makes Mo.the-type Mo′.the-plain 𝓤 H A) m _ is-m $ owned ! Win.the-row (Is Win.the-row) (LL.makes Win.the-type Win′.the-plain 𝓤 H A) w _ is $
-          owned ! Op.the-row (Is Op.the-row) (EL.makes Op.the-type Op′.the-plain 𝓤 H A) (s .acc) _ (s .good) $ use3 W (raw (With 𝓤 H A at-mem run .pre (to (s .acc) w))) (goes-in (s .acc) w) $
+          owned ! Mo.the-row (Is Mo.the-row) (LL.makes Mo.the-type Mo′.the-plain 𝓤 H A) m _ is-m $
+          owned ! Win.the-row (Is Win.the-row) (LL.makes Win.the-type Win′.the-plain 𝓤 H A) w _ is $
+          owned ! Op.the-row (Is Op.the-row) (EL.makes Op.the-type Op′.the-plain 𝓤 H A) (s .acc) _ (s .good) $
+          use3 W (raw (With 𝓤 H A at-mem run .pre (to (s .acc) w))) (goes-in (s .acc) w) $
           calls-at ! (fmOf 𝓤 H (W .laws) 𝓣) (With 𝓤 H A at-mem run) known (to (s .acc) w) (and-then ! (load ! (from ! (stop !)) (look ! 14 refl)) (and-then ! (load ! (from ! (stop !)) (look ! 2 refl)) (and-then ! (load ! (from ! (stop !)) (look ! 16 refl)) (no-more !)))) (λ v.
           use1 W (later (some (λ (r : Opening). (‵ ftrue ⊛ ‵ (Op.the-row .own r (v ∷ []))) ⊛ raw (ensured 𝓤 H A with-window.ended (with-window.clauses 𝓤 H A at-mem run) tt (s .acc, (w, (m, tt))) tt r)))) (id⊢ 𝓤 _) $ await ! tt $ pick ! (λ r.
-          split ! $ move ! (1 ∷ []) $ use1 W (raw (fact 𝓤 (r ≡ withWindow m (s .acc) w))) (said (s .acc) w r) $ heard ! (r ≡ withWindow m (s .acc) w) (λ chosen. split ! $ drop ! $ facts ! Op.the-row (Is Op.the-row) (shows 𝓤 H A Op.the-row) r (v ∷ []) (λ is-r.
-          land ! (from ! (stop !)) (store ! 13 refl (EL.lawful Op.the-type Op′.the-laws 𝓤 H A W tt .typed r _ is-r .0)) $ rewrite ! 13 (λ (u : Val). ‵ (fat fullShare Op′.mir l₃ 0 u)) (ap only (EL.tells Op.the-type Op′.the-laws r _ is-r)) refl $
+          split ! $ move ! (1 ∷ []) $ use1 W (raw (fact 𝓤 (r ≡ withWindow m (s .acc) w))) (said (s .acc) w r) $
+          heard ! (r ≡ withWindow m (s .acc) w) (λ chosen. split ! $ drop ! $ facts ! Op.the-row (Is Op.the-row) (shows 𝓤 H A Op.the-row) r (v ∷ []) (λ is-r.
+          land ! (from ! (stop !)) (store ! 13 refl (EL.lawful Op.the-type Op′.the-laws 𝓤 H A W tt .typed r _ is-r .0)) $
+          rewrite ! 13 (λ (u : Val). ‵ (fat fullShare Op′.mir l₃ 0 u)) (ap only (EL.tells Op.the-type Op′.the-laws r _ is-r)) refl $
           assigns-last ! (bin ! (load ! (from ! (stop !)) (look ! 11 refl)) (lit ! tt) (record { fits = next-fits small (g .0) })) (from ! (stop !)) (store ! 11 refl (tt, record { fits = next-fits small (g .0) })) $
           forget ! 1 refl $ forget ! 3 refl $ forget ! 5 refl $ forget ! 7 refl $
           again ! (Less (fold m n) ws) I s (goes-on (fold m n) ws s r (spelled r v is-r) small chosen) (nearer small))))))
@@ -233,19 +242,26 @@ module _ {M : Type 1} (𝓤 : URA M) (H : Heap 𝓤) (A : Atoms 𝓤) (W : Given
     walk : (𝓣 : Tables 𝓤 H) → Known 𝓤 H A at-mem run 𝓣 → Room Win.the-row n
         → ent 𝓤 (onEntry 𝓤 H A find.signature (κ, tt) (q, tt) x at) (WpFn 𝓤 H (𝓣 .C) (𝓣 .Λ) code.function (sliceVal (b, o) n ∷ momVal m ∷ []) Post)
     walk 𝓣 known g =
-        qed W ((‵ (flft κ q) ⊛ ‵ ftrue) ∷ ‵ (owns (ShrSlice (named 0) κ Win.the-row ∷ Mo.the-row ∷ []) x at) ∷ []) ∵ split ! $ move ! (2 ∷ []) $ fsplit ! $ fsplit ! $ move ! (1 ∷ []) $ fsplit ! $ keep ! (1 ∷ 4 ∷ 0 ∷ 2 ∷ []) $
+        qed W ((‵ (flft κ q) ⊛ ‵ ftrue) ∷ ‵ (owns (ShrSlice (named 0) κ Win.the-row ∷ Mo.the-row ∷ []) x at) ∷ []) ∵ split ! $ move ! (2 ∷ []) $ fsplit ! $
+        fsplit ! $ move ! (1 ∷ []) $ fsplit ! $ keep ! (1 ∷ 4 ∷ 0 ∷ 2 ∷ []) $
         -- [the fractured borrow; the token; res; the slice's fact]
         enter ! (𝓣 .C) (𝓣 .Λ) code.function (sliceVal (b, o) n ∷ momVal m ∷ []) _ $
         alloc1 ! (λ l₀. alloc1 ! (λ l₁. alloc1 ! (λ l₂. alloc1 ! (λ l₃. alloc1 ! (λ l₄. alloc1 ! (λ l₅. alloc1 ! (λ l₆. alloc1 ! (λ l₇. alloc1 ! (λ l₈. alloc1 ! (λ l₉. alloc0 ! $ params1 ! $
-        pass1 ! (init ! 16 refl (tt, (tt, (record { fits = g .0 }, tt)))) $ pass1 ! (init ! 14 refl (LL.lawful Mo.the-type Mo′.the-laws 𝓤 H A W .typed m _ is-m .0)) $ pass0 ! $
+        pass1 ! (init ! 16 refl (tt, (tt, (record { fits = g .0 }, tt)))) $
+        pass1 ! (init ! 14 refl (LL.lawful Mo.the-type Mo′.the-laws 𝓤 H A W .typed m _ is-m .0)) $ pass0 ! $
         assigns ! (of-opd ! (load ! (from ! (fld ! refl (stop !))) (look-in ! 16 (sub ! 1 refl (whole !))))) (from ! (stop !)) (init ! 8 refl (tt, record { fits = g .0 })) $
-        owned ! Mo.the-row (Is Mo.the-row) (LL.makes Mo.the-type Mo′.the-plain 𝓤 H A) m _ is-m $ owned ! usize (Is usize) (uint-makes 𝓤 H A W w64) n _ (refl, g .0) $ use2 W (raw (Asked 𝓤 H A at-mem run .pre (to-ask n))) (in-ask n) $
+        owned ! Mo.the-row (Is Mo.the-row) (LL.makes Mo.the-type Mo′.the-plain 𝓤 H A) m _ is-m $
+        owned ! usize (Is usize) (uint-makes 𝓤 H A W w64) n _ (refl, g .0) $ use2 W (raw (Asked 𝓤 H A at-mem run .pre (to-ask n))) (in-ask n) $
         calls-at ! (fmOf 𝓤 H (W .laws) 𝓣) (Asked 𝓤 H A at-mem run) (known .asks) (to-ask n) (and-then ! (load ! (from ! (stop !)) (look ! 9 refl)) (and-then ! (load ! (from ! (stop !)) (look ! 15 refl)) (no-more !))) (λ v.
         use1 W (later (some (λ (r : Opening). (‵ ftrue ⊛ ‵ (Op.the-row .own r (v ∷ []))) ⊛ raw (ensured 𝓤 H A asked.ended (asked.clauses 𝓤 H A at-mem run) tt (n, (m, tt)) tt r)))) (id⊢ 𝓤 _) $ await ! tt $ pick ! (λ r.
-        split ! $ move ! (1 ∷ []) $ use1 W (raw (fact 𝓤 (r ≡ startOf n m))) (said-ask n r) $ heard ! (r ≡ startOf n m) (λ answered. split ! $ drop ! $ facts ! Op.the-row (Is Op.the-row) (shows 𝓤 H A Op.the-row) r (v ∷ []) (λ is-r.
-        land ! (from ! (stop !)) (init ! 12 refl (EL.lawful Op.the-type Op′.the-laws 𝓤 H A W tt .typed r _ is-r .0)) $ rewrite ! 12 (λ (u : Val). ‵ (fat fullShare Op′.mir l₃ 0 u)) (ap only (EL.tells Op.the-type Op′.the-laws r _ is-r)) refl $
-        rewrite ! 12 (λ (f : Opening). ‵ (fat fullShare Op′.mir l₃ 0 (openVal f))) answered refl $ forget ! 8 refl $ assigns ! (of-opd ! (lit ! tt)) (from ! (stop !)) (init ! 10 refl (tt, record { fits = lit< tt })) $
-        move ! (20 ∷ 21 ∷ []) $ looks-slice ! tt Win.the-row (Is Win.the-row) (shows 𝓤 H A Win.the-row) (LL.vals Win.the-type Win′.the-laws) (LL.tells Win.the-type Win′.the-laws) (LL.copy Win.the-type Win′.the-copy 𝓤 H A W) ws b o (λ q′.
+        split ! $ move ! (1 ∷ []) $ use1 W (raw (fact 𝓤 (r ≡ startOf n m))) (said-ask n r) $ heard ! (r ≡ startOf n m) (λ answered. split ! $ drop ! $
+        facts ! Op.the-row (Is Op.the-row) (shows 𝓤 H A Op.the-row) r (v ∷ []) (λ is-r.
+        land ! (from ! (stop !)) (init ! 12 refl (EL.lawful Op.the-type Op′.the-laws 𝓤 H A W tt .typed r _ is-r .0)) $
+        rewrite ! 12 (λ (u : Val). ‵ (fat fullShare Op′.mir l₃ 0 u)) (ap only (EL.tells Op.the-type Op′.the-laws r _ is-r)) refl $
+        rewrite ! 12 (λ (f : Opening). ‵ (fat fullShare Op′.mir l₃ 0 (openVal f))) answered refl $ forget ! 8 refl $
+        assigns ! (of-opd ! (lit ! tt)) (from ! (stop !)) (init ! 10 refl (tt, record { fits = lit< tt })) $
+        move ! (20 ∷ 21 ∷ []) $
+        looks-slice ! tt Win.the-row (Is Win.the-row) (shows 𝓤 H A Win.the-row) (LL.vals Win.the-type Win′.the-laws) (LL.tells Win.the-type Win′.the-laws) (LL.copy Win.the-type Win′.the-copy 𝓤 H A W) ws b o (λ q′.
         -- [the row; what shuts it; the fractured borrow; _9; …; _0; …; res; the slice's fact]
         keep ! (0 ∷ 3 ∷ 4 ∷ 5 ∷ 6 ∷ 7 ∷ 8 ∷ 9 ∷ 10 ∷ 11 ∷ 12 ∷ 13 ∷ 14 ∷ 15 ∷ 16 ∷ 17 ∷ 18 ∷ 19 ∷ 20 ∷ 21 ∷ 22 ∷ 1 ∷ 2 ∷ 23 ∷ 24 ∷ []) $
         looped 𝓣 (known .tests) g l₀ l₁ l₂ l₃ l₄ l₅ l₆ l₇ l₈ l₉ q′ (subst (λ (f : Opening). Is Op.the-row f (openVal f ∷ [])) answered (spelled r v is-r)))))))))))))))))

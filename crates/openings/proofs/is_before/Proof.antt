@@ -16,10 +16,19 @@ not-after-requires-2 : tie.Need-not-after-requires-2
 not-after-requires-2 c κs = search needs
 
 returns-2 : tie.Need-returns-2
-returns-2 c = earlier-day _ _ (sym (c .before .before .before .not-after .ensures) ∙ not-false _ (c .before .before .if1 .left)) (sym (c .before .not-after2 .ensures) ∙ not-true _ (c .if2 .taken))
+returns-2 c =
+    let first = c .before .before in
+    earlier-day _ _
+    (sym (first .before .not-after .ensures) ∙ not-false _ (first .if1 .left))
+    (sym (c .before .not-after2 .ensures) ∙ not-true _ (c .if2 .taken))
 
 returns-3 : tie.Need-returns-3
-returns-3 c = same-day _ _ (sym (c .before .before .before .before .before .not-after .ensures) ∙ not-false _ (c .before .before .before .before .if1 .left)) (sym (c .before .before .before .not-after2 .ensures) ∙ not-false _ (c .before .before .if2 .left))
+returns-3 c =
+    let second = c .before .before in
+    let first = second .before .before in
+    same-day _ _
+    (sym (first .before .not-after .ensures) ∙ not-false _ (first .if1 .left))
+    (sym (second .before .not-after2 .ensures) ∙ not-false _ (second .if2 .left))
 
 pub is-before-spec : {M : Type 1} → statement M
 is-before-spec =

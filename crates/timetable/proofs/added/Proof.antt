@@ -17,10 +17,14 @@ add-t6 : tie.Need-add-t6
 add-t6 c = search needs
 
 returns : tie.Need-returns
-returns c = let s = c .before .before in added-more (s .args .t .places) (s .args .t .count) _ (sym (length-map (s .args .t .places) _) ∙ s .good .0 .1 .1 .0 .1 .0 .1) (omega arith)
+returns c =
+    let s = c .before .before in
+    added-more (s .args .t .places) (s .args .t .count) _ (sym (length-map (s .args .t .places) _) ∙ s .good .0 .1 .1 .0 .1 .0 .1) (omega arith)
 
 returns-2 : tie.Need-returns-2
-returns-2 c = let s = c .before .before in added-full (s .args .t .places) (s .args .t .count) _ (sym (length-map (s .args .t .places) _) ∙ s .good .0 .1 .1 .0 .1 .0 .1) (omega arith)
+returns-2 c =
+    let s = c .before .before in
+    added-full (s .args .t .places) (s .args .t .count) _ (sym (length-map (s .args .t .places) _) ∙ s .good .0 .1 .1 .0 .1 .0 .1) (omega arith)
 
 pub added-spec : {M : Type 1} → statement M
 added-spec = tie.close (tie.spec mul-places array-set-from-places add-t6 returns returns-2)

@@ -7,6 +7,19 @@ use borrow.Author.Needs.{needs}
 use Rattle.timetable.proofs.date_in.Statement.{statement}
 use Rattle.timetable.proofs.date_in.Tie as tie
 
+-- the places of the pairs before the fourth, from the third back to the first, and of the test of the size
+abbrev third : tie.After-date-from → tie.After-pair3
+third c = c .before .before .before .before .before
+
+abbrev second : tie.After-date-from → tie.After-pair2
+second c = third c .before .before .before .before
+
+abbrev first : tie.After-date-from → tie.After-pair
+first c = second c .before .before .before
+
+abbrev sized : tie.After-date-from → tie.Else1
+sized c = first c .before .before .before
+
 returns : tie.Need-returns
 unfolding dateWord
 returns c = simp (ne-eqb _ _ (c .if1 .taken))
@@ -57,7 +70,9 @@ date-from-requires : tie.Need-date-from-requires
 date-from-requires c κs = search needs
 
 returns-2 : tie.Need-returns-2
-returns-2 c = c .date-from .ensures ∙ date-right _ _ _ _ _ (c .before .before .before .before .before .before .before .before .before .before .before .before .before .before .before .if1 .left) (c .before .before .before .before .before .before .before .before .before .before .before .before .pair .ensures) (c .before .before .before .before .before .before .before .before .before .pair2 .ensures) (c .before .before .before .before .before .pair3 .ensures) (c .before .pair4 .ensures)
+returns-2 c =
+    c .date-from .ensures
+    ∙ date-right _ _ _ _ _ (sized c .if1 .left) (first c .pair .ensures) (second c .pair2 .ensures) (third c .pair3 .ensures) (c .before .pair4 .ensures)
 
 pub date-in-spec : {M : Type 1} → statement M
 date-in-spec =

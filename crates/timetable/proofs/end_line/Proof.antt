@@ -11,7 +11,9 @@ same-length : tie.Need-same-length
 same-length c = search needs
 
 returns : tie.Need-returns
-returns c = let p = c .before .before .before .play .ensures in record { stands = λ i. record { list = p .list i; line = []; stopped = p .stops i }; put = p .put }
+returns c =
+    let p = c .before .before .before .play .ensures in
+    record { stands = λ i. record { list = p .list i; line = []; stopped = p .stops i }; put = p .put }
 
 pub end-line-spec : {M : Type 1} → statement M
 end-line-spec = tie.close (tie.spec play-requires same-length returns)

@@ -18,30 +18,46 @@ sub-if1 : tie.Need-sub-if1 Inv-loop μ-loop
 sub-if1 c = let i = c .loop .inv in omega (arith, i .inside, i .same)
 
 shared-slice-read-take-byte : tie.Need-shared-slice-read-take-byte Inv-loop μ-loop
-shared-slice-read-take-byte c = let l = c .before .before .before .loop in goes-on (l .at) (c .before .before .before .before .before .before .args .piece .now) (l .used) (l .out) (l .p .stopped) (c .before .if1 .taken) .left
+shared-slice-read-take-byte c =
+    let test = c .before in
+    let l = test .before .before in
+    let start = l .before .before .before in
+    goes-on (l .loop .at) (start .args .piece .now) (l .loop .used) (l .loop .out) (l .loop .p .stopped) (test .if1 .taken) .left
 
 take-byte-requires : tie.Need-take-byte-requires Inv-loop μ-loop
 take-byte-requires c κs =
-    let l = c .before .before .before .before .loop in
-    let g = goes-on (l .at) (c .before .before .before .before .before .before .before .args .piece .now) (l .used) (l .out) (l .p .stopped) (c .before .before .if1 .taken) in
-    (g .plays, omega (arith, l .inv .inside, l .inv .same, g .room))
+    let test = c .before .before in
+    let l = test .before .before in
+    let start = l .before .before .before in
+    let g = goes-on (l .loop .at) (start .args .piece .now) (l .loop .used) (l .loop .out) (l .loop .p .stopped) (test .if1 .taken) in
+    (g .plays, omega (arith, l .loop .inv .inside, l .loop .inv .same, g .room))
 
 add-at : tie.Need-add-at Inv-loop μ-loop
 add-at c =
-    let l = c .before .before .before .before .before .before .before .before .loop in
-    let g = goes-on (l .at) (c .before .before .before .before .before .before .before .before .before .before .before .args .piece .now) (l .used) (l .out) (l .p .stopped) (c .before .before .before .before .before .before .if1 .taken) in
+    let taken = c .before .before .before in
+    let test = taken .before .before .before in
+    let l = test .before .before in
+    let start = l .before .before .before in
+    let g = goes-on (l .loop .at) (start .args .piece .now) (l .loop .used) (l .loop .out) (l .loop .p .stopped) (test .if1 .taken) in
     omega (arith, g .left)
 
 loop-less : tie.Need-loop-less Inv-loop μ-loop
 loop-less c =
-    let l = c .before .before .before .before .before .before .before .before .loop in
-    let g = goes-on (l .at) (c .before .before .before .before .before .before .before .before .before .before .before .args .piece .now) (l .used) (l .out) (l .p .stopped) (c .before .before .before .before .before .before .if1 .taken) in
+    let taken = c .before .before .before in
+    let test = taken .before .before .before in
+    let l = test .before .before in
+    let start = l .before .before .before in
+    let g = goes-on (l .loop .at) (start .args .piece .now) (l .loop .used) (l .loop .out) (l .loop .p .stopped) (test .if1 .taken) in
     omega (arith, g .left)
 
 loop-again : tie.Need-loop-again Inv-loop μ-loop
 loop-again c =
-    let l = c .before .before .before .before .before .before .before .before .loop in
-    byte-taken (l .inv) (goes-on (l .at) (c .before .before .before .before .before .before .before .before .before .before .before .args .piece .now) (l .used) (l .out) (l .p .stopped) (c .before .before .before .before .before .before .if1 .taken)) (c .before .before .before .take-byte .ensures)
+    let taken = c .before .before .before in
+    let test = taken .before .before .before in
+    let l = test .before .before in
+    let start = l .before .before .before in
+    let g = goes-on (l .loop .at) (start .args .piece .now) (l .loop .used) (l .loop .out) (l .loop .p .stopped) (test .if1 .taken) in
+    byte-taken (l .loop .inv) g (taken .take-byte .ensures)
 
 returns : tie.Need-returns Inv-loop μ-loop
 returns c = all-taken (c .before .before .loop .inv) (c .if1 .left)

@@ -17,7 +17,10 @@ add-t9 : tie.Need-add-t9
 add-t9 c = search needs
 
 returns : tie.Need-returns
-returns c = let a = c .before .before .args .p in ap (λ (line : List ℕ). record { list = take (a .table .count) (a .table .places); line = line; stopped = false }) (longer-line (a .line) (a .len) _ (search needs) (omega arith))
+returns c =
+    let a = c .before .before .args .p in
+    ap (λ (line : List ℕ). record { list = take (a .table .count) (a .table .places); line = line; stopped = false })
+    (longer-line (a .line) (a .len) _ (search needs) (omega arith))
 
 pub longer-spec : {M : Type 1} → statement M
 longer-spec = tie.close (tie.spec array-write-line add-t9 returns)

@@ -20,7 +20,11 @@ read-line-requires : tie.Need-read-line-requires
 read-line-requires c κs = omega (arith, length-take (c .before .least .result) (c .before .before .before .args .line .now), c .before .before .before .pre)
 
 returns : tie.Need-returns
-returns c = let a = c .before .before .before .before .args in c .read-line .ensures ∙ ap (λ (k : ℕ). lineOf (take k (a .line .now))) (c .before .before .least .ensures) ∙ ap lineOf (first-bytes (a .len) (a .line .now))
+returns c =
+    let a = c .before .before .before .before .args in
+    c .read-line .ensures
+    ∙ ap (λ (k : ℕ). lineOf (take k (a .line .now))) (c .before .before .least .ensures)
+    ∙ ap lineOf (first-bytes (a .len) (a .line .now))
 
 pub meaning-spec : {M : Type 1} → statement M
 meaning-spec =

@@ -16,7 +16,9 @@ same-length : tie.Need-same-length
 same-length c = search needs
 
 returns : tie.Need-returns
-returns c = record { list = refl; stops = refl; put = put-same (c .before .before .put-opening .ensures) (ap openingLine (c .before .before .before .before .find-in .ensures)) }
+returns c =
+    let put = c .before .before in
+    record { list = refl; stops = refl; put = put-same (put .put-opening .ensures) (ap openingLine (put .before .before .find-in .ensures)) }
 
 pub play-next-spec : {M : Type 1} → statement M
 play-next-spec = tie.close (tie.spec find-in-requires put-opening-requires same-length returns)

@@ -7,9 +7,13 @@ use Rattle.timetable.proofs.put_both_days.Tie as tie
 
 returns : tie.Need-returns
 returns c =
-    let r = put-both {most = 11} (c .before .before .before .before .before .before .before .put-date2 .ensures) (c .before .before .text2 .ensures) (omega arith) (omega arith) in
-    let q = put-both {most = 12} (c .before .before .before .before .before .before .before .before .before .before .before .text .ensures) r (omega arith) (omega arith) in
-    put-both (c .before .before .before .before .before .before .before .before .before .before .before .before .before .before .before .before .put-date .ensures) q (omega arith) (omega arith)
+    let ended = c .before .before in
+    let last = ended .before .before .before .before .before in
+    let between = last .before .before .before .before in
+    let first = between .before .before .before .before .before in
+    let r = put-both {most = 11} (last .put-date2 .ensures) (ended .text2 .ensures) (omega arith) (omega arith) in
+    let q = put-both {most = 12} (between .text .ensures) r (omega arith) (omega arith) in
+    put-both (first .put-date .ensures) q (omega arith) (omega arith)
 
 pub put-both-days-spec : {M : Type 1} → statement M
 put-both-days-spec =

@@ -21,7 +21,12 @@ same-length : tie.Need-same-length
 same-length c = search needs
 
 returns : tie.Need-returns
-returns c = let e = c .before .before .before .before .before .date-text .ensures in put-same (put-wider (c .before .before .text .ensures) (omega (arith, ap length e, date-size (c .before .before .before .before .before .before .before .args .d)))) e
+returns c =
+    let put = c .before .before in
+    let dated = put .before .before .before in
+    let start = dated .before .before in
+    let e = dated .date-text .ensures in
+    put-same (put-wider (put .text .ensures) (omega (arith, ap length e, date-size (start .args .d)))) e
 
 pub put-date-spec : {M : Type 1} → statement M
 put-date-spec =

@@ -24,7 +24,12 @@ same-length : tie.Need-same-length
 same-length c = search needs
 
 returns : tie.Need-returns
-returns c = let q = put-both {most = 22} (c .before .before .before .before .before .before .before .text .ensures) (c .before .before .put-number-line .ensures) (omega arith) (omega arith) in put-both (c .before .before .before .before .before .before .before .before .before .before .before .before .put-date .ensures) q (omega arith) (omega arith)
+returns c =
+    let numbered = c .before .before in
+    let between = numbered .before .before .before .before .before in
+    let dated = between .before .before .before .before .before in
+    let q = put-both {most = 22} (between .text .ensures) (numbered .put-number-line .ensures) (omega arith) (omega arith) in
+    put-both (dated .put-date .ensures) q (omega arith) (omega arith)
 
 pub put-moment-spec : {M : Type 1} → statement M
 put-moment-spec =

@@ -18,7 +18,10 @@ same-length : tie.Need-same-length
 same-length c = search needs
 
 returns : tie.Need-returns
-returns c = put-both (c .before .before .before .before .before .before .before .number .ensures) (c .before .before .text .ensures) (omega arith) (omega arith)
+returns c =
+    let ended = c .before .before in
+    let numbered = ended .before .before .before .before .before in
+    put-both (numbered .number .ensures) (ended .text .ensures) (omega arith) (omega arith)
 
 pub put-number-line-spec : {M : Type 1} → statement M
 put-number-line-spec =

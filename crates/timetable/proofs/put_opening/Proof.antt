@@ -38,7 +38,10 @@ same-length-2 : tie.Need-same-length-2
 same-length-2 c = search needs
 
 returns-2 : tie.Need-returns-2
-returns-2 c = put-same (put-wider (c .before .before .text .ensures) (omega arith)) (sym (ap openingLine (c .before .before .before .before .before .enum-told .given .1)))
+returns-2 c =
+    let put = c .before .before in
+    let told = put .before .before .before in
+    put-same (put-wider (put .text .ensures) (omega arith)) (sym (ap openingLine (told .enum-told .given .1)))
 
 same-length-3 : tie.Need-same-length-3
 same-length-3 c = search needs

@@ -20,7 +20,10 @@ same-length c = search needs
 
 returns : tie.Need-returns
 unfolding refusedLine
-returns c = put-both (c .before .before .before .before .before .before .text .ensures) (c .before .before .put-number-line .ensures) (omega arith) (omega arith)
+returns c =
+    let numbered = c .before .before in
+    let worded = numbered .before .before .before .before in
+    put-both (worded .text .ensures) (numbered .put-number-line .ensures) (omega arith) (omega arith)
 
 pub put-refused-spec : {M : Type 1} → statement M
 put-refused-spec =

@@ -29,13 +29,22 @@ same-length : tie.Need-same-length
 same-length c = search needs
 
 returns : tie.Need-returns
-returns c = let p = put-both {most = 32} (c .before .before .before .before .before .before .before .put-date .ensures) (c .before .before .text .ensures) (omega arith) (omega arith) in put-same p (rolled-line _ _ (sym (c .before .before .before .before .before .before .before .before .before .before .before .exists .ensures) ∙ c .before .before .before .before .before .before .before .before .before .before .if1 .taken) (c .before .before .before .before .before .before .before .before .before .day-after .ensures))
+returns c =
+    let ended = c .before .before in
+    let dated = ended .before .before .before .before .before in
+    let rolled = dated .before .before in
+    let test = rolled .before in
+    let p = put-both {most = 32} (dated .put-date .ensures) (ended .text .ensures) (omega arith) (omega arith) in
+    put-same p (rolled-line _ _ (sym (test .before .exists .ensures) ∙ test .if1 .taken) (rolled .day-after .ensures))
 
 same-length-2 : tie.Need-same-length-2
 same-length-2 c = search needs
 
 returns-2 : tie.Need-returns-2
-returns-2 c = put-same (c .before .before .put-refused .ensures) (refused-roll _ (sym (c .before .before .before .before .before .exists .ensures) ∙ c .before .before .before .before .if1 .left))
+returns-2 c =
+    let refused = c .before .before in
+    let test = refused .before .before in
+    put-same (refused .put-refused .ensures) (refused-roll _ (sym (test .before .exists .ensures) ∙ test .if1 .left))
 
 pub put-rolled-spec : {M : Type 1} → statement M
 put-rolled-spec =

@@ -41,7 +41,11 @@ roll-in-requires : tie.Need-roll-in-requires
 roll-in-requires c κs = search needs
 
 returns-2 : tie.Need-returns-2
-returns-2 c = c .roll-in .ensures ∙ two-words _ _ (c .before .before .before .before .before .before .space .ensures .next) _ (c .before .before .before .before .space2 .ensures .next) (c .before .before .before .before .before .if1 .left) (c .before .before .before .if2 .taken)
+returns-2 c =
+    let test = c .before .before .before in
+    let second = test .before in
+    let first = second .before .before in
+    c .roll-in .ensures ∙ two-words _ _ (first .space .ensures .next) _ (second .space2 .ensures .next) (second .before .if1 .left) (test .if2 .taken)
 
 add-space-2 : tie.Need-add-space-2
 add-space-2 c = search needs
@@ -80,7 +84,15 @@ next-in-requires : tie.Need-next-in-requires
 next-in-requires c κs = search needs
 
 returns-3 : tie.Need-returns-3
-returns-3 c = c .next-in .ensures ∙ three-words _ _ (c .before .before .before .before .before .before .before .before .before .space .ensures .next) _ (c .before .before .before .before .before .before .before .space2 .ensures .next) _ (c .before .before .before .before .before .space3 .ensures .next) (c .before .before .before .before .before .before .if2 .left) (c .before .before .before .before .if3 .taken)
+returns-3 c =
+    let test = c .before .before .before .before in
+    let third = test .before in
+    let second = third .before .before in
+    let first = second .before .before in
+    c .next-in .ensures
+    ∙ three-words _ _ (first .space .ensures .next) _ (second .space2 .ensures .next) _ (third .space3 .ensures .next)
+    (third .before .if2 .left)
+    (test .if3 .taken)
 
 add-space-3 : tie.Need-add-space-3
 add-space-3 c = search needs
@@ -89,7 +101,14 @@ space-requires-4 : tie.Need-space-requires-4
 space-requires-4 c κs = search needs
 
 returns-4 : tie.Need-returns-4
-returns-4 c = four-words _ _ (c .before .before .before .before .before .before .before .space .ensures .next) _ (c .before .before .before .before .before .space2 .ensures .next) _ (c .before .before .before .space3 .ensures .next) _ (c .before .space4 .ensures .next) (c .before .before .if3 .left) (c .if4 .taken)
+returns-4 c =
+    let fourth = c .before in
+    let third = fourth .before .before in
+    let second = third .before .before in
+    let first = second .before .before in
+    four-words _ _ (first .space .ensures .next) _ (second .space2 .ensures .next) _ (third .space3 .ensures .next) _ (fourth .space4 .ensures .next)
+    (fourth .before .if3 .left)
+    (c .if4 .taken)
 
 add-space-4 : tie.Need-add-space-4
 add-space-4 c = search needs
@@ -98,7 +117,10 @@ space-requires-5 : tie.Need-space-requires-5
 space-requires-5 c κs = search needs
 
 slice-aggregate-window-in : tie.Need-slice-aggregate-window-in
-slice-aggregate-window-in c = sym (length-take-le _ _ (omega (arith, c .before .before .before .before .before .before .before .before .before .if1 .left)))
+slice-aggregate-window-in c =
+    let third = c .before .before .before .before .before in
+    let first = third .before .before .before .before in
+    sym (length-take-le _ _ (omega (arith, first .if1 .left)))
 
 add-window-in : tie.Need-add-window-in
 add-window-in c = search needs
@@ -151,11 +173,59 @@ part-window-in-end-4 c = search needs
 window-in-requires : tie.Need-window-in-requires
 window-in-requires c κs = search needs
 
+-- the places of the searches before the fifth, from the fourth back to the first
+abbrev at-fourth : tie.After-space5 → tie.After-space4
+at-fourth c = c .before .before
+
+abbrev at-third : tie.After-space5 → tie.After-space3
+at-third c = at-fourth c .before .before
+
+abbrev at-second : tie.After-space5 → tie.After-space2
+at-second c = at-third c .before .before
+
+abbrev at-first : tie.After-space5 → tie.After-space
+at-first c = at-second c .before .before
+
+-- and, from the call of `window_in`, of the test that no sixth word follows, and of the fifth search
+abbrev first-word : tie.After-window-in → tie.After-window-in-arg
+first-word c = c .before .before .before .before .before
+
+abbrev all-taken : tie.After-window-in → tie.Then5
+all-taken c = first-word c .before
+
+abbrev at-fifth : tie.After-window-in → tie.After-space5
+at-fifth c = all-taken c .before
+
 returns-5 : tie.Need-returns-5
-returns-5 c = c .window-in .ensures ∙ five-words _ _ (c .before .before .before .before .before .before .before .before .before .before .before .before .before .before .before .space .ensures .next) _ (c .before .before .before .before .before .before .before .before .before .before .before .before .before .space2 .ensures .next) _ (c .before .before .before .before .before .before .before .before .before .before .before .space3 .ensures .next) _ (c .before .before .before .before .before .before .before .before .before .space4 .ensures .next) _ (c .before .before .before .before .before .before .before .space5 .ensures .next) (c .before .before .before .before .before .before .before .before .if4 .left) (c .before .before .before .before .before .before .if5 .taken)
+returns-5 c =
+    c .window-in .ensures
+    ∙ five-words _ _
+    (at-first (at-fifth c) .space .ensures .next)
+    _
+    (at-second (at-fifth c) .space2 .ensures .next)
+    _
+    (at-third (at-fifth c) .space3 .ensures .next)
+    _
+    (at-fourth (at-fifth c) .space4 .ensures .next)
+    _
+    (at-fifth c .space5 .ensures .next)
+    (at-fifth c .before .if4 .left)
+    (all-taken c .if5 .taken)
 
 returns-6 : tie.Need-returns-6
-returns-6 c = more-words _ _ (c .before .before .before .before .before .before .before .before .before .space .ensures .next) _ (c .before .before .before .before .before .before .before .space2 .ensures .next) _ (c .before .before .before .before .before .space3 .ensures .next) _ (c .before .before .before .space4 .ensures .next) _ (c .before .space5 .ensures .next) (c .if5 .left)
+returns-6 c =
+    let fifth = c .before in
+    more-words _ _
+    (at-first fifth .space .ensures .next)
+    _
+    (at-second fifth .space2 .ensures .next)
+    _
+    (at-third fifth .space3 .ensures .next)
+    _
+    (at-fourth fifth .space4 .ensures .next)
+    _
+    (fifth .space5 .ensures .next)
+    (c .if5 .left)
 
 pub read-line-spec : {M : Type 1} → statement M
 read-line-spec =

@@ -7,11 +7,15 @@ use borrow.Author.Needs.{needs}
 use Rattle.timetable.proofs.take_byte.Statement.{statement}
 use Rattle.timetable.proofs.take_byte.Tie as tie
 
+-- the line has forty places
+forty : (start : tie.Start) → length (start .args .p .line) ≡ 40
+forty start = search needs
+
 slice-aggregate-meaning : tie.Need-slice-aggregate-meaning
 slice-aggregate-meaning c = search needs
 
 meaning-requires : tie.Need-meaning-requires
-meaning-requires c κs = let size : length (c .before .before .before .before .args .p .line) ≡ 40 = search needs in omega arith
+meaning-requires c κs = let size = forty (c .before .before .before .before) in omega arith
 
 end-line-requires : tie.Need-end-line-requires
 end-line-requires c κs = search needs
@@ -20,13 +24,23 @@ same-length : tie.Need-same-length
 same-length c = search needs
 
 returns : tie.Need-returns
-returns c = feed-byte _ _ _ _ _ (c .before .before .before .before .before .before .before .before .before .pre .0) _ _ (c .before .before .before .before .before .before .before .if1 .taken) (c .before .before .before .before .meaning .ensures) (c .before .before .end-line .ensures)
+returns c =
+    let ended = c .before .before in
+    let read = ended .before .before in
+    let test = read .before .before .before in
+    let start = test .before .before in
+    feed-byte _ _ _ _ _ (start .pre .0) _ _ (test .if1 .taken) (read .meaning .ensures) (ended .end-line .ensures)
 
 longer-requires : tie.Need-longer-requires
 longer-requires c κs = search needs
 
 returns-2 : tie.Need-returns-2
-returns-2 c = let a = c .before .before .before .before .before .args .p in other-byte _ _ _ _ _ (c .before .before .before .before .before .pre .0) _ (c .before .before .before .if1 .left) (omega (arith, length-take (a .len) (a .line), c .before .if2 .taken)) (c .longer .ensures) refl refl
+returns-2 c =
+    let room = c .before in
+    let test = room .before .before in
+    let start = test .before .before in
+    let a = start .args .p in
+    other-byte _ _ _ _ _ (start .pre .0) _ (test .if1 .left) (omega (arith, length-take (a .len) (a .line), room .if2 .taken)) (c .longer .ensures) refl refl
 
 end-line-requires-2 : tie.Need-end-line-requires-2
 end-line-requires-2 c κs = search needs
@@ -35,7 +49,15 @@ same-length-2 : tie.Need-same-length-2
 same-length-2 c = search needs
 
 returns-3 : tie.Need-returns-3
-returns-3 c = let a = c .before .before .before .before .before .before .before .before .args .p in let size : length (a .line) ≡ 40 = search needs in long-byte _ _ _ _ _ (c .before .before .before .before .before .before .before .before .pre .0) _ (c .before .before .before .before .before .before .if1 .left) (omega (arith, length-take (a .len) (a .line), size, c .before .before .before .before .if2 .left)) (c .before .before .end-line2 .ensures)
+returns-3 c =
+    let ended = c .before .before in
+    let room = ended .before .before in
+    let test = room .before .before in
+    let start = test .before .before in
+    let a = start .args .p in
+    long-byte _ _ _ _ _ (start .pre .0) _ (test .if1 .left)
+    (omega (arith, length-take (a .len) (a .line), forty start, room .if2 .left))
+    (ended .end-line2 .ensures)
 
 pub take-byte-spec : {M : Type 1} → statement M
 take-byte-spec =

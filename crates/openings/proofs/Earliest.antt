@@ -178,7 +178,8 @@ no-more : (a : Bool) → a ≡ (a || false)
 no-more true = refl
 no-more false = refl
 
-list-best : (m : Moment) → Minute m → (ws : List Window) → allExist ws ≡ true → (p : Moment → Bool) (a : Opening) → Best p m a → Best (λ k. p k || isOpen ws k) m (earliestOf m a ws)
+list-best : (m : Moment) → Minute m → (ws : List Window) → allExist ws ≡ true → (p : Moment → Bool) (a : Opening) → Best p m a
+    → Best (λ k. p k || isOpen ws k) m (earliestOf m a ws)
 unfolding allExist isOpen earliestOf
 list-best m y [] h p a x = same-best p (λ k. p k || false) m a (λ k. no-more (p k)) x
 list-best m y (w ∷ ws) h p a x =

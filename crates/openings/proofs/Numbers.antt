@@ -68,7 +68,8 @@ module _ (a b : Moment) (x : Minute a) (z : Minute b) where
       let g : dayNumber (b .date) ≤ dayNumber (a .date) = day-le _ _ (z .day) (x .day) f in
       sym (same-day a b e f) ∙ by-minute l g _ refl
     where
-      by-minute : dayNumber (a .date) ≤ dayNumber (b .date) → dayNumber (b .date) ≤ dayNumber (a .date) → (t : Bool) → ltb (a .minute) (b .minute) ≡ t → ltb (a .minute) (b .minute) ≡ ltb (minuteNumber a) (minuteNumber b)
+      by-minute : dayNumber (a .date) ≤ dayNumber (b .date) → dayNumber (b .date) ≤ dayNumber (a .date) → (t : Bool)
+          → ltb (a .minute) (b .minute) ≡ t → ltb (a .minute) (b .minute) ≡ ltb (minuteNumber a) (minuteNumber b)
       by-minute l g true e = let h : a .minute < b .minute = ltb-true _ _ e in e ∙ sym (lt-ltb (minuteNumber a) (minuteNumber b) (omega arith))
       by-minute l g false e = let h : b .minute ≤ a .minute = ltb-false _ _ e in e ∙ sym (le-ltb (minuteNumber a) (minuteNumber b) (omega arith))
 

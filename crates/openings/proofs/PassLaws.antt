@@ -34,7 +34,8 @@ unfolding allExist earliestOf
 searches m a [] = refl
 searches m a (w ∷ ws) = turn m a w ws (windowExists w) refl (searches m (earlierOf a (candidateOf w m)) ws)
 
-by-question : (ws : List Window) (m : Moment) (s t : Bool) → leb (length ws) 32 ≡ s → minuteExists m ≡ t → passOf m (cond (s && t) None (Refused 15)) ws ≡ cond (s && (t && allExist ws)) (earliestOf m None ws) (Refused 15)
+by-question : (ws : List Window) (m : Moment) (s t : Bool) → leb (length ws) 32 ≡ s → minuteExists m ≡ t
+    → passOf m (cond (s && t) None (Refused 15)) ws ≡ cond (s && (t && allExist ws)) (earliestOf m None ws) (Refused 15)
 by-question ws m true true e f = searches m None ws
 by-question ws m true false e f = refused-stays m ws
 by-question ws m false t e f = refused-stays m ws

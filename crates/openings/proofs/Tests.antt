@@ -103,6 +103,7 @@ pub bad-window : (m : Moment) (best : Opening) (w : Window) → windowExists w �
 unfolding withWindow
 bad-window m best w a = simp a
 
-pub good-window : (m : Moment) (best : Opening) (w : Window) (r c : Opening) → windowExists w ≡ true → r ≡ earlierOf best c → c ≡ candidateOf w m → r ≡ withWindow m best w
+pub good-window : (m : Moment) (best : Opening) (w : Window) (r c : Opening) → windowExists w ≡ true → r ≡ earlierOf best c → c ≡ candidateOf w m
+    → r ≡ withWindow m best w
 unfolding withWindow
 good-window m best w r c a e f = e ∙ ap (earlierOf best) f ∙ simp a

@@ -51,7 +51,8 @@ pub record Goes (at : ℕ) (piece : List ℕ) (used : ℕ) (output : List ℕ) (
   pub room : widest ≤ length output - used
   pub plays : stopped ≡ false
 
-pub goes-on : (at : ℕ) (piece : List ℕ) (used : ℕ) (output : List ℕ) (stopped : Bool) → goes at piece used output stopped ≡ true → Goes at piece used output stopped
+pub goes-on : (at : ℕ) (piece : List ℕ) (used : ℕ) (output : List ℕ) (stopped : Bool) → goes at piece used output stopped ≡ true
+    → Goes at piece used output stopped
 goes-on at piece used output stopped h =
     let p = both (ltb at (length piece) && leb widest (length output - used)) (not stopped) h in
     let q = both (ltb at (length piece)) (leb widest (length output - used)) (p .0) in

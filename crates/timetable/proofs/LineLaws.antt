@@ -81,7 +81,8 @@ module _ (s : List ℕ) (a : ℕ) (one : a ≡ spaceFrom s 0) where
         unfolding lineIn
         four-words l k = sym (ap lineIn (after-three l (part (c + 1) d s ∷ []) (words-last s (c + 1) d four (omega arith) k)))
 
-        after-four : d < length s → (r : List (List ℕ)) → words (drop (d + 1) s) ≡ r → words s ≡ first ∷ part (a + 1) b s ∷ part (b + 1) c s ∷ part (c + 1) d s ∷ r
+        after-four : d < length s → (r : List (List ℕ)) → words (drop (d + 1) s) ≡ r
+            → words s ≡ first ∷ part (a + 1) b s ∷ part (b + 1) c s ∷ part (c + 1) d s ∷ r
         after-four l r e = after-three (omega arith) (part (c + 1) d s ∷ r) (words-next s (c + 1) d four (omega arith) l ∙ ap (λ (q : List (List ℕ)). part (c + 1) d s ∷ q) e)
 
         module _ (e : ℕ) (five : e ≡ spaceFrom s (d + 1)) where

@@ -26,7 +26,8 @@ use Rattle.timetable.specs.Run.{Standing, ended, within, longest, afterB
 use Rattle.timetable.specs.Promise.{Ends, TakesByte}
 
 -- ---- the list
-pub added-more : (places : List Window) (count : ℕ) (w : Window) → length places ≡ 33 → count < 33 → take (count + 1) (set places count w) ≡ addedTo (take count places) w
+pub added-more : (places : List Window) (count : ℕ) (w : Window) → length places ≡ 33 → count < 33
+    → take (count + 1) (set places count w) ≡ addedTo (take count places) w
 added-more places count w l h =
     rw (lt-ltb (length (take count places)) 33 (omega (arith, length-take count places)), add-one) (take-suc-set places count w (omega arith))
 
@@ -59,7 +60,8 @@ module _ (s : Standing) (b at : ℕ) (before output : List ℕ) (plays : s .stop
       let y : Ends (lineOf (s .line)) (s .list) at before output r = subst (λ (m : Line). Ends m (s .list) at before output r) f x in
       record { stands = y .stands ∙ sym (simp (plays, eq-eqb _ _ e)); put = put-same (y .put) (sym (simp (plays, eq-eqb _ _ e))) }
 
-  pub other-byte : (r : Step) → (b ≡ 10 → ⊥) → length (s .line) < longest → standing (r .playing) ≡ within s b → r .used ≡ at → output ≡ before → TakesByte s b at before output r
+  pub other-byte : (r : Step) → (b ≡ 10 → ⊥) → length (s .line) < longest → standing (r .playing) ≡ within s b → r .used ≡ at → output ≡ before
+      → TakesByte s b at before output r
   unfolding afterByte bytePrints
   other-byte r e h x u o =
       record {

@@ -235,7 +235,8 @@ module _ {M : Type 1} (𝓤 : URA M) (H : Heap 𝓤) (A : Atoms 𝓤) (W : Given
       turn s = turn-at s (ltb (s .i) n) refl
 
       -- the loop and what follows it, from the state at the start
-      looped : (made : Is Op.the-row (startOf n m) (openVal (startOf n m) ∷ [])) → Sq W (I (starts (fold m n) ws made)) (runs (𝓣 .C) (𝓣 .Λ) En body.t-4 (atRet En Post))
+      looped : (made : Is Op.the-row (startOf n m) (openVal (startOf n m) ∷ []))
+          → Sq W (I (starts (fold m n) ws made)) (runs (𝓣 .C) (𝓣 .Λ) En body.t-4 (atRet En Post))
       looped made = first ! $ blocks ! $ loops ! 𝓣 (Less (fold m n) ws) (falls (fold m n) ws) I turn (starts (fold m n) ws made)
 
     -- up to the loop: `asked` is called, and the borrow is looked into
@@ -274,7 +275,8 @@ module _ {M : Type 1} (𝓤 : URA M) (H : Heap 𝓤) (A : Atoms 𝓤) (W : Given
   goes : AllGo 𝓤 H A W 1 (find.signature .params) (find.ended .kept) stayed
   goes = (goes-none-slice 𝓤 H A W 1 (0 ∷ []) tt (plain (λ _. Win.the-row)) yes, (goes-none 𝓤 H A W 1 (λ _. Mo.the-row) yes (λ κs x f. refl), tt))
 
-find-meets : {M : Type 1} (𝓤 : URA M) (H : Heap 𝓤) (A : Atoms 𝓤) (W : Given 𝓤 H A) (mem : Memory → SProp 𝓤) (run : Routine → Fun 𝓤) (𝓣 : Tables 𝓤 H) → Known 𝓤 H A mem run 𝓣
+find-meets : {M : Type 1} (𝓤 : URA M) (H : Heap 𝓤) (A : Atoms 𝓤) (W : Given 𝓤 H A) (mem : Memory → SProp 𝓤) (run : Routine → Fun 𝓤) (𝓣 : Tables 𝓤 H)
+    → Known 𝓤 H A mem run 𝓣
     → Meets 𝓤 H A find.signature (WpFn 𝓤 H (𝓣 .C) (𝓣 .Λ) code.function) (find.spec 𝓤 H A mem run)
 find-meets 𝓤 H A W mem run 𝓣 known = walk-meets 𝓤 H A find.ended stayed W (goes 𝓤 H A W mem run) (find.clauses 𝓤 H A mem run) (WpFn 𝓤 H (𝓣 .C) (𝓣 .Λ) code.function) (WpFn-mono 𝓤 H (W .laws) 𝓣 code.function) (find-walks 𝓤 H A W mem run 𝓣 known)
 

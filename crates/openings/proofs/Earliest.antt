@@ -56,7 +56,9 @@ module _ (w : Window) (m : Moment) (x : Sound w) (y : Minute m) where
           exists = minute-there _ (y .day) (omega (arith, y .small, x .minutes, x .of-a-day));
           lies-there = lies-there w _ x (y .day) (record { from = begun; to = l; start = omega arith; end = omega (arith, x .minutes) });
           not-before = omega arith;
-          first = λ k ek lk g. let z : Lies w k = lies-facts w k x (minute-facts k ek .day) lk in omega (arith, z .start, z .end, minute-facts k ek .small, x .minutes, x .of-a-day, y .small);
+          first = λ k ek lk g.
+              let z : Lies w k = lies-facts w k x (minute-facts k ek .day) lk in
+              omega (arith, z .start, z .end, minute-facts k ek .small, x .minutes, x .of-a-day, y .small);
         }
 
     -- none: this day is the window's last or later, and its minutes of this day are over
@@ -71,13 +73,16 @@ module _ (w : Window) (m : Moment) (x : Sound w) (y : Minute m) where
     next-day : dayNumber (m .date) < dayNumber (w .last) → w .end ≤ m .minute → First (liesIn w) m (moment (nextDay (m .date)) (w .start))
     unfolding minuteNumber
     next-day l past =
-        let one : dayNumber (nextDay (m .date)) ≡ dayNumber (m .date) + 1 = next-is-later (m .date) (y .day) (λ e. omega (arith, ap dayNumber e, last-is-36524, within (w .last) (x .last-there))) in
+        let one : dayNumber (nextDay (m .date)) ≡ dayNumber (m .date) + 1 =
+        next-is-later (m .date) (y .day) (λ e. omega (arith, ap dayNumber e, last-is-36524, within (w .last) (x .last-there))) in
         let there : existsOf (nextDay (m .date)) ≡ true = next-exists (m .date) (y .day) in
         record {
           exists = minute-there _ there (omega (arith, x .minutes, x .of-a-day));
           lies-there = lies-there w _ x there (record { from = omega arith; to = omega arith; start = omega arith; end = x .minutes });
           not-before = omega (arith, y .small);
-          first = λ k ek lk h. let z : Lies w k = lies-facts w k x (minute-facts k ek .day) lk in omega (arith, one, z .start, z .end, minute-facts k ek .small);
+          first = λ k ek lk h.
+              let z : Lies w k = lies-facts w k x (minute-facts k ek .day) lk in
+              omega (arith, one, z .start, z .end, minute-facts k ek .small);
         }
 
 rolled : (d : Date) → existsOf d ≡ true → rollDate d ≡ nextDay d
@@ -99,7 +104,8 @@ module _ (w : Window) (m : Moment) (x : Sound w) (y : Minute m) where
   by-tests false t u e f g = subst (Best (liesIn w) m) (not-begun w m e) (first-day w m x y e)
   by-tests true true u e f g =
       let h = lasts-facts w m _ refl f in
-      subst (Best (liesIn w) m) (today w m e _ refl f) (this-day w m x y (day-le _ _ (x .first-there) (y .day) e) (day-le _ _ (y .day) (x .last-there) (h .0)) (h .1))
+      subst (Best (liesIn w) m) (today w m e _ refl f)
+      (this-day w m x y (day-le _ _ (x .first-there) (y .day) e) (day-le _ _ (y .day) (x .last-there) (h .0)) (h .1))
   by-tests true false true e f g =
       subst (Best (liesIn w) m) (over w m e f g)
       (no-day w m x y (day-le _ _ (x .first-there) (y .day) e) (day-le _ _ (x .last-there) (y .day) g) (λ l. lasts-not w m (le-day _ _ (y .day) (x .last-there) l) f))
@@ -184,7 +190,9 @@ unfolding allExist isOpen earliestOf
 list-best m y [] h p a x = same-best p (λ k. p k || false) m a (λ k. no-more (p k)) x
 list-best m y (w ∷ ws) h p a x =
     let b = both _ _ h in
-    same-best (λ k. (p k || liesIn w k) || isOpen ws k) (λ k. p k || (liesIn w k || isOpen ws k)) m (earliestOf m (earlierOf a (candidateOf w m)) ws) (λ k. regroup (p k) (liesIn w k) (isOpen ws k))
+    same-best (λ k. (p k || liesIn w k) || isOpen ws k) (λ k. p k || (liesIn w k || isOpen ws k)) m
+    (earliestOf m (earlierOf a (candidateOf w m)) ws)
+    (λ k. regroup (p k) (liesIn w k) (isOpen ws k))
     (list-best m y ws (b .1) (λ k. p k || liesIn w k) (earlierOf a (candidateOf w m))
     (earlier-best p (liesIn w) m a (candidateOf w m) x (candidate-best w m (sound-facts w (b .0)) y)))
 

@@ -1,6 +1,7 @@
 -- A walk over a slice that keeps one value: what its loop needs that is no code. `find` cites it.
 --     Fold      such a walk: what `getD` gives past the end, which no turn reads (none), the step of a turn, the value at the start
---     State     where the loop stands: the next element, the value kept so far, what is known of that value (Good), and the fact that ties the two to the whole list
+--     State     where the loop stands: the next element, the value kept so far, what is known of that value (Good),
+--               and the fact that ties the two to the whole list
 --     rest a l  what the function gives from the value a on, for the elements l. One turn does not change it (`turns`)
 --     falls     the order by how many elements are left is well founded
 -- Assumes nothing.

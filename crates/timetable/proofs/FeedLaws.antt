@@ -31,7 +31,8 @@ pub record SoFar (s : Standing) (piece before : List ℕ) (p : Playing) (at used
 
 pub none-taken : (piece before : List ℕ) (p : Playing) → SoFar (standing p) piece before p 0 0 before
 unfolding after prints
-none-taken piece before p = record { stands = refl; written = sym (splice-nil 0 before); size = refl; inside = omega arith; taken-in = omega arith; same = refl }
+none-taken piece before p =
+    record { stands = refl; written = sym (splice-nil 0 before); size = refl; inside = omega arith; taken-in = omega arith; same = refl }
 
 -- ---- the loop's test
 
@@ -111,14 +112,16 @@ module _ {s : Standing} {piece before : List ℕ} {p : Playing} {at used : ℕ} 
     prints-these : prints s (take (at + 1) piece) ≡ prints s first ++ printed
     prints-these =
         ap (prints s) taken-both ∙ prints-both s first (b ∷ [])
-        ∙ ap (λ (q : List ℕ). prints s first ++ q) (one-prints (after s first) ∙ no-more (bytePrints (after s first) b) ∙ ap (λ (x : Standing). bytePrints x b) (sym (f .stands)))
+        ∙ ap (λ (q : List ℕ). prints s first ++ q)
+        (one-prints (after s first) ∙ no-more (bytePrints (after s first) b) ∙ ap (λ (x : Standing). bytePrints x b) (sym (f .stands)))
 
     long : length (prints s (take (at + 1) piece)) ≡ length (prints s first) + length printed
     long = ap length prints-these ∙ length-append (prints s first) printed
 
     written-these : output′ ≡ splice 0 (prints s (take (at + 1) piece)) before
     written-these =
-        put-next before 0 used (prints s first) printed (f .size ∙ sym (zero-add (length (prints s first)))) (omega (arith, f .size, f .inside)) (f .written) (t .put .bytes)
+        put-next before 0 used (prints s first) printed
+        (f .size ∙ sym (zero-add (length (prints s first)))) (omega (arith, f .size, f .inside)) (f .written) (t .put .bytes)
         ∙ ap (λ (q : List ℕ). splice 0 q before) (sym prints-these)
 
     fits : used + length printed ≤ length before

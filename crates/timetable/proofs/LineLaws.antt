@@ -64,7 +64,9 @@ module _ (s : List ℕ) (a : ℕ) (one : a ≡ spaceFrom s 0) where
         sym (ap lineIn (after-one l (part (a + 1) (length s) s ∷ []) (words-last s (a + 1) b two (omega arith) k ∙ ap (λ (q : List ℕ). q ∷ []) e)))
 
     after-two : b < length s → (r : List (List ℕ)) → words (drop (b + 1) s) ≡ r → words s ≡ first ∷ part (a + 1) b s ∷ r
-    after-two l r e = after-one (omega arith) (part (a + 1) b s ∷ r) (words-next s (a + 1) b two (omega arith) l ∙ ap (λ (q : List (List ℕ)). part (a + 1) b s ∷ q) e)
+    after-two l r e =
+        after-one (omega arith) (part (a + 1) b s ∷ r)
+        (words-next s (a + 1) b two (omega arith) l ∙ ap (λ (q : List (List ℕ)). part (a + 1) b s ∷ q) e)
 
     module _ (c : ℕ) (three : c ≡ spaceFrom s (b + 1)) where
       pub three-words : b < length s → length s ≤ c → nextIn first (part (a + 1) b s) (part (b + 1) (length s) s) ≡ lineOf s
@@ -74,7 +76,9 @@ module _ (s : List ℕ) (a : ℕ) (one : a ≡ spaceFrom s 0) where
           sym (ap lineIn (after-two l (part (b + 1) (length s) s ∷ []) (words-last s (b + 1) c three (omega arith) k ∙ ap (λ (q : List ℕ). q ∷ []) e)))
 
       after-three : c < length s → (r : List (List ℕ)) → words (drop (c + 1) s) ≡ r → words s ≡ first ∷ part (a + 1) b s ∷ part (b + 1) c s ∷ r
-      after-three l r e = after-two (omega arith) (part (b + 1) c s ∷ r) (words-next s (b + 1) c three (omega arith) l ∙ ap (λ (q : List (List ℕ)). part (b + 1) c s ∷ q) e)
+      after-three l r e =
+          after-two (omega arith) (part (b + 1) c s ∷ r)
+          (words-next s (b + 1) c three (omega arith) l ∙ ap (λ (q : List (List ℕ)). part (b + 1) c s ∷ q) e)
 
       module _ (d : ℕ) (four : d ≡ spaceFrom s (c + 1)) where
         pub four-words : c < length s → length s ≤ d → Malformed ≡ lineOf s
@@ -83,7 +87,9 @@ module _ (s : List ℕ) (a : ℕ) (one : a ≡ spaceFrom s 0) where
 
         after-four : d < length s → (r : List (List ℕ)) → words (drop (d + 1) s) ≡ r
             → words s ≡ first ∷ part (a + 1) b s ∷ part (b + 1) c s ∷ part (c + 1) d s ∷ r
-        after-four l r e = after-three (omega arith) (part (c + 1) d s ∷ r) (words-next s (c + 1) d four (omega arith) l ∙ ap (λ (q : List (List ℕ)). part (c + 1) d s ∷ q) e)
+        after-four l r e =
+            after-three (omega arith) (part (c + 1) d s ∷ r)
+            (words-next s (c + 1) d four (omega arith) l ∙ ap (λ (q : List (List ℕ)). part (c + 1) d s ∷ q) e)
 
         module _ (e : ℕ) (five : e ≡ spaceFrom s (d + 1)) where
           pub five-words : d < length s → length s ≤ e → windowIn first (part (a + 1) b s) (part (b + 1) c s) (part (c + 1) d s) (part (d + 1) (length s) s) ≡ lineOf s

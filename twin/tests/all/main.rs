@@ -13,3 +13,4 @@ mod runs;
 mod soundness;
 mod support;
 mod traces;
+mod windows;

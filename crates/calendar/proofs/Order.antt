@@ -8,9 +8,11 @@ use mathlib.Core.Bool.{Bool, true, false, cond}
 use lib.Dec.{ltb, leb, eqb}
 use borrow.Author.Tests.{ltb-true, ltb-false, leb-true, leb-false, eqb-true, le-leb, lt-leb, eq-eqb, ne-eqb}
 use Rattle.calendar.specs.declared.Date.{Date}
-use Rattle.calendar.specs.Calendar.{date, lastDay, leapOf, daysOf, existsOf, notAfter, nextDay, rollDate, beforeMonth, beforeYear, dayNumber}
+use Rattle.calendar.specs.Calendar.{date, firstDay, lastDay, leapOf, daysOf, existsOf, notAfter, nextDay, rollCode, rollDate}
+use Rattle.calendar.specs.Calendar.{beforeMonth, beforeYear, dayNumber}
 use Rattle.calendar.specs.Promise.{CalendarHolds}
-use Rattle.calendar.proofs.Tests.{leap-400, leap-4, days-some, by-days, next-in-month, next-month, next-year, last-stays, earlier-year, later-year, earlier-month, later-month, by-day}
+use Rattle.calendar.proofs.Tests.{leap-400, leap-4, days-some, by-days, next-in-month, next-month, next-year, last-stays}
+use Rattle.calendar.proofs.Tests.{earlier-year, later-year, earlier-month, later-month, by-day}
 use Rattle.calendar.proofs.Count.{Exists, exists-facts, next-is-later, first-is-0, last-is-36524}
 
 -- ---- every fourth year
@@ -26,6 +28,10 @@ fourth y h k false e = sym (leap-4 y (λ z. other (omega arith)) (λ z. other (o
 -- ---- the next day exists
 there : (y m d : ℕ) → 2000 ≤ y → y ≤ 2099 → 1 ≤ m → m ≤ 12 → 1 ≤ d → d ≤ daysOf y m → existsOf (date y m d) ≡ true
 there y m d a b c e f g = sym (by-days (date y m d) (daysOf y m) a b c e f refl) ∙ le-leb _ _ g
+
+first-exists : existsOf firstDay ≡ true
+unfolding existsOf daysOf
+first-exists = refl
 
 last-exists : existsOf lastDay ≡ true
 unfolding existsOf daysOf
@@ -50,6 +56,10 @@ next-exists d e = next-by-tests d (exists-facts d e) _ _ _ refl refl refl
 last-rolls : rollDate lastDay ≡ lastDay
 unfolding rollDate nextDay existsOf daysOf
 last-rolls = refl
+
+last-accepted : rollCode lastDay ≡ 0
+unfolding rollCode existsOf daysOf
+last-accepted = refl
 
 -- ---- counts of days rise
 module _ (f : ℕ → ℕ) (up : (k : ℕ) → f k ≤ f (suc k)) where
@@ -141,6 +151,32 @@ module _ (a b : Date) (x : Exists a) (z : Exists b) where
 pub by-number : (a b : Date) → existsOf a ≡ true → existsOf b ≡ true → notAfter a b ≡ leb (dayNumber a) (dayNumber b)
 by-number a b e f = by-tests a b (exists-facts a e) (exists-facts b f) _ _ _ _ refl refl refl refl
 
+-- two dates with one number are the same
+not-below : (m n : ℕ) → (m < n → ⊥) → n ≤ m
+not-below m n h = by-test _ refl
+  where
+    by-test : (t : Bool) → ltb m n ≡ t → n ≤ m
+    by-test true e = absurd (h (ltb-true _ _ e))
+    by-test false e = ltb-false _ _ e
+
+module _ (a b : Date) (x : Exists a) (z : Exists b) (e : dayNumber a ≡ dayNumber b) where
+  same-year : a .year ≡ b .year
+  same-year = le-antisymm (not-below _ _ (λ l. omega (arith, year-first b a z x l))) (not-below _ _ (λ l. omega (arith, year-first a b x z l)))
+
+  of-one-month : a .month ≡ b .month
+  of-one-month =
+      le-antisymm
+      (not-below _ _ (λ l. omega (arith, month-first b a z x (sym same-year) l)))
+      (not-below _ _ (λ l. omega (arith, month-first a b x z same-year l)))
+
+  same-date : a ≡ b
+  same-date =
+      let d : a .day ≡ b .day = omega (arith, same-month a b x z same-year of-one-month) in
+      ap (λ (y : ℕ). date y (a .month) (a .day)) same-year ∙ ap (λ (m : ℕ). date (b .year) m (a .day)) of-one-month ∙ ap (date (b .year) (b .month)) d
+
+pub one-a-day : (a b : Date) → existsOf a ≡ true → existsOf b ≡ true → dayNumber a ≡ dayNumber b → a ≡ b
+one-a-day a b e f h = same-date a b (exists-facts a e) (exists-facts b f) h
+
 -- no date lies after the last
 hundred-years : beforeYear 100 ≡ 36525
 unfolding beforeYear beforeMonth daysOf leapOf
@@ -154,10 +190,14 @@ calendar-holds =
     record {
       every-fourth = λ y h k. fourth y h k (eqb y 2000) refl;
       next-is-later = next-is-later;
+      first-exists = first-exists;
+      last-exists = last-exists;
       next-exists = next-exists;
       last-stays = last-rolls;
+      last-not-refused = last-accepted;
       by-number = by-number;
       first-is-0 = first-is-0;
       last-is-36524 = last-is-36524;
       within = within;
+      one-a-day = one-a-day;
     }

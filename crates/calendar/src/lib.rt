@@ -68,7 +68,7 @@ fn days(year: u16, month: u8) -> u8
     31
 }
 
-// Whether a date is one of the calendar's.
+// Whether a date is one of the calendar's. FIRST has the first month and day that there are, LAST the last month.
 pub fn exists(d: Date) -> bool
     ensures { λ r. ⌜ r ≡ existsOf d ⌝ }
 {
@@ -78,13 +78,13 @@ pub fn exists(d: Date) -> bool
     if Date::LAST.year < d.year {
         return false;
     }
-    if d.month < 1 {
+    if d.month < Date::FIRST.month {
         return false;
     }
-    if 12 < d.month {
+    if Date::LAST.month < d.month {
         return false;
     }
-    if d.day < 1 {
+    if d.day < Date::FIRST.day {
         return false;
     }
     d.day <= days(d.year, d.month)
@@ -154,7 +154,8 @@ pub fn roll(d: &mut Date) -> u8
     s.code
 }
 
-// The day after a date, by a roll of a copy: a caller that goes by this one lends nothing.
+// The day after a date, by a roll of a copy: a caller that goes by this one lends nothing. A date that does not exist is given back as it
+// is; that it is refused is said by `roll`.
 pub fn day_after(d: Date) -> Date
     ensures { λ r. ⌜ r ≡ rollDate d ⌝ }
 {

@@ -1,10 +1,12 @@
 -- The definition of the search, computed on small lists.
 use mathlib.Core.Path.{_≡_, refl}
-use mathlib.Core.List.{List, [], _∷_}
+use mathlib.Core.Bool.{false}
+use mathlib.Core.List.{List, [], _∷_, map}
 use Prim.Native.Nat.{ℕ, zero, suc}
 use Rattle.calendar.specs.declared.Date.{Date}
 use Rattle.calendar.specs.Calendar.{date, leapOf, daysOf, existsOf, notAfter, nextDay, rollDate}
 use Rattle.openings.specs.declared.Window.{Window}
+use Rattle.openings.specs.declared.Opening.{Opening}
 use Rattle.openings.specs.declared.Opening.the-variants.{At, None, Refused}
 use Rattle.openings.specs.Windows.{moment, minuteExists, windowExists, allExist, before}
 use Rattle.openings.specs.Find.{lastsOn, candidateOf, earliestOf, inOrder, findOf}
@@ -49,12 +51,17 @@ earlier : findOf (leap ∷ window (date 2024 2 28) (date 2024 2 28) 30 31 ∷ []
 unfolding findOf inOrder minuteExists windowExists allExist lastsOn candidateOf earliestOf before existsOf notAfter daysOf leapOf
 earlier = refl
 
--- the calendar's last day stays: nothing comes after it
+-- a window up to the calendar's last day: after that day's minutes there is none, and the roll, which would give the same day back, is not asked
 last-day : findOf (window (date 2000 1 1) (date 2099 12 31) 0 1439 ∷ []) (moment (date 2099 12 31) 1439) ≡ None
 unfolding findOf inOrder minuteExists windowExists allExist lastsOn candidateOf earliestOf before existsOf notAfter daysOf leapOf
 last-day = refl
 
--- refused: minute 1440, 30 February, an empty minute span, minutes above 1440, dates that end before they start, in any place
+-- a span of one day, up to the end of the day: 1440 is an end, and the day's last minute is found
+one-day : findOf (window (date 2024 2 29) (date 2024 2 29) 0 1440 ∷ []) (moment (date 2024 2 29) 1439) ≡ At (moment (date 2024 2 29) 1439)
+unfolding findOf inOrder minuteExists windowExists allExist lastsOn candidateOf earliestOf before existsOf notAfter daysOf leapOf
+one-day = refl
+
+-- refused: minute 1440, 30 February
 minute-1440 : findOf [] (moment (date 2024 2 28) 1440) ≡ Refused 15
 unfolding findOf inOrder minuteExists allExist existsOf daysOf leapOf
 minute-1440 = refl
@@ -63,13 +70,25 @@ february-30 : findOf [] (moment (date 2024 2 30) 0) ≡ Refused 15
 unfolding findOf inOrder minuteExists allExist existsOf daysOf leapOf
 february-30 = refl
 
-bad-windows : allExist (leap ∷ window (date 2024 3 1) (date 2024 3 1) 600 600 ∷ []) ≡ allExist (leap ∷ window (date 2024 3 1) (date 2024 3 1) 600 1441 ∷ [])
-unfolding allExist windowExists existsOf notAfter daysOf leapOf
+-- no windows: an empty minute span, one backwards, minutes above 1440, first and last dates that do not exist, dates that end before they start
+abbrev no-windows : List Window
+no-windows =
+    window (date 2024 3 1) (date 2024 3 1) 600 600 ∷ window (date 2024 3 1) (date 2024 3 1) 601 600
+    ∷ window (date 2024 3 1) (date 2024 3 1) 600 1441 ∷ window (date 2023 2 29) (date 2024 3 1) 600 660
+    ∷ window (date 2024 3 1) (date 2100 1 1) 600 660 ∷ window (date 2024 3 2) (date 2024 3 1) 0 1440 ∷ []
+
+bad-windows : map windowExists no-windows ≡ false ∷ false ∷ false ∷ false ∷ false ∷ false ∷ []
+unfolding windowExists existsOf notAfter daysOf leapOf
 bad-windows = refl
 
-backwards : findOf (leap ∷ window (date 2024 3 2) (date 2024 3 1) 0 1440 ∷ []) (moment (date 2024 2 28) 0) ≡ Refused 15
+-- each is refused in any place: alone, before a good one and after it
+abbrev found-with : Window → List Opening
+found-with w =
+    findOf (w ∷ []) (moment (date 2024 2 28) 0) ∷ findOf (w ∷ leap ∷ []) (moment (date 2024 2 28) 0) ∷ findOf (leap ∷ w ∷ []) (moment (date 2024 2 28) 0) ∷ []
+
+refused-in-any-place : map found-with no-windows ≡ map (λ w. Refused 15 ∷ Refused 15 ∷ Refused 15 ∷ []) no-windows
 unfolding findOf inOrder minuteExists windowExists allExist existsOf notAfter daysOf leapOf
-backwards = refl
+refused-in-any-place = refl
 
 -- 32 windows are taken, and 33 are not, also where all are good
 thirty-two : findOf (copies 32 leap) (moment (date 2024 2 28) 600) ≡ At (moment (date 2024 2 28) 600)

@@ -1,6 +1,7 @@
 -- The minute that `findOf` gives is the earliest: of one window, of two answers, of the whole list.
 use mathlib.Core.Path.{_≡_, refl, sym, ap, _∙_, subst}
 use Prim.Native.Nat.{ℕ, _+_, _*_, _≤_, _<_, max}
+use native.Mathlib.Nat.{le-antisymm}
 use native.Mathlib.Omega.{arith}
 use mathlib.Core.Bool.{Bool, true, false, cond, not, _&&_, _||_}
 use mathlib.Core.List.{List, [], _∷_}
@@ -16,10 +17,11 @@ use Rattle.openings.specs.declared.Moment.{Moment}
 use Rattle.openings.specs.declared.Opening.{Opening}
 use Rattle.openings.specs.declared.Opening.the-variants.{At, None, Refused}
 use Rattle.openings.specs.Windows.{moment, minuteExists, windowExists, allExist, before, minuteNumber, liesIn, isOpen}
-use Rattle.openings.specs.Find.{lastsOn, candidateOf, firstOf, earlierOf, earliestOf, inOrder, findOf, openingNumber}
+use Rattle.openings.specs.Find.{lastsOn, candidateOf, firstOf, earlierOf, earliestOf, inOrder, findOf, openingNumber, openingValues}
 use Rattle.openings.specs.Promise.{Earliest, NoneLeft, FindHolds}
 use Rattle.openings.proofs.Tests.{not-begun, today, over, tomorrow, dates-over, by-minute}
-use Rattle.openings.proofs.Numbers.{both, either, or-left, or-right, day-le, day-gt, le-day, Minute, minute-facts, minute-there, before-number, Sound, sound-facts, Lies, lies-facts, lies-there}
+use Rattle.openings.proofs.Numbers.{both, either, or-left, or-right, day-le, day-gt, le-day}
+use Rattle.openings.proofs.Numbers.{Minute, minute-facts, minute-there, before-number, one-moment, Sound, sound-facts, Lies, lies-facts, lies-there}
 
 -- what an answer is among the minutes that `lies` tells: the earliest, not before m, or that there is none
 pub record First (lies : Moment → Bool) (m f : Moment) : Type 0 where
@@ -108,7 +110,8 @@ module _ (w : Window) (m : Moment) (x : Sound w) (y : Minute m) where
       (this-day w m x y (day-le _ _ (x .first-there) (y .day) e) (day-le _ _ (y .day) (x .last-there) (h .0)) (h .1))
   by-tests true false true e f g =
       subst (Best (liesIn w) m) (over w m e f g)
-      (no-day w m x y (day-le _ _ (x .first-there) (y .day) e) (day-le _ _ (x .last-there) (y .day) g) (λ l. lasts-not w m (le-day _ _ (y .day) (x .last-there) l) f))
+      (no-day w m x y (day-le _ _ (x .first-there) (y .day) e) (day-le _ _ (x .last-there) (y .day) g)
+      (λ l. lasts-not w m (le-day _ _ (y .day) (x .last-there) l) f))
   by-tests true false false e f g =
       let l : dayNumber (m .date) < dayNumber (w .last) = day-gt _ _ (x .last-there) (y .day) g in
       subst (Best (liesIn w) m) (tomorrow w m e f _ (sym (rolled (m .date) (y .day))) g)
@@ -225,6 +228,15 @@ module _ (ws : List Window) (m : Moment) where
   none-left : findOf ws m ≡ None → NoneLeft ws m
   none-left e k ek h lk = answer-best None e (λ r. let z : _≡_ {A = ℕ} 0 1 = cc in omega arith) _ refl k ek lk h
 
+  -- there is one earliest minute
+  only-found : (a : Opening) → Best (isOpen ws) m a → (f : Moment) → Earliest ws m f → a ≡ At f
+  only-found (At g) b f e =
+      let low = b .first f (e .exists) (e .lies) (e .not-before) in
+      let high = e .first g (b .exists) (b .lies-there) (b .not-before) in
+      ap At (one-moment g f (minute-facts g (b .exists)) (minute-facts f (e .exists)) (le-antisymm low high))
+  only-found None b f e = absurd (b f (e .exists) (e .lies) (e .not-before))
+  only-found (Refused n) b f e = absurd b
+
   only-none : (a : Opening) → Best (isOpen ws) m a → NoneLeft ws m → a ≡ None
   only-none (At f) b left = absurd (left f (b .exists) (b .not-before) (b .lies-there))
   only-none None b left = refl
@@ -239,11 +251,18 @@ module _ (ws : List Window) (m : Moment) where
   by-question true h = no-refusal (findOf ws m) (searched ws m h)
   by-question false h = ap openingNumber (refuses ws m h)
 
+  no-answer : (t : Bool) → inOrder ws m ≡ t → (t ≡ true → NoneLeft ws m) → openingValues (findOf ws m) ≡ []
+  no-answer true h left = ap openingValues (only-none (findOf ws m) (searched ws m h) (left refl))
+  no-answer false h left = ap openingValues (refuses ws m h)
+
   pub find-holds : FindHolds ws m
   find-holds =
       record {
         found = found-earliest;
+        found-only = λ f h e. only-found (findOf ws m) (searched ws m h) f e;
         none = none-left;
         none-only = λ h left. only-none (findOf ws m) (searched ws m h) left;
         number = by-question (inOrder ws m) refl;
+        values = λ f h e. ap openingValues (only-found (findOf ws m) (searched ws m h) f e);
+        no-values = no-answer (inOrder ws m) refl;
       }

@@ -8,10 +8,10 @@ use lib.Dec.{ltb, leb}
 use borrow.Author.Tests.{ltb-true, ltb-false, leb-true, leb-false, lt-ltb, le-ltb, le-leb}
 use Rattle.calendar.specs.declared.Date.{Date}
 use Rattle.calendar.specs.Calendar.{existsOf, notAfter, dayNumber}
-use Rattle.calendar.proofs.Order.{by-number}
+use Rattle.calendar.proofs.Order.{by-number, one-a-day}
 use Rattle.openings.specs.declared.Window.{Window}
 use Rattle.openings.specs.declared.Moment.{Moment}
-use Rattle.openings.specs.Windows.{minuteExists, windowExists, before, minuteNumber, liesIn}
+use Rattle.openings.specs.Windows.{moment, minuteExists, windowExists, before, minuteNumber, liesIn}
 use Rattle.openings.proofs.Tests.{later-day, earlier-day, same-day}
 
 -- ---- both, and one of two
@@ -75,6 +75,13 @@ module _ (a b : Moment) (x : Minute a) (z : Minute b) where
 
 pub before-number : (a b : Moment) → Minute a → Minute b → before a b ≡ ltb (minuteNumber a) (minuteNumber b)
 before-number a b x z = by-days a b x z _ _ refl refl
+
+-- two minutes with one number are the same
+pub one-moment : (a b : Moment) → Minute a → Minute b → minuteNumber a ≡ minuteNumber b → a ≡ b
+unfolding minuteNumber
+one-moment a b x z e =
+    let day : dayNumber (a .date) ≡ dayNumber (b .date) = omega (arith, x .small, z .small) in
+    ap (λ (d : Date). moment d (a .minute)) (one-a-day _ _ (x .day) (z .day) day) ∙ ap (moment (b .date)) (omega arith)
 
 -- ---- windows
 pub record Sound (w : Window) : Type 0 where

@@ -1,4 +1,6 @@
 pub mod LineLaws
 pub mod PlayLaws
+pub mod LongLines
 pub mod Pieces
 pub mod FeedLaws
+pub mod LensWindowsKept

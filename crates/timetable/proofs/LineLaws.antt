@@ -92,7 +92,8 @@ module _ (s : List ℕ) (a : ℕ) (one : a ≡ spaceFrom s 0) where
             (words-next s (c + 1) d four (omega arith) l ∙ ap (λ (q : List (List ℕ)). part (c + 1) d s ∷ q) e)
 
         module _ (e : ℕ) (five : e ≡ spaceFrom s (d + 1)) where
-          pub five-words : d < length s → length s ≤ e → windowIn first (part (a + 1) b s) (part (b + 1) c s) (part (c + 1) d s) (part (d + 1) (length s) s) ≡ lineOf s
+          pub five-words : d < length s → length s ≤ e
+              → windowIn first (part (a + 1) b s) (part (b + 1) c s) (part (c + 1) d s) (part (d + 1) (length s) s) ≡ lineOf s
           unfolding lineIn
           five-words l k =
               let q : part (d + 1) e s ≡ part (d + 1) (length s) s = part-rest (d + 1) e s k ∙ sym (part-rest (d + 1) (length s) s (omega arith)) in
@@ -103,4 +104,5 @@ module _ (s : List ℕ) (a : ℕ) (one : a ≡ spaceFrom s 0) where
           more-words l =
               let x : List ℕ = part (d + 1) e s in
               let p = words-some (drop (e + 1) s) in
-              sym (ap lineIn (after-four (omega arith) (x ∷ p .0 ∷ p .1) (words-next s (d + 1) e five (omega arith) l ∙ ap (λ (q : List (List ℕ)). x ∷ q) (p .2))))
+              sym (ap lineIn (after-four (omega arith) (x ∷ p .0 ∷ p .1) (words-next s (d + 1) e five (omega arith) l
+              ∙ ap (λ (q : List (List ℕ)). x ∷ q) (p .2))))

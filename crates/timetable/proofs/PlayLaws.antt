@@ -67,7 +67,8 @@ module _ (s : Standing) (b at : ℕ) (before output : List ℕ) (plays : s .stop
       record {
         stands = x ∙ sym (simp (plays, ne-eqb _ _ e, lt-ltb _ _ h));
         put = subst (λ (t : List ℕ). Put widest at (bytePrints s b) before t (r .used)) (sym o)
-            (subst (λ (n : ℕ). Put widest at (bytePrints s b) before before n) (sym u) (put-same (put-none at before) (sym (simp (plays, ne-eqb _ _ e, lt-ltb _ _ h)))));
+            (subst (λ (n : ℕ). Put widest at (bytePrints s b) before before n) (sym u)
+            (put-same (put-none at before) (sym (simp (plays, ne-eqb _ _ e, lt-ltb _ _ h)))));
       }
 
   pub long-byte : (r : Step) → (b ≡ 10 → ⊥) → longest ≤ length (s .line) → Ends Malformed (s .list) at before output r → TakesByte s b at before output r

@@ -2,3 +2,4 @@ pub mod Line
 pub mod Table
 pub mod Run
 pub mod Promise
+pub mod LensWindows

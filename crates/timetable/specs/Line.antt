@@ -1,6 +1,6 @@
 -- What a line of the program "windows" means. Its form is document 01's for text inputs: "one space between words, a line feed after each
--- line, and decimal numbers without leading zeros"; a date is YYYY-MM-DD. The lines are `window FIRST LAST START END`, `next DATE MINUTE`,
--- `roll DATE` and `clear`; a line is given without its line feed. Characters are ASCII codes: 45 is "-".
+-- line, and decimal numbers without leading zeros or plus sign"; a date is YYYY-MM-DD. The lines are `window FIRST LAST START END`,
+-- `next DATE MINUTE`, `roll DATE` and `clear`; a line is given without its line feed. Characters are ASCII codes: 45 is "-".
 use mathlib.Core.Bool.{cond, _&&_}
 use mathlib.Core.List.{List, [], _∷_}
 use Prim.Native.Nat.{ℕ, _+_, _*_, _-_}

@@ -3,7 +3,7 @@
 use mathlib.Core.Path.{_≡_}
 use mathlib.Core.Bool.{Bool, true, false, cond}
 use mathlib.Core.List.{List, [], _∷_, _++_}
-use Prim.Native.Nat.{ℕ}
+use Prim.Native.Nat.{ℕ, _<_}
 use lib.Dec.{eqb, ltb}
 use lib.ListN.{length, take}
 use Rattle.openings.specs.declared.Window.{Window}
@@ -34,6 +34,10 @@ within s b = record { list = s .list; line = s .line ++ (b ∷ []); stopped = fa
 -- the longest line that is not malformed has 40 bytes: `window` with two dates and two numbers of five digits. A longer one is malformed at once
 abbrev pub longest : ℕ
 longest = 40
+
+-- so no line is lost by the limit; proofs/LongLines.antt
+abbrev pub LongLines : Type 0
+LongLines = (line : List ℕ) → longest < length line → lineOf line ≡ Malformed
 
 -- after one byte more; 10 is the line feed
 unfoldable pub afterByte : Standing → ℕ → Standing

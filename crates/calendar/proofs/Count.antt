@@ -33,8 +33,17 @@ pub exists-facts : (d : Date) → existsOf d ≡ true → Exists d
 unfolding existsOf
 exists-facts d e = facts (all-six _ _ _ _ _ _ e)
   where
-    facts : (leb 2000 (d .year) ≡ true) × (leb (d .year) 2099 ≡ true) × (leb 1 (d .month) ≡ true) × (leb (d .month) 12 ≡ true) × (leb 1 (d .day) ≡ true) × (leb (d .day) (daysOf (d .year) (d .month)) ≡ true) → Exists d
-    facts p = record { from = leb-true _ _ (p .0); to = leb-true _ _ (p .1); some-month = leb-true _ _ (p .2); last-month = leb-true _ _ (p .3); some-day = leb-true _ _ (p .4); last-day = leb-true _ _ (p .5) }
+    facts : (leb 2000 (d .year) ≡ true) × (leb (d .year) 2099 ≡ true) × (leb 1 (d .month) ≡ true) × (leb (d .month) 12 ≡ true) × (leb 1 (d .day) ≡ true)
+        × (leb (d .day) (daysOf (d .year) (d .month)) ≡ true) → Exists d
+    facts p =
+        record {
+          from = leb-true _ _ (p .0);
+          to = leb-true _ _ (p .1);
+          some-month = leb-true _ _ (p .2);
+          last-month = leb-true _ _ (p .3);
+          some-day = leb-true _ _ (p .4);
+          last-day = leb-true _ _ (p .5);
+        }
 
 -- ---- one day later, within a month, at a month's end and at a year's end
 in-month : (y m d : ℕ) → 1 ≤ d → dayNumber (date y m (d + 1)) ≡ dayNumber (date y m d) + 1
@@ -52,7 +61,8 @@ month-end y (suc m) d h k e =
 year-end : (y : ℕ) → 2000 ≤ y → dayNumber (date (y + 1) 1 1) ≡ dayNumber (date y 12 31) + 1
 unfolding dayNumber beforeMonth beforeYear daysOf
 year-end y h =
-    let after : beforeYear (y + 1 - 2000) ≡ beforeYear (y - 2000) + beforeMonth (2000 + (y - 2000)) 12 = ap beforeYear {x = y + 1 - 2000} {y = suc (y - 2000)} (omega arith) in
+    let after : beforeYear (y + 1 - 2000) ≡ beforeYear (y - 2000) + beforeMonth (2000 + (y - 2000)) 12 =
+        ap beforeYear {x = y + 1 - 2000} {y = suc (y - 2000)} (omega arith) in
     let same : beforeMonth (2000 + (y - 2000)) 12 ≡ beforeMonth y 12 = ap (λ (z : ℕ). beforeMonth z 12) {x = 2000 + (y - 2000)} {y = y} (omega arith) in
     omega (arith, after, same)
 
@@ -66,12 +76,17 @@ module _ (d : Date) (x : Exists d) (other : d ≡ lastDay → ⊥) where
       december : d .month ≡ 12
       december = le-antisymm (x .last-month) k
 
-  by-tests : (a b c : Bool) → ltb (d .day) (daysOf (d .year) (d .month)) ≡ a → ltb (d .month) 12 ≡ b → ltb (d .year) 2099 ≡ c → dayNumber (nextDay d) ≡ dayNumber d + 1
+  by-tests : (a b c : Bool) → ltb (d .day) (daysOf (d .year) (d .month)) ≡ a → ltb (d .month) 12 ≡ b → ltb (d .year) 2099 ≡ c
+      → dayNumber (nextDay d) ≡ dayNumber d + 1
   by-tests true b c e f g = ap dayNumber (sym (next-in-month d (ltb-true _ _ e))) ∙ in-month _ _ _ (x .some-day)
-  by-tests false true c e f g = ap dayNumber (sym (next-month d (ltb-false _ _ e) (ltb-true _ _ f))) ∙ month-end _ _ _ (x .some-month) (x .some-day) (le-antisymm (x .last-day) (ltb-false _ _ e))
+  by-tests false true c e f g =
+      ap dayNumber (sym (next-month d (ltb-false _ _ e) (ltb-true _ _ f)))
+      ∙ month-end _ _ _ (x .some-month) (x .some-day) (le-antisymm (x .last-day) (ltb-false _ _ e))
   by-tests false false true e f g =
-      ap dayNumber (sym (next-year d (ltb-false _ _ e) (ltb-false _ _ f) (ltb-true _ _ g))) ∙ year-end _ (x .from) ∙ ap (λ (z : Date). dayNumber z + 1) (sym (is-31 (ltb-false _ _ e) (ltb-false _ _ f)))
-  by-tests false false false e f g = absurd (other (is-31 (ltb-false _ _ e) (ltb-false _ _ f) ∙ ap (λ (y : ℕ). date y 12 31) (le-antisymm (x .to) (ltb-false _ _ g))))
+      ap dayNumber (sym (next-year d (ltb-false _ _ e) (ltb-false _ _ f) (ltb-true _ _ g)))
+      ∙ year-end _ (x .from) ∙ ap (λ (z : Date). dayNumber z + 1) (sym (is-31 (ltb-false _ _ e) (ltb-false _ _ f)))
+  by-tests false false false e f g =
+      absurd (other (is-31 (ltb-false _ _ e) (ltb-false _ _ f) ∙ ap (λ (y : ℕ). date y 12 31) (le-antisymm (x .to) (ltb-false _ _ g))))
 
 pub next-is-later : (d : Date) → existsOf d ≡ true → (d ≡ lastDay → ⊥) → dayNumber (nextDay d) ≡ dayNumber d + 1
 next-is-later d e other = by-tests d (exists-facts d e) other _ _ _ refl refl refl

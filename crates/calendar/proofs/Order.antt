@@ -44,10 +44,12 @@ module _ (d : Date) (x : Exists d) where
       ap existsOf (sym (next-in-month d less)) ∙ there _ _ _ (x .from) (x .to) (x .some-month) (x .last-month) (omega arith) (omega arith)
   next-by-tests false true c f g h =
       let less : d .month < 12 = ltb-true _ _ g in
-      ap existsOf (sym (next-month d (ltb-false _ _ f) less)) ∙ there _ _ _ (x .from) (x .to) (omega arith) (omega arith) (omega arith) (omega (arith, days-some (d .year) (d .month + 1)))
+      ap existsOf (sym (next-month d (ltb-false _ _ f) less))
+      ∙ there _ _ _ (x .from) (x .to) (omega arith) (omega arith) (omega arith) (omega (arith, days-some (d .year) (d .month + 1)))
   next-by-tests false false true f g h =
       let less : d .year < 2099 = ltb-true _ _ h in
-      ap existsOf (sym (next-year d (ltb-false _ _ f) (ltb-false _ _ g) less)) ∙ there _ _ _ (omega (arith, x .from)) (omega arith) (omega arith) (omega arith) (omega arith) (omega (arith, days-some (d .year + 1) 1))
+      ap existsOf (sym (next-year d (ltb-false _ _ f) (ltb-false _ _ g) less))
+      ∙ there _ _ _ (omega (arith, x .from)) (omega arith) (omega arith) (omega arith) (omega arith) (omega (arith, days-some (d .year + 1) 1))
   next-by-tests false false false f g h = ap existsOf (sym (last-stays d (ltb-false _ _ f) (ltb-false _ _ g) (ltb-false _ _ h))) ∙ last-exists
 
 pub next-exists : (d : Date) → existsOf d ≡ true → existsOf (nextDay d) ≡ true
@@ -82,14 +84,17 @@ years-rise m k h = rises beforeYear (λ k. omega arith) m k h
 in-month : (d : Date) → Exists d → beforeMonth (d .year) (d .month - 1) + (d .day - 1) < beforeMonth (d .year) (d .month)
 unfolding beforeMonth
 in-month d x =
-    let next : beforeMonth (d .year) (d .month) ≡ beforeMonth (d .year) (d .month - 1) + daysOf (d .year) (d .month - 1 + 1) = ap (beforeMonth (d .year)) {x = d .month} {y = suc (d .month - 1)} (omega (arith, x .some-month)) in
+    let next : beforeMonth (d .year) (d .month) ≡ beforeMonth (d .year) (d .month - 1) + daysOf (d .year) (d .month - 1 + 1) =
+        ap (beforeMonth (d .year)) {x = d .month} {y = suc (d .month - 1)} (omega (arith, x .some-month)) in
     omega (arith, next, ap (daysOf (d .year)) {x = d .month - 1 + 1} {y = d .month} (omega (arith, x .some-month)), x .last-day, x .some-day)
 
 in-year : (d : Date) → Exists d → dayNumber d < beforeYear (d .year - 2000 + 1)
 unfolding dayNumber beforeYear
 in-year d x =
-    let next : beforeYear (d .year - 2000 + 1) ≡ beforeYear (d .year - 2000) + beforeMonth (2000 + (d .year - 2000)) 12 = ap beforeYear {x = d .year - 2000 + 1} {y = suc (d .year - 2000)} (omega arith) in
-    let same : beforeMonth (2000 + (d .year - 2000)) 12 ≡ beforeMonth (d .year) 12 = ap (λ (y : ℕ). beforeMonth y 12) {x = 2000 + (d .year - 2000)} {y = d .year} (omega (arith, x .from)) in
+    let next : beforeYear (d .year - 2000 + 1) ≡ beforeYear (d .year - 2000) + beforeMonth (2000 + (d .year - 2000)) 12 =
+        ap beforeYear {x = d .year - 2000 + 1} {y = suc (d .year - 2000)} (omega arith) in
+    let same : beforeMonth (2000 + (d .year - 2000)) 12 ≡ beforeMonth (d .year) 12 =
+        ap (λ (y : ℕ). beforeMonth y 12) {x = 2000 + (d .year - 2000)} {y = d .year} (omega (arith, x .from)) in
     omega (arith, next, same, in-month d x, months-rise (d .year) (d .month) 12 (x .last-month))
 
 -- ---- the order
@@ -140,7 +145,8 @@ module _ (a b : Date) (x : Exists a) (z : Exists b) where
       sym (later-year a b l) ∙ sym (lt-leb _ _ (year-first b a z x l))
   by-tests false false true s e f g h =
       let l : a .month < b .month = ltb-true _ _ g in
-      sym (earlier-month a b (ltb-false _ _ e) (ltb-false _ _ f) l) ∙ sym (le-leb (dayNumber a) (dayNumber b) (omega (arith, month-first a b x z (le-antisymm (ltb-false _ _ f) (ltb-false _ _ e)) l)))
+      sym (earlier-month a b (ltb-false _ _ e) (ltb-false _ _ f) l)
+      ∙ sym (le-leb (dayNumber a) (dayNumber b) (omega (arith, month-first a b x z (le-antisymm (ltb-false _ _ f) (ltb-false _ _ e)) l)))
   by-tests false false false true e f g h =
       let l : b .month < a .month = ltb-true _ _ h in
       sym (later-month a b (ltb-false _ _ e) (ltb-false _ _ f) l) ∙ sym (lt-leb _ _ (month-first b a z x (le-antisymm (ltb-false _ _ e) (ltb-false _ _ f)) l))

@@ -78,7 +78,8 @@ pub no-day : (d : Date) → 2000 ≤ d .year → d .year ≤ 2099 → 1 ≤ d .m
 unfolding existsOf
 no-day d a b c e f = simp (le-leb _ _ a, le-leb _ _ b, le-leb _ _ c, le-leb _ _ e, lt-leb _ _ f)
 
-pub by-days : (d : Date) (n : ℕ) → 2000 ≤ d .year → d .year ≤ 2099 → 1 ≤ d .month → d .month ≤ 12 → 1 ≤ d .day → n ≡ daysOf (d .year) (d .month) → leb (d .day) n ≡ existsOf d
+pub by-days : (d : Date) (n : ℕ) → 2000 ≤ d .year → d .year ≤ 2099 → 1 ≤ d .month → d .month ≤ 12 → 1 ≤ d .day → n ≡ daysOf (d .year) (d .month)
+    → leb (d .day) n ≡ existsOf d
 unfolding existsOf
 by-days d n a b c e f g = simp (le-leb _ _ a, le-leb _ _ b, le-leb _ _ c, le-leb _ _ e, le-leb _ _ f, g)
 

@@ -21,8 +21,10 @@ use prog.Wp.{Heap, Out, Env, afterSeq, afterBlock, afterTurn, Wp, atReturn, WpFn
 use ghost.Atoms.{Atoms, sem}
 use contract.Monad.{Fun, fact}
 use contract.Running.{givenOf, tables, tablesOf}
-use types.Kit.{Given, Item, Sq, runs, anyQ, atRet, ‵, raw, _⊛_, some, later, ⋆, _$_, _∵_, !, qed, by, move, keep, drop, use1, use2, use3, split, join, pick, rewrite, fsplit, fjoin, suffices, frame, await, done}
-use types.Run.{look, look-raw, init, store, forget, stop, hop, fld, from, load, lit, of-opd, bin, assigns, assigns-last, and-then, no-more, land, first, blocks, stays, leaves-loop, Below, again, loops, exec, returns, enter, alloc1, alloc0, params1, pass1, pass0, free1, free0}
+use types.Kit.{Given, Item, Sq, runs, anyQ, atRet, ‵, raw, _⊛_, some, later, ⋆, _$_, _∵_, !, qed, by, move, keep, drop, use1, use2, use3, split, join}
+use types.Kit.{pick, rewrite, fsplit, fjoin, suffices, frame, await, done}
+use types.Run.{look, look-raw, init, store, forget, stop, hop, fld, from, load, lit, of-opd, bin, assigns, assigns-last, and-then, no-more, land}
+use types.Run.{first, blocks, stays, leaves-loop, Below, again, loops, exec, returns, enter, alloc1, alloc0, params1, pass1, pass0, free1, free0}
 use types.Part.{whole, sub, look-in}
 use types.Share.{arr-parts}
 use sound.WpLaws.{fmOf, WpFn-mono}
@@ -92,7 +94,15 @@ none = record { first = firstDay; last = firstDay; start = 0; end = 0 }
 
 -- the value that the loop keeps: the answer so far, with what its machine value says
 abbrev fold : Moment → ℕ → Fold Window Opening Opening
-fold m n = record { none = none; step = withWindow m; rest = passOf m; turns = λ f w l. refl; Good = λ f. Is Op.the-row f (openVal f ∷ []); start = startOf n m }
+fold m n =
+    record {
+      none = none;
+      step = withWindow m;
+      rest = passOf m;
+      turns = λ f w l. refl;
+      Good = λ f. Is Op.the-row f (openVal f ∷ []);
+      start = startOf n m;
+    }
 
 -- an answer's machine value is the spelled one
 spelled : (r : Opening) (v : Val) → Is Op.the-row r (v ∷ []) → Is Op.the-row r (openVal r ∷ [])
@@ -116,12 +126,14 @@ module _ {M : Type 1} (𝓤 : URA M) (H : Heap 𝓤) (A : Atoms 𝓤) (W : Given
     abbrev to : With 𝓤 H A at-mem run .Ghost
     to = ((tt, tt, tt, (f, (w, (m, tt))), (openVal f ∷ [], (winVal w ∷ [], (momVal m ∷ [], tt)))), tt)
 
-    goes-in : ent 𝓤 (⋆ 𝓤 H A (‵ (Op.the-row .own f (openVal f ∷ [])) ∷ ‵ (Win.the-row .own w (winVal w ∷ [])) ∷ ‵ (Mo.the-row .own m (momVal m ∷ [])) ∷ [])) (With 𝓤 H A at-mem run .pre to)
+    goes-in : ent 𝓤 (⋆ 𝓤 H A (‵ (Op.the-row .own f (openVal f ∷ [])) ∷ ‵ (Win.the-row .own w (winVal w ∷ [])) ∷ ‵ (Mo.the-row .own m (momVal m ∷ [])) ∷ []))
+        (With 𝓤 H A at-mem run .pre to)
     goes-in =
         qed W (‵ (Op.the-row .own f (openVal f ∷ [])) ∷ ‵ (Win.the-row .own w (winVal w ∷ [])) ∷ ‵ (Mo.the-row .own m (momVal m ∷ [])) ∷ []) ∵
         nothing ! $ move ! (3 ∷ 0 ∷ []) $ join ! $ move ! (2 ∷ 0 ∷ []) $ join ! $ move ! (1 ∷ 0 ∷ []) $ join ! $ nothing ! $ join ! $ frame ! $ done !
 
-    said : (r : Opening) → ent 𝓤 (ensured 𝓤 H A with-window.ended (with-window.clauses 𝓤 H A at-mem run) tt (f, (w, (m, tt))) tt r) (fact 𝓤 (r ≡ withWindow m f w))
+    said : (r : Opening) → ent 𝓤 (ensured 𝓤 H A with-window.ended (with-window.clauses 𝓤 H A at-mem run) tt (f, (w, (m, tt))) tt r)
+        (fact 𝓤 (r ≡ withWindow m f w))
     said r = exE 𝓤 _ (λ ws. snd∗ 𝓤 (sem 𝓤 H A (lasts with-window.ended tt (f, (w, (m, tt))) ws)) (fact 𝓤 (r ≡ withWindow m f w)))
 
   module _ (n : ℕ) where
@@ -154,24 +166,30 @@ module _ {M : Type 1} (𝓤 : URA M) (H : Heap 𝓤) (A : Atoms 𝓤) (W : Given
 
     exits : (f : Opening) → Is Op.the-row f (openVal f ∷ []) → f ≡ findOf ws m → ent 𝓤 (⋆ 𝓤 H A (‵ (flft κ q) ∷ ‵ Own ∷ [])) (Post (openVal f))
     exits f is e =
-        qed W (‵ (flft κ q) ∷ ‵ Own ∷ []) ∵ suffices ! _ (ends-at 𝓤 H A find.ended stayed (find.clauses 𝓤 H A at-mem run) W (((κ, tt), (q, tt), tt, x, at), tt) (openVal f) f (tt, (tt, tt)) (tt, (tt, tt))) $ says ! e $
+        qed W (‵ (flft κ q) ∷ ‵ Own ∷ []) ∵ suffices ! _ (ends-at 𝓤 H A find.ended stayed (find.clauses 𝓤 H A at-mem run) W
+            (((κ, tt), (q, tt), tt, x, at), tt) (openVal f) f (tt, (tt, tt)) (tt, (tt, tt))) $ says ! e $
         nothing ! $ move ! (1 ∷ 0 ∷ []) $ join ! $ frame ! $ nothing ! $
         owned ! Mo.the-row (Is Mo.the-row) (LL.makes Mo.the-type Mo′.the-plain 𝓤 H A) m _ is-m $ fjoin ! $ move ! (1 ∷ 0 ∷ []) $ fjoin ! $ frame ! $
         owned ! Op.the-row (Is Op.the-row) (EL.makes Op.the-type Op′.the-plain 𝓤 H A) f _ is $ done !
 
-    module _ (𝓣 : Tables 𝓤 H) (known : Triple 𝓤 (𝓣 .C #openings·with-window) (With 𝓤 H A at-mem run)) (g : Room Win.the-row n) (l₀ l₁ l₂ l₃ l₄ l₅ l₆ l₇ l₈ l₉ : ℕ) (q′ : Share) where
+    module _ (𝓣 : Tables 𝓤 H) (known : Triple 𝓤 (𝓣 .C #openings·with-window) (With 𝓤 H A at-mem run)) (g : Room Win.the-row n)
+        (l₀ l₁ l₂ l₃ l₄ l₅ l₆ l₇ l₈ l₉ : ℕ) (q′ : Share) where
       abbrev slice : Ty
       slice = sliceTy (tyRef (named 0) imm (pointee (Win.the-row .written)))
 
       abbrev En : Env 𝓤 H
-      En = (Op′.mir, l₀) ∷ (slice, l₁) ∷ (Mo′.mir, l₂) ∷ (Op′.mir, l₃) ∷ (tyInt w64, l₄) ∷ (tyInt w64, l₅) ∷ (tyInt w64, l₆) ∷ (tyBool, l₇) ∷ (tyPtr, l₈) ∷ (Win′.mir, l₉) ∷ []
+      En = (Op′.mir, l₀) ∷ (slice, l₁) ∷ (Mo′.mir, l₂) ∷ (Op′.mir, l₃) ∷ (tyInt w64, l₄) ∷ (tyInt w64, l₅) ∷ (tyInt w64, l₆) ∷ (tyBool, l₇) ∷ (tyPtr, l₈)
+          ∷ (Win′.mir, l₉) ∷ []
 
       -- the invariant: the row of windows, the locals, the last first (local k stands at 2 · (9 − k) + 1), and what is had of the borrow
       abbrev I : State (fold m n) ws → List (Item 𝓤)
-      I s = ‵ (row Win.the-row q′ ws b o) ∷ ‵ (froom Win′.mir l₉ 0) ∷ ‵ (fdies Win′.mir l₉) ∷ ‵ (froom tyPtr l₈ 0) ∷ ‵ (fdies tyPtr l₈) ∷ ‵ (froom tyBool l₇ 0) ∷ ‵ (fdies tyBool l₇)
+      I s = ‵ (row Win.the-row q′ ws b o) ∷ ‵ (froom Win′.mir l₉ 0) ∷ ‵ (fdies Win′.mir l₉) ∷ ‵ (froom tyPtr l₈ 0) ∷ ‵ (fdies tyPtr l₈)
+          ∷ ‵ (froom tyBool l₇ 0) ∷ ‵ (fdies tyBool l₇)
           ∷ ‵ (froom (tyInt w64) l₆ 0) ∷ ‵ (fdies (tyInt w64) l₆) ∷ ‵ (froom (tyInt w64) l₅ 0) ∷ ‵ (fdies (tyInt w64) l₅)
-          ∷ ‵ (fat fullShare (tyInt w64) l₄ 0 (vint w64 (s .i))) ∷ ‵ (fdies (tyInt w64) l₄) ∷ ‵ (fat fullShare Op′.mir l₃ 0 (openVal (s .acc))) ∷ ‵ (fdies Op′.mir l₃)
-          ∷ ‵ (fat fullShare Mo′.mir l₂ 0 (momVal m)) ∷ ‵ (fdies Mo′.mir l₂) ∷ ‵ (fat fullShare slice l₁ 0 (sliceVal (b, o) n)) ∷ ‵ (fdies slice l₁) ∷ ‵ (froom Op′.mir l₀ 0) ∷ ‵ (fdies Op′.mir l₀)
+          ∷ ‵ (fat fullShare (tyInt w64) l₄ 0 (vint w64 (s .i))) ∷ ‵ (fdies (tyInt w64) l₄) ∷ ‵ (fat fullShare Op′.mir l₃ 0 (openVal (s .acc)))
+          ∷ ‵ (fdies Op′.mir l₃)
+          ∷ ‵ (fat fullShare Mo′.mir l₂ 0 (momVal m)) ∷ ‵ (fdies Mo′.mir l₂) ∷ ‵ (fat fullShare slice l₁ 0 (sliceVal (b, o) n)) ∷ ‵ (fdies slice l₁)
+          ∷ ‵ (froom Op′.mir l₀ 0) ∷ ‵ (fdies Op′.mir l₀)
           ∷ ‵ (fobor κ q (arr-parts (shares Win.the-row) n .part q′ ws b o)) ∷ ‵ (fshr-bor κ (λ s′. arr-parts (shares Win.the-row) n .part s′ ws b o))
           ∷ ‵ (fres γ (codedHoleys Win.the-row .code (heres Win.the-row ws))) ∷ ‵ (at-slice Win.the-row (x .0) (at .0)) ∷ []
 
@@ -186,11 +204,14 @@ module _ {M : Type 1} (𝓤 : URA M) (H : Heap 𝓤) (A : Atoms 𝓤) (W : Given
       turn-at : (s : State (fold m n) ws) (t : Bool) → ltb (s .i) n ≡ t → Turn s
       unfolding afterTurn goes-on
       turn-at s false e =
-          assigns ! (of-opd ! (load ! (from ! (fld ! refl (stop !))) (look-in ! 17 (sub ! 1 refl (whole !))))) (from ! (stop !)) (init ! 7 refl (tt, record { fits = g .0 })) $
-          assigns ! (bin ! (load ! (from ! (stop !)) (look ! 11 refl)) (load ! (from ! (stop !)) (look ! 7 refl)) tt) (from ! (stop !)) (init ! 5 refl (tt, tt)) $
+          assigns ! (of-opd ! (load ! (from ! (fld ! refl (stop !))) (look-in ! 17 (sub ! 1 refl (whole !))))) (from ! (stop !))
+              (init ! 7 refl (tt, record { fits = g .0 })) $
+          assigns ! (bin ! (load ! (from ! (stop !)) (look ! 11 refl)) (load ! (from ! (stop !)) (look ! 7 refl)) tt) (from ! (stop !))
+              (init ! 5 refl (tt, tt)) $
           rewrite ! 5 (λ (t : Bool). ‵ (fat fullShare tyBool l₇ 0 (vbool t))) e refl $ leaves-loop ! (load ! (from ! (stop !)) (look ! 5 refl)) $
           exec ! (𝓣 .C) (𝓣 .Λ) En body.t-5 (atRet En Post) $
-          assigns ! (of-opd ! (load ! (from ! (stop !)) (look ! 13 refl))) (from ! (stop !)) (init ! 19 refl (EL.lawful Op.the-type Op′.the-laws 𝓤 H A W tt .typed (s .acc) _ (s .good) .0)) $
+          assigns ! (of-opd ! (load ! (from ! (stop !)) (look ! 13 refl))) (from ! (stop !))
+              (init ! 19 refl (EL.lawful Op.the-type Op′.the-laws 𝓤 H A W tt .typed (s .acc) _ (s .good) .0)) $
           move ! (0 ∷ 21 ∷ []) $ shuts-slice ! tt Win.the-row q′ ws b o $
           -- [the token; _9; …; _0; …; the fractured borrow; res; the slice's fact]
           returns ! (look ! 19 refl) $ forget ! 5 refl $ forget ! 7 refl $ forget ! 11 refl $ forget ! 13 refl $ forget ! 15 refl $ forget ! 17 refl $
@@ -201,27 +222,38 @@ module _ {M : Type 1} (𝓤 : URA M) (H : Heap 𝓤) (A : Atoms 𝓤) (W : Given
           move ! (2 ∷ 1 ∷ []) $ fjoin ! $ move ! (2 ∷ 0 ∷ []) $ fjoin ! $ move ! (1 ∷ 0 ∷ []) $
           by ! (exits (s .acc) (s .good) (at-end (fold m n) ws s (ltb-false _ _ e) ∙ pass-finds ws m))
       turn-at s true e =
-          assigns ! (of-opd ! (load ! (from ! (fld ! refl (stop !))) (look-in ! 17 (sub ! 1 refl (whole !))))) (from ! (stop !)) (init ! 7 refl (tt, record { fits = g .0 })) $
-          assigns ! (bin ! (load ! (from ! (stop !)) (look ! 11 refl)) (load ! (from ! (stop !)) (look ! 7 refl)) tt) (from ! (stop !)) (init ! 5 refl (tt, tt)) $
+          assigns ! (of-opd ! (load ! (from ! (fld ! refl (stop !))) (look-in ! 17 (sub ! 1 refl (whole !))))) (from ! (stop !))
+              (init ! 7 refl (tt, record { fits = g .0 })) $
+          assigns ! (bin ! (load ! (from ! (stop !)) (look ! 11 refl)) (load ! (from ! (stop !)) (look ! 7 refl)) tt) (from ! (stop !))
+              (init ! 5 refl (tt, tt)) $
           rewrite ! 5 (λ (t : Bool). ‵ (fat fullShare tyBool l₇ 0 (vbool t))) e refl $ stays ! (load ! (from ! (stop !)) (look ! 5 refl)) $
-          assigns ! (bin ! (load ! (from ! (stop !)) (look ! 11 refl)) (lit ! tt) (record { fits = scaled small (g .1) })) (from ! (stop !)) (store ! 7 refl (tt, record { fits = scaled small (g .1) })) $
-          assigns ! (bin ! (load ! (from ! (fld ! refl (stop !))) (look-in ! 17 (sub ! 0 refl (whole !)))) (load ! (from ! (stop !)) (look ! 7 refl)) tt) (from ! (stop !)) (init ! 3 refl (tt, tt)) $
+          assigns ! (bin ! (load ! (from ! (stop !)) (look ! 11 refl)) (lit ! tt) (record { fits = scaled small (g .1) })) (from ! (stop !))
+              (store ! 7 refl (tt, record { fits = scaled small (g .1) })) $
+          assigns ! (bin ! (load ! (from ! (fld ! refl (stop !))) (look-in ! 17 (sub ! 0 refl (whole !)))) (load ! (from ! (stop !)) (look ! 7 refl)) tt)
+              (from ! (stop !)) (init ! 3 refl (tt, tt)) $
           rewrite ! 3 (λ (p : ℕ). ‵ (fat fullShare tyPtr l₈ 0 (vptr b p))) (sym (place-is 12 o (s .i))) refl $
-          elem-out ! Win.the-row (Is Win.the-row) (shows 𝓤 H A Win.the-row) (LL.vals Win.the-type Win′.the-laws) (LL.tells Win.the-type Win′.the-laws) q′ ws (s .i) none b o small (λ is.
+          elem-out ! Win.the-row (Is Win.the-row) (shows 𝓤 H A Win.the-row) (LL.vals Win.the-type Win′.the-laws) (LL.tells Win.the-type Win′.the-laws) q′ ws
+              (s .i) none b o small (λ is.
           -- [the window's cell; what it owns; the others; _9; …; _8; …]
-          assigns ! (of-opd ! (load ! (from ! (hop ! (look ! 5 refl) (stop !))) (look-raw ! 0 refl))) (from ! (stop !)) (init ! 3 refl (LL.lawful Win.the-type Win′.the-laws 𝓤 H A W .typed w _ is .0)) $
+          assigns ! (of-opd ! (load ! (from ! (hop ! (look ! 5 refl) (stop !))) (look-raw ! 0 refl))) (from ! (stop !))
+              (init ! 3 refl (LL.lawful Win.the-type Win′.the-laws 𝓤 H A W .typed w _ is .0)) $
           elem-back ! Win.the-row q′ ws (s .i) none (winVal w ∷ []) b o small $
           owned ! Mo.the-row (Is Mo.the-row) (LL.makes Mo.the-type Mo′.the-plain 𝓤 H A) m _ is-m $
           owned ! Win.the-row (Is Win.the-row) (LL.makes Win.the-type Win′.the-plain 𝓤 H A) w _ is $
           owned ! Op.the-row (Is Op.the-row) (EL.makes Op.the-type Op′.the-plain 𝓤 H A) (s .acc) _ (s .good) $
           use3 W (raw (With 𝓤 H A at-mem run .pre (to (s .acc) w))) (goes-in (s .acc) w) $
-          calls-at ! (fmOf 𝓤 H (W .laws) 𝓣) (With 𝓤 H A at-mem run) known (to (s .acc) w) (and-then ! (load ! (from ! (stop !)) (look ! 14 refl)) (and-then ! (load ! (from ! (stop !)) (look ! 2 refl)) (and-then ! (load ! (from ! (stop !)) (look ! 16 refl)) (no-more !)))) (λ v.
-          use1 W (later (some (λ (r : Opening). (‵ ftrue ⊛ ‵ (Op.the-row .own r (v ∷ []))) ⊛ raw (ensured 𝓤 H A with-window.ended (with-window.clauses 𝓤 H A at-mem run) tt (s .acc, (w, (m, tt))) tt r)))) (id⊢ 𝓤 _) $ await ! tt $ pick ! (λ r.
+          calls-at ! (fmOf 𝓤 H (W .laws) 𝓣) (With 𝓤 H A at-mem run) known (to (s .acc) w)
+              (and-then ! (load ! (from ! (stop !)) (look ! 14 refl))
+              (and-then ! (load ! (from ! (stop !)) (look ! 2 refl)) (and-then ! (load ! (from ! (stop !)) (look ! 16 refl)) (no-more !)))) (λ v.
+          use1 W (later (some (λ (r : Opening). (‵ ftrue ⊛ ‵ (Op.the-row .own r (v ∷ [])))
+              ⊛ raw (ensured 𝓤 H A with-window.ended (with-window.clauses 𝓤 H A at-mem run) tt (s .acc, (w, (m, tt))) tt r)))) (id⊢ 𝓤 _) $ await ! tt $
+              pick ! (λ r.
           split ! $ move ! (1 ∷ []) $ use1 W (raw (fact 𝓤 (r ≡ withWindow m (s .acc) w))) (said (s .acc) w r) $
           heard ! (r ≡ withWindow m (s .acc) w) (λ chosen. split ! $ drop ! $ facts ! Op.the-row (Is Op.the-row) (shows 𝓤 H A Op.the-row) r (v ∷ []) (λ is-r.
           land ! (from ! (stop !)) (store ! 13 refl (EL.lawful Op.the-type Op′.the-laws 𝓤 H A W tt .typed r _ is-r .0)) $
           rewrite ! 13 (λ (u : Val). ‵ (fat fullShare Op′.mir l₃ 0 u)) (ap only (EL.tells Op.the-type Op′.the-laws r _ is-r)) refl $
-          assigns-last ! (bin ! (load ! (from ! (stop !)) (look ! 11 refl)) (lit ! tt) (record { fits = next-fits small (g .0) })) (from ! (stop !)) (store ! 11 refl (tt, record { fits = next-fits small (g .0) })) $
+          assigns-last ! (bin ! (load ! (from ! (stop !)) (look ! 11 refl)) (lit ! tt) (record { fits = next-fits small (g .0) })) (from ! (stop !))
+              (store ! 11 refl (tt, record { fits = next-fits small (g .0) })) $
           forget ! 1 refl $ forget ! 3 refl $ forget ! 5 refl $ forget ! 7 refl $
           again ! (Less (fold m n) ws) I s (goes-on (fold m n) ws s r (spelled r v is-r) small chosen) (nearer small))))))
         where
@@ -247,14 +279,18 @@ module _ {M : Type 1} (𝓤 : URA M) (H : Heap 𝓤) (A : Atoms 𝓤) (W : Given
         fsplit ! $ move ! (1 ∷ []) $ fsplit ! $ keep ! (1 ∷ 4 ∷ 0 ∷ 2 ∷ []) $
         -- [the fractured borrow; the token; res; the slice's fact]
         enter ! (𝓣 .C) (𝓣 .Λ) code.function (sliceVal (b, o) n ∷ momVal m ∷ []) _ $
-        alloc1 ! (λ l₀. alloc1 ! (λ l₁. alloc1 ! (λ l₂. alloc1 ! (λ l₃. alloc1 ! (λ l₄. alloc1 ! (λ l₅. alloc1 ! (λ l₆. alloc1 ! (λ l₇. alloc1 ! (λ l₈. alloc1 ! (λ l₉. alloc0 ! $ params1 ! $
+        alloc1 ! (λ l₀. alloc1 ! (λ l₁. alloc1 ! (λ l₂. alloc1 ! (λ l₃. alloc1 ! (λ l₄.
+        alloc1 ! (λ l₅. alloc1 ! (λ l₆. alloc1 ! (λ l₇. alloc1 ! (λ l₈. alloc1 ! (λ l₉. alloc0 ! $ params1 ! $
         pass1 ! (init ! 16 refl (tt, (tt, (record { fits = g .0 }, tt)))) $
         pass1 ! (init ! 14 refl (LL.lawful Mo.the-type Mo′.the-laws 𝓤 H A W .typed m _ is-m .0)) $ pass0 ! $
-        assigns ! (of-opd ! (load ! (from ! (fld ! refl (stop !))) (look-in ! 16 (sub ! 1 refl (whole !))))) (from ! (stop !)) (init ! 8 refl (tt, record { fits = g .0 })) $
+        assigns ! (of-opd ! (load ! (from ! (fld ! refl (stop !))) (look-in ! 16 (sub ! 1 refl (whole !))))) (from ! (stop !))
+            (init ! 8 refl (tt, record { fits = g .0 })) $
         owned ! Mo.the-row (Is Mo.the-row) (LL.makes Mo.the-type Mo′.the-plain 𝓤 H A) m _ is-m $
         owned ! usize (Is usize) (uint-makes 𝓤 H A W w64) n _ (refl, g .0) $ use2 W (raw (Asked 𝓤 H A at-mem run .pre (to-ask n))) (in-ask n) $
-        calls-at ! (fmOf 𝓤 H (W .laws) 𝓣) (Asked 𝓤 H A at-mem run) (known .asks) (to-ask n) (and-then ! (load ! (from ! (stop !)) (look ! 9 refl)) (and-then ! (load ! (from ! (stop !)) (look ! 15 refl)) (no-more !))) (λ v.
-        use1 W (later (some (λ (r : Opening). (‵ ftrue ⊛ ‵ (Op.the-row .own r (v ∷ []))) ⊛ raw (ensured 𝓤 H A asked.ended (asked.clauses 𝓤 H A at-mem run) tt (n, (m, tt)) tt r)))) (id⊢ 𝓤 _) $ await ! tt $ pick ! (λ r.
+        calls-at ! (fmOf 𝓤 H (W .laws) 𝓣) (Asked 𝓤 H A at-mem run) (known .asks) (to-ask n)
+            (and-then ! (load ! (from ! (stop !)) (look ! 9 refl)) (and-then ! (load ! (from ! (stop !)) (look ! 15 refl)) (no-more !))) (λ v.
+        use1 W (later (some (λ (r : Opening). (‵ ftrue ⊛ ‵ (Op.the-row .own r (v ∷ [])))
+            ⊛ raw (ensured 𝓤 H A asked.ended (asked.clauses 𝓤 H A at-mem run) tt (n, (m, tt)) tt r)))) (id⊢ 𝓤 _) $ await ! tt $ pick ! (λ r.
         split ! $ move ! (1 ∷ []) $ use1 W (raw (fact 𝓤 (r ≡ startOf n m))) (said-ask n r) $ heard ! (r ≡ startOf n m) (λ answered. split ! $ drop ! $
         facts ! Op.the-row (Is Op.the-row) (shows 𝓤 H A Op.the-row) r (v ∷ []) (λ is-r.
         land ! (from ! (stop !)) (init ! 12 refl (EL.lawful Op.the-type Op′.the-laws 𝓤 H A W tt .typed r _ is-r .0)) $
@@ -262,15 +298,21 @@ module _ {M : Type 1} (𝓤 : URA M) (H : Heap 𝓤) (A : Atoms 𝓤) (W : Given
         rewrite ! 12 (λ (f : Opening). ‵ (fat fullShare Op′.mir l₃ 0 (openVal f))) answered refl $ forget ! 8 refl $
         assigns ! (of-opd ! (lit ! tt)) (from ! (stop !)) (init ! 10 refl (tt, record { fits = lit< tt })) $
         move ! (20 ∷ 21 ∷ []) $
-        looks-slice ! tt Win.the-row (Is Win.the-row) (shows 𝓤 H A Win.the-row) (LL.vals Win.the-type Win′.the-laws) (LL.tells Win.the-type Win′.the-laws) (LL.copy Win.the-type Win′.the-copy 𝓤 H A W) ws b o (λ q′.
+        looks-slice ! tt Win.the-row (Is Win.the-row) (shows 𝓤 H A Win.the-row) (LL.vals Win.the-type Win′.the-laws) (LL.tells Win.the-type Win′.the-laws)
+            (LL.copy Win.the-type Win′.the-copy 𝓤 H A W) ws b o (λ q′.
         -- [the row; what shuts it; the fractured borrow; _9; …; _0; …; res; the slice's fact]
         keep ! (0 ∷ 3 ∷ 4 ∷ 5 ∷ 6 ∷ 7 ∷ 8 ∷ 9 ∷ 10 ∷ 11 ∷ 12 ∷ 13 ∷ 14 ∷ 15 ∷ 16 ∷ 17 ∷ 18 ∷ 19 ∷ 20 ∷ 21 ∷ 22 ∷ 1 ∷ 2 ∷ 23 ∷ 24 ∷ []) $
-        looped 𝓣 (known .tests) g l₀ l₁ l₂ l₃ l₄ l₅ l₆ l₇ l₈ l₉ q′ (subst (λ (f : Opening). Is Op.the-row f (openVal f ∷ [])) answered (spelled r v is-r)))))))))))))))))
+        looped 𝓣 (known .tests) g l₀ l₁ l₂ l₃ l₄ l₅ l₆ l₇ l₈ l₉ q′
+            (subst (λ (f : Opening). Is Op.the-row f (openVal f ∷ [])) answered (spelled r v is-r)))))))))))))))))
 
 module _ {M : Type 1} (𝓤 : URA M) (H : Heap 𝓤) (A : Atoms 𝓤) (W : Given 𝓤 H A) (mem : Memory → SProp 𝓤) (run : Routine → Fun 𝓤) where
   find-walks : (𝓣 : Tables 𝓤 H) → Known 𝓤 H A mem run 𝓣 → Walks 𝓤 H A find.ended stayed (WpFn 𝓤 H (𝓣 .C) (𝓣 .Λ) code.function) (find.clauses 𝓤 H A mem run)
-  find-walks 𝓣 known = walked 𝓤 H A find.ended stayed (find.clauses 𝓤 H A mem run) (WpFn 𝓤 H (𝓣 .C) (𝓣 .Λ) code.function) (λ κs. (slice-vals, (LL.vals Mo.the-type Mo′.the-laws, tt))) (λ κs. (shr-slice-tells (named 0) (κs .0) Win.the-row, (LL.tells Mo.the-type Mo′.the-laws, tt)))
-      (λ κs qs bounds a _ are. via 𝓤 _ (fst∗ 𝓤 _ (emp 𝓤)) (walk 𝓤 H A W mem run (a .1 .0) (are .1 .0) (κs .0) (qs .0) (a .0 .ptr .0) (a .0 .ptr .1) (a .0 .name) (a .0 .now) 𝓣 known (are .0 .0 .1)))
+  find-walks 𝓣 known =
+      walked 𝓤 H A find.ended stayed (find.clauses 𝓤 H A mem run) (WpFn 𝓤 H (𝓣 .C) (𝓣 .Λ) code.function)
+      (λ κs. (slice-vals, (LL.vals Mo.the-type Mo′.the-laws, tt)))
+      (λ κs. (shr-slice-tells (named 0) (κs .0) Win.the-row, (LL.tells Mo.the-type Mo′.the-laws, tt)))
+      (λ κs qs bounds a _ are. via 𝓤 _ (fst∗ 𝓤 _ (emp 𝓤)) (walk 𝓤 H A W mem run (a .1 .0) (are .1 .0) (κs .0) (qs .0) (a .0 .ptr .0) (a .0 .ptr .1)
+          (a .0 .name) (a .0 .now) 𝓣 known (are .0 .0 .1)))
 
   goes : AllGo 𝓤 H A W 1 (find.signature .params) (find.ended .kept) stayed
   goes = (goes-none-slice 𝓤 H A W 1 (0 ∷ []) tt (plain (λ _. Win.the-row)) yes, (goes-none 𝓤 H A W 1 (λ _. Mo.the-row) yes (λ κs x f. refl), tt))
@@ -278,7 +320,9 @@ module _ {M : Type 1} (𝓤 : URA M) (H : Heap 𝓤) (A : Atoms 𝓤) (W : Given
 find-meets : {M : Type 1} (𝓤 : URA M) (H : Heap 𝓤) (A : Atoms 𝓤) (W : Given 𝓤 H A) (mem : Memory → SProp 𝓤) (run : Routine → Fun 𝓤) (𝓣 : Tables 𝓤 H)
     → Known 𝓤 H A mem run 𝓣
     → Meets 𝓤 H A find.signature (WpFn 𝓤 H (𝓣 .C) (𝓣 .Λ) code.function) (find.spec 𝓤 H A mem run)
-find-meets 𝓤 H A W mem run 𝓣 known = walk-meets 𝓤 H A find.ended stayed W (goes 𝓤 H A W mem run) (find.clauses 𝓤 H A mem run) (WpFn 𝓤 H (𝓣 .C) (𝓣 .Λ) code.function) (WpFn-mono 𝓤 H (W .laws) 𝓣 code.function) (find-walks 𝓤 H A W mem run 𝓣 known)
+find-meets 𝓤 H A W mem run 𝓣 known =
+    walk-meets 𝓤 H A find.ended stayed W (goes 𝓤 H A W mem run) (find.clauses 𝓤 H A mem run) (WpFn 𝓤 H (𝓣 .C) (𝓣 .Λ) code.function)
+    (WpFn-mono 𝓤 H (W .laws) 𝓣 code.function) (find-walks 𝓤 H A W mem run 𝓣 known)
 
 pub find-spec : {M : Type 1} → stated.statement M
 unfolding code.routine tablesOf
@@ -288,5 +332,7 @@ find-spec 𝓤 H 𝓜 𝓖 𝓡 =
     (find-meets 𝓤 H (𝓖 .A) (givenOf 𝓤 H 𝓜 𝓖) (𝓜 .mem) (𝓡 .run) (tablesOf 𝓤 H 𝓜 (tables 𝓤 H 𝓜 𝓡 code.env))
     (record {
       asks = cited 𝓤 H (Asked 𝓤 H (𝓖 .A) (𝓜 .mem) (𝓡 .run)) 𝓜 𝓡 code.env #openings·asked asked-def.routine code.calls-openings·asked (asked-thm.met 𝓤 H 𝓜 𝓖 𝓡);
-      tests = cited 𝓤 H (With 𝓤 H (𝓖 .A) (𝓜 .mem) (𝓡 .run)) 𝓜 𝓡 code.env #openings·with-window with-window-def.routine code.calls-openings·with-window (with-window-thm.met 𝓤 H 𝓜 𝓖 𝓡);
+      tests =
+          cited 𝓤 H (With 𝓤 H (𝓖 .A) (𝓜 .mem) (𝓡 .run)) 𝓜 𝓡 code.env #openings·with-window with-window-def.routine code.calls-openings·with-window
+          (with-window-thm.met 𝓤 H 𝓜 𝓖 𝓡);
     }))

@@ -62,7 +62,7 @@ year-end : (y : ℕ) → 2000 ≤ y → dayNumber (date (y + 1) 1 1) ≡ dayNumb
 unfolding dayNumber beforeMonth beforeYear daysOf
 year-end y h =
     let after : beforeYear (y + 1 - 2000) ≡ beforeYear (y - 2000) + beforeMonth (2000 + (y - 2000)) 12 =
-        ap beforeYear {x = y + 1 - 2000} {y = suc (y - 2000)} (omega arith) in
+    ap beforeYear {x = y + 1 - 2000} {y = suc (y - 2000)} (omega arith) in
     let same : beforeMonth (2000 + (y - 2000)) 12 ≡ beforeMonth y 12 = ap (λ (z : ℕ). beforeMonth z 12) {x = 2000 + (y - 2000)} {y = y} (omega arith) in
     omega (arith, after, same)
 

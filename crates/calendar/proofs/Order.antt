@@ -85,16 +85,16 @@ in-month : (d : Date) → Exists d → beforeMonth (d .year) (d .month - 1) + (d
 unfolding beforeMonth
 in-month d x =
     let next : beforeMonth (d .year) (d .month) ≡ beforeMonth (d .year) (d .month - 1) + daysOf (d .year) (d .month - 1 + 1) =
-        ap (beforeMonth (d .year)) {x = d .month} {y = suc (d .month - 1)} (omega (arith, x .some-month)) in
+    ap (beforeMonth (d .year)) {x = d .month} {y = suc (d .month - 1)} (omega (arith, x .some-month)) in
     omega (arith, next, ap (daysOf (d .year)) {x = d .month - 1 + 1} {y = d .month} (omega (arith, x .some-month)), x .last-day, x .some-day)
 
 in-year : (d : Date) → Exists d → dayNumber d < beforeYear (d .year - 2000 + 1)
 unfolding dayNumber beforeYear
 in-year d x =
     let next : beforeYear (d .year - 2000 + 1) ≡ beforeYear (d .year - 2000) + beforeMonth (2000 + (d .year - 2000)) 12 =
-        ap beforeYear {x = d .year - 2000 + 1} {y = suc (d .year - 2000)} (omega arith) in
+    ap beforeYear {x = d .year - 2000 + 1} {y = suc (d .year - 2000)} (omega arith) in
     let same : beforeMonth (2000 + (d .year - 2000)) 12 ≡ beforeMonth (d .year) 12 =
-        ap (λ (y : ℕ). beforeMonth y 12) {x = 2000 + (d .year - 2000)} {y = d .year} (omega (arith, x .from)) in
+    ap (λ (y : ℕ). beforeMonth y 12) {x = 2000 + (d .year - 2000)} {y = d .year} (omega (arith, x .from)) in
     omega (arith, next, same, in-month d x, months-rise (d .year) (d .month) 12 (x .last-month))
 
 -- ---- the order

@@ -72,7 +72,7 @@ module _ {M : Type 1} (𝓤 : URA M) (H : Heap 𝓤) (A : Atoms 𝓤) (W : Given
   unfolding partOf
   lies d l is =
       qed W (‵ (fat fullShare D′.mir l 0 (dateVal d)) ∷ []) ∵ use1 W (‵ (cellAt fullShare (D.the-row .mir) (dateVal d ∷ []) l 0))
-          (W .laws .at-raw fullShare D′.mir l 0 (dateVal d)) $
+      (W .laws .at-raw fullShare D′.mir l 0 (dateVal d)) $
       owned ! D.the-row (Is D.the-row) (LL.makes D.the-type D′.the-plain 𝓤 H A) d _ is $ move ! (1 ∷ 0 ∷ []) $ fjoin ! $
       fpack ! (List Val) (λ us. fsep (cellAt fullShare (D.the-row .mir) us l 0) (D.the-row .own d us)) (dateVal d ∷ []) $ done !
 
@@ -84,7 +84,7 @@ module _ {M : Type 1} (𝓤 : URA M) (H : Heap 𝓤) (A : Atoms 𝓤) (W : Given
   exits : Is D.the-row (rollDate d) (dateVal (rollDate d) ∷ []) → ent 𝓤 (emp 𝓤) (Post (dateVal (rollDate d)))
   exits was =
       qed W [] ∵ suffices ! _ (ends-at 𝓤 H A after.ended stayed (after.clauses 𝓤 H A at-mem run) W ((tt, tt, tt, (d, tt), (dateVal d ∷ [], tt)), tt)
-          (dateVal (rollDate d)) (rollDate d) (tt, tt) (tt, tt)) $ says ! refl $
+      (dateVal (rollDate d)) (rollDate d) (tt, tt) (tt, tt)) $ says ! refl $
       nothing ! $ owned ! D.the-row (Is D.the-row) (LL.makes D.the-type D′.the-plain 𝓤 H A) d _ is $ fjoin ! $
       owned ! D.the-row (Is D.the-row) (LL.makes D.the-type D′.the-plain 𝓤 H A) (rollDate d) _ was $ move ! (1 ∷ 0 ∷ []) $ nothing ! $ done !
 
@@ -115,18 +115,18 @@ module _ {M : Type 1} (𝓤 : URA M) (H : Heap 𝓤) (A : Atoms 𝓤) (W : Given
         alloc1 ! (λ l₀. alloc1 ! (λ l₁. alloc1 ! (λ l₂. alloc1 ! (λ l₃. alloc1 ! (λ l₄. alloc0 ! $ params1 ! $
         pass1 ! (init ! 6 refl (LL.lawful D.the-type D′.the-laws 𝓤 H A W .typed d _ is .0)) $ pass0 ! $
         assigns ! (of-opd ! (load ! (from ! (stop !)) (look ! 6 refl))) (from ! (stop !))
-            (init ! 4 refl (LL.lawful D.the-type D′.the-laws 𝓤 H A W .typed d _ is .0)) $
+        (init ! 4 refl (LL.lawful D.the-type D′.the-laws 𝓤 H A W .typed d _ is .0)) $
         assigns ! (addr ! (from ! (stop !))) (from ! (stop !)) (init ! 0 refl (tt, tt)) $
         -- a lifetime is made, and the local is lent for it
         move ! (4 ∷ []) $ use1 W (‵ (mem D.the-row .lies d l₂ 0)) (lies 𝓤 H A W d l₂ is) $ lft-new ! tt (λ α. move ! (1 ∷ []) $
         use1 W (later (some (λ (γ : GName). ‵ (MutRef (named 0) (κ α γ l₂) D.the-row .own (x α γ l₂ .0) (vptr l₂ 0 ∷ []))
-            ⊛ ‵ (flent (κ α γ l₂) (Body (mem D.the-row) l₂ 0 γ))))) (lends-ref 𝓤 H A W D.the-row (named 0) (α ∷ []) d l₂ 0) $
+        ⊛ ‵ (flent (κ α γ l₂) (Body (mem D.the-row) l₂ 0 γ))))) (lends-ref 𝓤 H A W D.the-row (named 0) (α ∷ []) d l₂ 0) $
         await ! tt $ pick ! (λ γ. split ! $ move ! (2 ∷ 0 ∷ []) $ use2 W (raw (Roll 𝓤 H A at-mem run .pre (to α γ l₂))) (goes-in α γ l₂) $
         -- [what the callee asks; the lender's part; _4; …; _3; …; _2's end; _1; …; _0; …]
         calls-at ! fm (Roll 𝓤 H A at-mem run) known (to α γ l₂) (and-then ! (load ! (from ! (stop !)) (look ! 2 refl)) (no-more !)) (λ v.
         use1 W (later (some (λ (r : ℕ). ((‵ (flft (κ α γ l₂) fullShare) ⊛ ‵ ftrue) ⊛ ‵ (u8 .own r (v ∷ []))) ⊛ some
-            (λ (ws : Lasts roll.ended (κ α γ l₂, tt) (x α γ l₂)). ‵ (lasts roll.ended (κ α γ l₂, tt) (x α γ l₂) ws) ⊛ raw (fact 𝓤 (Rolled r (ws .0)))))))
-            (id⊢ 𝓤 _) $
+        (λ (ws : Lasts roll.ended (κ α γ l₂, tt) (x α γ l₂)). ‵ (lasts roll.ended (κ α γ l₂, tt) (x α γ l₂) ws) ⊛ raw (fact 𝓤 (Rolled r (ws .0)))))))
+        (id⊢ 𝓤 _) $
         await ! tt $ pick ! (λ r. split ! $ move ! (1 ∷ []) $ pick ! (λ ws. split ! $ move ! (1 ∷ []) $ heard ! (Rolled r (ws .0)) (λ e. fsplit ! $
         rewrite ! 0 (λ (z : Date). ‵ (fres γ (D.the-row .coded .code z))) (e .1) refl $
         move ! (2 ∷ []) $ split ! $ move ! (1 ∷ []) $ facts ! u8 (Is u8) (shows 𝓤 H A u8) r (v ∷ []) (λ is-r. split ! $
@@ -136,11 +136,11 @@ module _ {M : Type 1} (𝓤 : URA M) (H : Heap 𝓤) (A : Atoms 𝓤) (W : Given
         use3 W (later (‵ (mem D.the-row .lies (rollDate d) l₂ 0))) (ref-back 𝓤 H A W D.the-row (α ∷ []) γ (rollDate d) l₂ 0) $ await ! tt $
         fpick ! (λ vs. fsplit ! $
         spelt ! D.the-row (Is D.the-row) (shows 𝓤 H A D.the-row) (LL.vals D.the-type D′.the-laws) (LL.tells D.the-type D′.the-laws) fullShare
-            (rollDate d) vs l₂ 0 $
+        (rollDate d) vs l₂ 0 $
         move ! (1 ∷ []) $ facts ! D.the-row (Is D.the-row) (shows 𝓤 H A D.the-row) (rollDate d) (dateVal (rollDate d) ∷ []) (λ was.
         use1 W (‵ (fat fullShare D′.mir l₂ 0 (dateVal (rollDate d)))) (W .laws .raw-at fullShare D′.mir l₂ 0 (dateVal (rollDate d))) $
         assigns ! (of-opd ! (load ! (from ! (stop !)) (look ! 0 refl))) (from ! (stop !))
-            (init ! 8 refl (LL.lawful D.the-type D′.the-laws 𝓤 H A W .typed (rollDate d) _ was .0)) $
+        (init ! 8 refl (LL.lawful D.the-type D′.the-laws 𝓤 H A W .typed (rollDate d) _ was .0)) $
         returns ! (look ! 8 refl) $ forget ! 0 refl $ forget ! 1 refl $ forget ! 3 refl $ forget ! 6 refl $ forget ! 8 refl $
         move ! (8 ∷ 9 ∷ []) $ free1 ! $ move ! (6 ∷ 7 ∷ []) $ free1 ! $ move ! (0 ∷ 5 ∷ []) $ free1 ! $ move ! (2 ∷ 3 ∷ []) $ free1 ! $ free1 ! $ free0 ! $
         by ! (exits was)))))))))))))))

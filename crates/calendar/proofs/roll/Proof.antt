@@ -97,7 +97,7 @@ module _ {M : Type 1} (𝓤 : URA M) (H : Heap 𝓤) (A : Atoms 𝓤) (W : Given
   exits s v is e =
       qed W (‵ (fobs γ (D.the-row .coded .code (s .date))) ∷ ‵ (fbor κ (Body (mem D.the-row) b o γ)) ∷ ‵ (flft κ q) ∷ []) ∵
       suffices ! _ (ends-at 𝓤 H A roll.ended stayed (roll.clauses 𝓤 H A at-mem run) W (((κ, tt), (q, tt), tt, x, at), tt) (vint w8 (s .code)) (s .code)
-          (s .date, tt) (tt, tt)) $ says ! (e .1, e .0) $
+      (s .date, tt) (tt, tt)) $ says ! (e .1, e .0) $
       nothing ! $ move ! (3 ∷ 0 ∷ []) $ join ! $ frame ! $ feqI ! (List Val) (vptr b o ∷ []) (vptr b o ∷ []) refl $ fjoin3 ! $ nothing ! $
       move ! (1 ∷ 0 ∷ []) $ fjoin ! $ frame ! $
       owned ! u8 (Is u8) (uint-makes 𝓤 H A W w8) (s .code) _ (LL.owed S.the-type S′.the-laws s _ is .1 .0) $ done !
@@ -123,25 +123,25 @@ module _ {M : Type 1} (𝓤 : URA M) (H : Heap 𝓤) (A : Atoms 𝓤) (W : Given
         alloc1 ! (λ l₀. alloc1 ! (λ l₁. alloc1 ! (λ l₂. alloc1 ! (λ l₃. alloc0 ! $ params1 ! $ pass1 ! (init ! 4 refl (tt, tt)) $ pass0 ! $
         -- [_3; …; _2; …; _1; …; _0; …; obs; the borrow; the token]: the borrow is opened
         move ! (8 ∷ 9 ∷ 10 ∷ []) $ opens ! tt D.the-row {h = h} b o
-            (λ vs. spelt ! D.the-row (Is D.the-row) (shows 𝓤 H A D.the-row) (LL.vals D.the-type D′.the-laws)
-            (LL.tells D.the-type D′.the-laws) fullShare h vs b o $
+        (λ vs. spelt ! D.the-row (Is D.the-row) (shows 𝓤 H A D.the-row) (LL.vals D.the-type D′.the-laws)
+        (LL.tells D.the-type D′.the-laws) fullShare h vs b o $
         move ! (1 ∷ []) $ facts ! D.the-row (Is D.the-row) (shows 𝓤 H A D.the-row) h (dateVal h ∷ []) (λ was.
         -- [the date's cell; the open borrow; obs; auth; _3; …; _2; …; _1; …; _0; …]
         assigns ! (of-opd ! (load ! (from ! (hop ! (look ! 8 refl) (stop !))) (look-raw ! 0 refl))) (from ! (stop !))
-            (init ! 4 refl (LL.lawful D.the-type D′.the-laws 𝓤 H A W .typed h _ was .0)) $
+        (init ! 4 refl (LL.lawful D.the-type D′.the-laws 𝓤 H A W .typed h _ was .0)) $
         owned ! D.the-row (Is D.the-row) (LL.makes D.the-type D′.the-plain 𝓤 H A) h _ was $ use1 W (raw (Step 𝓤 H A at-mem run .pre to)) goes-in $
         calls-at ! fm (Step 𝓤 H A at-mem run) known to (and-then ! (load ! (from ! (stop !)) (look ! 5 refl)) (no-more !)) (λ v.
         use1 W (later (some (λ (s : Stepped). (‵ ftrue ⊛ ‵ (S.the-row .own s (v ∷ [])))
-            ⊛ raw (ensured 𝓤 H A step.ended (step.clauses 𝓤 H A at-mem run) tt (h, tt) tt s)))) (id⊢ 𝓤 _) $ await ! tt $ pick ! (λ s.
+        ⊛ raw (ensured 𝓤 H A step.ended (step.clauses 𝓤 H A at-mem run) tt (h, tt) tt s)))) (id⊢ 𝓤 _) $ await ! tt $ pick ! (λ s.
         split ! $ move ! (1 ∷ []) $ use1 W (raw (fact 𝓤 (Rolled h s))) (said s) $ heard ! (Rolled h s) (λ e. split ! $ drop ! $
         facts ! S.the-row (Is S.the-row) (shows 𝓤 H A S.the-row) s (v ∷ []) (λ is.
         land ! (from ! (stop !)) (init ! 6 refl (LL.lawful S.the-type S′.the-laws 𝓤 H A W .typed s _ is .0)) $
         -- [the date's cell; the open borrow; obs; auth; _3; …; _2, the answer; …; _1; …; _0; …]: the answer is spelled out, so that its fields can be read
         rewrite ! 6 (λ (u : Val). ‵ (fat fullShare S′.mir l₂ 0 u)) (ap only (LL.tells S.the-type S′.the-laws s _ is)) refl $
         assigns ! (of-opd ! (load ! (from ! (fld ! refl (stop !))) (look-in ! 6 (sub ! 0 refl (whole !))))) (from ! (hop ! (look ! 8 refl) (stop !)))
-            (store-raw ! 0 refl (LL.lawful D.the-type D′.the-laws 𝓤 H A W .typed (s .date) _ (date-in s v is) .0)) $
+        (store-raw ! 0 refl (LL.lawful D.the-type D′.the-laws 𝓤 H A W .typed (s .date) _ (date-in s v is) .0)) $
         assigns ! (of-opd ! (load ! (from ! (fld ! refl (stop !))) (look-in ! 6 (sub ! 1 refl (whole !))))) (from ! (stop !))
-            (init ! 10 refl (tt, record { fits = LL.owed S.the-type S′.the-laws s _ is .1 .0 .1 })) $
+        (init ! 10 refl (tt, record { fits = LL.owed S.the-type S′.the-laws s _ is .1 .0 .1 })) $
         owned ! D.the-row (Is D.the-row) (LL.makes D.the-type D′.the-plain 𝓤 H A) (s .date) _ (date-in s v is) $ move ! (1 ∷ 0 ∷ []) $
         closes ! tt D.the-row (s .date) (dateVal (s .date) ∷ []) b o $
         returns ! (look ! 9 refl) $ forget ! 3 refl $ forget ! 5 refl $ forget ! 7 refl $ forget ! 9 refl $
@@ -155,7 +155,7 @@ module _ {M : Type 1} (𝓤 : URA M) (H : Heap 𝓤) (A : Atoms 𝓤) (W : Given
       walked 𝓤 H A roll.ended stayed (roll.clauses 𝓤 H A mem run) (WpFn 𝓤 H C Λ code.function) (λ κs. (ptr-vals, tt))
       (λ κs. (mut-tells (named 0) (κs .0) D.the-row, tt))
       (λ κs qs bounds a _ _. via 𝓤 _ (fst∗ 𝓤 _ (emp 𝓤)) (walk 𝓤 H A W mem run (κs .0) (qs .0) (a .0 .ptr .0) (a .0 .ptr .1) (a .0 .name)
-          (a .0 .now) C Λ fm known))
+      (a .0 .now) C Λ fm known))
 
   goes : AllGo 𝓤 H A W 1 (roll.signature .params) (roll.ended .kept) stayed
   goes = (goes-ref 𝓤 H A W 1 0 tt (plain (λ _. D.the-row)), tt)

@@ -167,7 +167,7 @@ module _ {M : Type 1} (𝓤 : URA M) (H : Heap 𝓤) (A : Atoms 𝓤) (W : Given
     exits : (f : Opening) → Is Op.the-row f (openVal f ∷ []) → f ≡ findOf ws m → ent 𝓤 (⋆ 𝓤 H A (‵ (flft κ q) ∷ ‵ Own ∷ [])) (Post (openVal f))
     exits f is e =
         qed W (‵ (flft κ q) ∷ ‵ Own ∷ []) ∵ suffices ! _ (ends-at 𝓤 H A find.ended stayed (find.clauses 𝓤 H A at-mem run) W
-            (((κ, tt), (q, tt), tt, x, at), tt) (openVal f) f (tt, (tt, tt)) (tt, (tt, tt))) $ says ! e $
+        (((κ, tt), (q, tt), tt, x, at), tt) (openVal f) f (tt, (tt, tt)) (tt, (tt, tt))) $ says ! e $
         nothing ! $ move ! (1 ∷ 0 ∷ []) $ join ! $ frame ! $ nothing ! $
         owned ! Mo.the-row (Is Mo.the-row) (LL.makes Mo.the-type Mo′.the-plain 𝓤 H A) m _ is-m $ fjoin ! $ move ! (1 ∷ 0 ∷ []) $ fjoin ! $ frame ! $
         owned ! Op.the-row (Is Op.the-row) (EL.makes Op.the-type Op′.the-plain 𝓤 H A) f _ is $ done !
@@ -205,13 +205,13 @@ module _ {M : Type 1} (𝓤 : URA M) (H : Heap 𝓤) (A : Atoms 𝓤) (W : Given
       unfolding afterTurn goes-on
       turn-at s false e =
           assigns ! (of-opd ! (load ! (from ! (fld ! refl (stop !))) (look-in ! 17 (sub ! 1 refl (whole !))))) (from ! (stop !))
-              (init ! 7 refl (tt, record { fits = g .0 })) $
+          (init ! 7 refl (tt, record { fits = g .0 })) $
           assigns ! (bin ! (load ! (from ! (stop !)) (look ! 11 refl)) (load ! (from ! (stop !)) (look ! 7 refl)) tt) (from ! (stop !))
-              (init ! 5 refl (tt, tt)) $
+          (init ! 5 refl (tt, tt)) $
           rewrite ! 5 (λ (t : Bool). ‵ (fat fullShare tyBool l₇ 0 (vbool t))) e refl $ leaves-loop ! (load ! (from ! (stop !)) (look ! 5 refl)) $
           exec ! (𝓣 .C) (𝓣 .Λ) En body.t-5 (atRet En Post) $
           assigns ! (of-opd ! (load ! (from ! (stop !)) (look ! 13 refl))) (from ! (stop !))
-              (init ! 19 refl (EL.lawful Op.the-type Op′.the-laws 𝓤 H A W tt .typed (s .acc) _ (s .good) .0)) $
+          (init ! 19 refl (EL.lawful Op.the-type Op′.the-laws 𝓤 H A W tt .typed (s .acc) _ (s .good) .0)) $
           move ! (0 ∷ 21 ∷ []) $ shuts-slice ! tt Win.the-row q′ ws b o $
           -- [the token; _9; …; _0; …; the fractured borrow; res; the slice's fact]
           returns ! (look ! 19 refl) $ forget ! 5 refl $ forget ! 7 refl $ forget ! 11 refl $ forget ! 13 refl $ forget ! 15 refl $ forget ! 17 refl $
@@ -223,37 +223,37 @@ module _ {M : Type 1} (𝓤 : URA M) (H : Heap 𝓤) (A : Atoms 𝓤) (W : Given
           by ! (exits (s .acc) (s .good) (at-end (fold m n) ws s (ltb-false _ _ e) ∙ pass-finds ws m))
       turn-at s true e =
           assigns ! (of-opd ! (load ! (from ! (fld ! refl (stop !))) (look-in ! 17 (sub ! 1 refl (whole !))))) (from ! (stop !))
-              (init ! 7 refl (tt, record { fits = g .0 })) $
+          (init ! 7 refl (tt, record { fits = g .0 })) $
           assigns ! (bin ! (load ! (from ! (stop !)) (look ! 11 refl)) (load ! (from ! (stop !)) (look ! 7 refl)) tt) (from ! (stop !))
-              (init ! 5 refl (tt, tt)) $
+          (init ! 5 refl (tt, tt)) $
           rewrite ! 5 (λ (t : Bool). ‵ (fat fullShare tyBool l₇ 0 (vbool t))) e refl $ stays ! (load ! (from ! (stop !)) (look ! 5 refl)) $
           assigns ! (bin ! (load ! (from ! (stop !)) (look ! 11 refl)) (lit ! tt) (record { fits = scaled small (g .1) })) (from ! (stop !))
-              (store ! 7 refl (tt, record { fits = scaled small (g .1) })) $
+          (store ! 7 refl (tt, record { fits = scaled small (g .1) })) $
           assigns ! (bin ! (load ! (from ! (fld ! refl (stop !))) (look-in ! 17 (sub ! 0 refl (whole !)))) (load ! (from ! (stop !)) (look ! 7 refl)) tt)
-              (from ! (stop !)) (init ! 3 refl (tt, tt)) $
+          (from ! (stop !)) (init ! 3 refl (tt, tt)) $
           rewrite ! 3 (λ (p : ℕ). ‵ (fat fullShare tyPtr l₈ 0 (vptr b p))) (sym (place-is 12 o (s .i))) refl $
           elem-out ! Win.the-row (Is Win.the-row) (shows 𝓤 H A Win.the-row) (LL.vals Win.the-type Win′.the-laws) (LL.tells Win.the-type Win′.the-laws) q′ ws
-              (s .i) none b o small (λ is.
+          (s .i) none b o small (λ is.
           -- [the window's cell; what it owns; the others; _9; …; _8; …]
           assigns ! (of-opd ! (load ! (from ! (hop ! (look ! 5 refl) (stop !))) (look-raw ! 0 refl))) (from ! (stop !))
-              (init ! 3 refl (LL.lawful Win.the-type Win′.the-laws 𝓤 H A W .typed w _ is .0)) $
+          (init ! 3 refl (LL.lawful Win.the-type Win′.the-laws 𝓤 H A W .typed w _ is .0)) $
           elem-back ! Win.the-row q′ ws (s .i) none (winVal w ∷ []) b o small $
           owned ! Mo.the-row (Is Mo.the-row) (LL.makes Mo.the-type Mo′.the-plain 𝓤 H A) m _ is-m $
           owned ! Win.the-row (Is Win.the-row) (LL.makes Win.the-type Win′.the-plain 𝓤 H A) w _ is $
           owned ! Op.the-row (Is Op.the-row) (EL.makes Op.the-type Op′.the-plain 𝓤 H A) (s .acc) _ (s .good) $
           use3 W (raw (With 𝓤 H A at-mem run .pre (to (s .acc) w))) (goes-in (s .acc) w) $
           calls-at ! (fmOf 𝓤 H (W .laws) 𝓣) (With 𝓤 H A at-mem run) known (to (s .acc) w)
-              (and-then ! (load ! (from ! (stop !)) (look ! 14 refl))
-              (and-then ! (load ! (from ! (stop !)) (look ! 2 refl)) (and-then ! (load ! (from ! (stop !)) (look ! 16 refl)) (no-more !)))) (λ v.
+          (and-then ! (load ! (from ! (stop !)) (look ! 14 refl))
+          (and-then ! (load ! (from ! (stop !)) (look ! 2 refl)) (and-then ! (load ! (from ! (stop !)) (look ! 16 refl)) (no-more !)))) (λ v.
           use1 W (later (some (λ (r : Opening). (‵ ftrue ⊛ ‵ (Op.the-row .own r (v ∷ [])))
-              ⊛ raw (ensured 𝓤 H A with-window.ended (with-window.clauses 𝓤 H A at-mem run) tt (s .acc, (w, (m, tt))) tt r)))) (id⊢ 𝓤 _) $ await ! tt $
-              pick ! (λ r.
+          ⊛ raw (ensured 𝓤 H A with-window.ended (with-window.clauses 𝓤 H A at-mem run) tt (s .acc, (w, (m, tt))) tt r)))) (id⊢ 𝓤 _) $ await ! tt $
+          pick ! (λ r.
           split ! $ move ! (1 ∷ []) $ use1 W (raw (fact 𝓤 (r ≡ withWindow m (s .acc) w))) (said (s .acc) w r) $
           heard ! (r ≡ withWindow m (s .acc) w) (λ chosen. split ! $ drop ! $ facts ! Op.the-row (Is Op.the-row) (shows 𝓤 H A Op.the-row) r (v ∷ []) (λ is-r.
           land ! (from ! (stop !)) (store ! 13 refl (EL.lawful Op.the-type Op′.the-laws 𝓤 H A W tt .typed r _ is-r .0)) $
           rewrite ! 13 (λ (u : Val). ‵ (fat fullShare Op′.mir l₃ 0 u)) (ap only (EL.tells Op.the-type Op′.the-laws r _ is-r)) refl $
           assigns-last ! (bin ! (load ! (from ! (stop !)) (look ! 11 refl)) (lit ! tt) (record { fits = next-fits small (g .0) })) (from ! (stop !))
-              (store ! 11 refl (tt, record { fits = next-fits small (g .0) })) $
+          (store ! 11 refl (tt, record { fits = next-fits small (g .0) })) $
           forget ! 1 refl $ forget ! 3 refl $ forget ! 5 refl $ forget ! 7 refl $
           again ! (Less (fold m n) ws) I s (goes-on (fold m n) ws s r (spelled r v is-r) small chosen) (nearer small))))))
         where
@@ -284,13 +284,13 @@ module _ {M : Type 1} (𝓤 : URA M) (H : Heap 𝓤) (A : Atoms 𝓤) (W : Given
         pass1 ! (init ! 16 refl (tt, (tt, (record { fits = g .0 }, tt)))) $
         pass1 ! (init ! 14 refl (LL.lawful Mo.the-type Mo′.the-laws 𝓤 H A W .typed m _ is-m .0)) $ pass0 ! $
         assigns ! (of-opd ! (load ! (from ! (fld ! refl (stop !))) (look-in ! 16 (sub ! 1 refl (whole !))))) (from ! (stop !))
-            (init ! 8 refl (tt, record { fits = g .0 })) $
+        (init ! 8 refl (tt, record { fits = g .0 })) $
         owned ! Mo.the-row (Is Mo.the-row) (LL.makes Mo.the-type Mo′.the-plain 𝓤 H A) m _ is-m $
         owned ! usize (Is usize) (uint-makes 𝓤 H A W w64) n _ (refl, g .0) $ use2 W (raw (Asked 𝓤 H A at-mem run .pre (to-ask n))) (in-ask n) $
         calls-at ! (fmOf 𝓤 H (W .laws) 𝓣) (Asked 𝓤 H A at-mem run) (known .asks) (to-ask n)
-            (and-then ! (load ! (from ! (stop !)) (look ! 9 refl)) (and-then ! (load ! (from ! (stop !)) (look ! 15 refl)) (no-more !))) (λ v.
+        (and-then ! (load ! (from ! (stop !)) (look ! 9 refl)) (and-then ! (load ! (from ! (stop !)) (look ! 15 refl)) (no-more !))) (λ v.
         use1 W (later (some (λ (r : Opening). (‵ ftrue ⊛ ‵ (Op.the-row .own r (v ∷ [])))
-            ⊛ raw (ensured 𝓤 H A asked.ended (asked.clauses 𝓤 H A at-mem run) tt (n, (m, tt)) tt r)))) (id⊢ 𝓤 _) $ await ! tt $ pick ! (λ r.
+        ⊛ raw (ensured 𝓤 H A asked.ended (asked.clauses 𝓤 H A at-mem run) tt (n, (m, tt)) tt r)))) (id⊢ 𝓤 _) $ await ! tt $ pick ! (λ r.
         split ! $ move ! (1 ∷ []) $ use1 W (raw (fact 𝓤 (r ≡ startOf n m))) (said-ask n r) $ heard ! (r ≡ startOf n m) (λ answered. split ! $ drop ! $
         facts ! Op.the-row (Is Op.the-row) (shows 𝓤 H A Op.the-row) r (v ∷ []) (λ is-r.
         land ! (from ! (stop !)) (init ! 12 refl (EL.lawful Op.the-type Op′.the-laws 𝓤 H A W tt .typed r _ is-r .0)) $
@@ -299,11 +299,11 @@ module _ {M : Type 1} (𝓤 : URA M) (H : Heap 𝓤) (A : Atoms 𝓤) (W : Given
         assigns ! (of-opd ! (lit ! tt)) (from ! (stop !)) (init ! 10 refl (tt, record { fits = lit< tt })) $
         move ! (20 ∷ 21 ∷ []) $
         looks-slice ! tt Win.the-row (Is Win.the-row) (shows 𝓤 H A Win.the-row) (LL.vals Win.the-type Win′.the-laws) (LL.tells Win.the-type Win′.the-laws)
-            (LL.copy Win.the-type Win′.the-copy 𝓤 H A W) ws b o (λ q′.
+        (LL.copy Win.the-type Win′.the-copy 𝓤 H A W) ws b o (λ q′.
         -- [the row; what shuts it; the fractured borrow; _9; …; _0; …; res; the slice's fact]
         keep ! (0 ∷ 3 ∷ 4 ∷ 5 ∷ 6 ∷ 7 ∷ 8 ∷ 9 ∷ 10 ∷ 11 ∷ 12 ∷ 13 ∷ 14 ∷ 15 ∷ 16 ∷ 17 ∷ 18 ∷ 19 ∷ 20 ∷ 21 ∷ 22 ∷ 1 ∷ 2 ∷ 23 ∷ 24 ∷ []) $
         looped 𝓣 (known .tests) g l₀ l₁ l₂ l₃ l₄ l₅ l₆ l₇ l₈ l₉ q′
-            (subst (λ (f : Opening). Is Op.the-row f (openVal f ∷ [])) answered (spelled r v is-r)))))))))))))))))
+        (subst (λ (f : Opening). Is Op.the-row f (openVal f ∷ [])) answered (spelled r v is-r)))))))))))))))))
 
 module _ {M : Type 1} (𝓤 : URA M) (H : Heap 𝓤) (A : Atoms 𝓤) (W : Given 𝓤 H A) (mem : Memory → SProp 𝓤) (run : Routine → Fun 𝓤) where
   find-walks : (𝓣 : Tables 𝓤 H) → Known 𝓤 H A mem run 𝓣 → Walks 𝓤 H A find.ended stayed (WpFn 𝓤 H (𝓣 .C) (𝓣 .Λ) code.function) (find.clauses 𝓤 H A mem run)
@@ -312,7 +312,7 @@ module _ {M : Type 1} (𝓤 : URA M) (H : Heap 𝓤) (A : Atoms 𝓤) (W : Given
       (λ κs. (slice-vals, (LL.vals Mo.the-type Mo′.the-laws, tt)))
       (λ κs. (shr-slice-tells (named 0) (κs .0) Win.the-row, (LL.tells Mo.the-type Mo′.the-laws, tt)))
       (λ κs qs bounds a _ are. via 𝓤 _ (fst∗ 𝓤 _ (emp 𝓤)) (walk 𝓤 H A W mem run (a .1 .0) (are .1 .0) (κs .0) (qs .0) (a .0 .ptr .0) (a .0 .ptr .1)
-          (a .0 .name) (a .0 .now) 𝓣 known (are .0 .0 .1)))
+      (a .0 .name) (a .0 .now) 𝓣 known (are .0 .0 .1)))
 
   goes : AllGo 𝓤 H A W 1 (find.signature .params) (find.ended .kept) stayed
   goes = (goes-none-slice 𝓤 H A W 1 (0 ∷ []) tt (plain (λ _. Win.the-row)) yes, (goes-none 𝓤 H A W 1 (λ _. Mo.the-row) yes (λ κs x f. refl), tt))

@@ -3,6 +3,7 @@
 use std::collections::HashSet;
 
 use crate::cue::Cue;
+use crate::end::window_start;
 use crate::end::{Answer, Event, Status};
 use crate::message::{self, Message};
 use crate::HOSTS;
@@ -38,7 +39,10 @@ pub struct Book {
     /// By source: the cue under each number, "filed for good".
     filed: [Vec<Cue>; ENDS],
     /// By reader and source: the numbers handed out since joining, in order.
-    handed: [[Vec<u8>; ENDS]; ENDS],
+    handed: [[Vec<u16>; ENDS]; ENDS],
+    /// By reader and source: document 02, P7, "for each member and source from the first hand-out
+    /// since joining, the highest number L that unlooped DATA, RQST, REPL and SESS [...] brought".
+    highest: [[Option<u16>; ENDS]; ENDS],
     /// What the Outs of the list put out so far.
     put_out: HashSet<Vec<u8>>,
 }
@@ -61,6 +65,7 @@ impl Default for Book {
             status: [Status::Idle; ENDS],
             filed: Default::default(),
             handed: Default::default(),
+            highest: Default::default(),
             put_out: HashSet::new(),
         }
     }
@@ -122,6 +127,7 @@ impl Book {
         // host's handed-out numbers."
         if status == Status::Member {
             self.handed[host] = Default::default();
+            self.highest[host] = Default::default();
         }
         Answer::Done
     }
@@ -149,16 +155,45 @@ impl Book {
     /// first, isn't looped and meets the limits. It has the message's name and the
     /// filed cue, and the number is now handed out."
     fn arrival(&mut self, call: &Call, bytes: &[u8]) -> bool {
-        let Some((source, number, cue)) = self.deliverable(call.host, bytes) else {
+        let Some(message) = message::read(bytes).ok().and_then(|read| read.message()) else {
             return !is_got(call);
         };
-        self.handed[usize::from(call.host)][usize::from(source)].push(number);
-        call.answer == Answer::Got { source, number } && call.out.starts_with(&cue.0)
+        let got = self.deliverable(call.host, &message);
+        if let Some((source, number, _)) = got {
+            self.handed[usize::from(call.host)][usize::from(source)].push(number);
+        }
+        self.raise_highest(call.host, &message);
+        match got {
+            Some((source, number, cue)) => {
+                call.answer == Answer::Got { source, number } && call.out.starts_with(&cue.0)
+            }
+            None => !is_got(call),
+        }
+    }
+
+    /// P7: "for each member and source from the first hand-out since joining, the highest number L
+    /// that unlooped DATA, RQST, REPL and SESS [...] brought".
+    fn raise_highest(&mut self, reader: u8, message: &Message) {
+        let host = usize::from(reader);
+        if self.status[host] != Status::Member || message.sender == reader {
+            return;
+        }
+        let names = message.names.iter().map(|name| (name.source, name.number));
+        let reports = message
+            .reports
+            .iter()
+            .map(|report| (report.source, report.last));
+        for (source, number) in names.chain(reports) {
+            let source = usize::from(source);
+            if !self.handed[host][source].is_empty() {
+                let highest = &mut self.highest[host][source];
+                *highest = (*highest).max(Some(number));
+            }
+        }
     }
 
     /// The name and the filed cue that this arrival must hand out, if any.
-    fn deliverable(&self, reader: u8, bytes: &[u8]) -> Option<(u8, u8, Cue)> {
-        let message: Message = message::read(bytes).ok()?.message()?;
+    fn deliverable(&self, reader: u8, message: &Message) -> Option<(u8, u16, Cue)> {
         let name = *message.names.first()?;
         let source = usize::from(name.source);
         let handed = &self.handed[usize::from(reader)][source];
@@ -177,13 +212,16 @@ impl Book {
 
         // "The limits: the reader is a member and not the source; the name is
         // filed; its number is not below the first one handed out from that source
-        // since joining, if any, and not handed out since joining."
+        // since joining, if any, and not handed out since joining."; P7: "Got now also needs a
+        // number not below L−63."
+        let highest = self.highest[usize::from(reader)][source];
         let member = self.status[usize::from(reader)] == Status::Member;
         let cue = *self.filed[source].get(usize::from(name.number))?;
         let limits = member
             && reader != name.source
             && first.is_none_or(|&first| name.number >= first)
-            && !handed.contains(&name.number);
+            && !handed.contains(&name.number)
+            && highest.is_none_or(|highest| name.number >= window_start(highest));
 
         (kind && !looped && limits).then_some((name.source, name.number, cue))
     }

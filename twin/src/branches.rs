@@ -5,6 +5,7 @@
 use std::cell::{Cell, RefCell};
 
 use crate::end::{Answer, Event, Status};
+use crate::message;
 
 macro_rules! branches {
     ($($branch:ident $words:literal,)*) => {
@@ -77,7 +78,6 @@ branches! {
     SoundParams "sound: fields are in range: parameters",
     SoundClock "sound: fields are in range: clock",
     SoundNext "sound: fields are in range: next own cue number",
-    SoundNumber "sound: fields are in range: last",
     SoundOwnDistance "sound: fields are in range: distance to oneself",
     SoundDistance "sound: fields are in range: distance to another",
     SoundStamp "sound: fields are in range: heard stamp",
@@ -86,6 +86,9 @@ branches! {
     SoundRequester "sound: fields are in range: requester",
     SoundOwnLast "sound: own last, if any, is next−1",
     SoundFirst "sound: first ≤ last",
+    SoundSpan "sound: last − first at most 63",
+    SoundMissed "sound: the count is at most first",
+    SoundMissedClosed "sound: the count is 0 without a first",
     SoundOutside "sound: names outside first..last hold nothing",
     SoundOutsideQuiet "sound: names outside first..last have reply-quiet 0",
     SoundInside "sound: those inside have a cue or a request",
@@ -105,16 +108,22 @@ branches! {
     // Questions 2, 7
     FewDraws "2: fewer than 64 draws",
     ManyDraws "2: more than 64 draws",
-    NextAtSixtyFour "7: for a member",
-    NextNotAsked "7: not asked of a non-member with next number 64",
+    NextAtEnd "7: for a member, only at 65,536",
+    NextNotAsked "7: not asked of a non-member with next number 65,536",
+    NextBelowEnd "7: 65,535 is below",
 
     // Messages: question 8
     ShortMessage "8: lengths 1 to 11",
     CountsPastLength "8: counts past the length",
     LengthPastCounts "8: length past the counts",
+    OldSizes "8: kinds 1 to 4 are counted by the old sizes",
+    OldSizesMissed "8: kinds 1 to 4 in the new sizes: refused",
+    NewSizes "8: every other kind byte by the new",
+    NewSizesMissed "8: every other kind byte in the old sizes: refused",
 
     // Question 9
-    KindUnknown "9: kind 1..4",
+    KindUnknown "9: kind 17 to 20, or 1 to 4",
+    OldNotWritten "9: kinds 1 to 4 are no longer written",
     CountsOfData "9: DATA has 1,1,0,0",
     CountsOfRqst "9: RQST has 1,0,0,0",
     CountsOfRepl "9: REPL has 1,1,0,0",
@@ -124,11 +133,11 @@ branches! {
     SenderRange "10: sender",
     StampRange "10: stamp",
     NameSourceRange "10: name's source",
-    NameNumberRange "10: name's cue number",
+    NameNumberRange "10: kinds 1 to 4: name's cue number to 63",
     NameHostRange "10: name's host",
     CueRange "10: cue fields",
     ReportSourceRange "10: report's source",
-    ReportLastRange "10: report's last",
+    ReportLastRange "10: kinds 1 to 4: report's last to 63",
     EchoHostRange "10: echo's host",
     EchoStampRange "10: echo's stamp",
     EchoHeldRange "10: echo's held ticks",
@@ -143,6 +152,12 @@ branches! {
     ReportsRise "11: reports rise strictly by source",
     EchoesRise "11: echoes by host",
     EchoOfSender "11: no echo names the sender",
+
+    // The old kinds: document 02, P7
+    OldData "kind 1 is read as DATA",
+    OldRqst "kind 2 is read as RQST",
+    OldRepl "kind 3 is read as REPL",
+    OldSess "kind 4 is read as SESS",
 
     // Events by status
     CrashedIgnored "on a crashed end everything unrefused is Ignored",
@@ -184,6 +199,24 @@ branches! {
     SendFirst "Send: it becomes last, and first if none",
     SendLast "Send: it becomes last",
 
+    // When last rises: document 02, P7
+    RiseKeeps "rise: first stays at least L−63, nothing retired",
+    RiseRetiresSend "rise by Send: retired",
+    RiseRetiresData "rise by DATA: retired",
+    RiseRetiresRqst "rise by RQST: retired",
+    RiseRetiresRepl "rise by REPL: retired",
+    RiseRetiresSess "rise by SESS: retired",
+    RetiredHeld "rise: a number retired with its cue",
+    RetiredMissing "rise: a number retired without a cue is counted, with its wait",
+    RetiredReply "rise: a freed place had a waiting reply",
+    RetiredQuiet "rise: a freed place had a reply-quiet time",
+    PassedOver "rise: numbers passed over in one rise are counted",
+    PassedNone "rise: retired, none passed over",
+    RiseAll "rise: all of first..last are retired",
+    RiseSome "rise: some of first..last are retired",
+    LeaveMissed "Leave or Crash clears the count",
+    DrawAgain "draw n mod 64: of a number above 63",
+
     // Setting the next round
     RoundNext "next round: 2..15",
     RoundSixteen "next round: 16 after 15",
@@ -200,6 +233,7 @@ branches! {
     // DATA
     DataNoFirst "DATA: no first: first = last = the number, Got",
     DataBelow "DATA: below first: Ignored",
+    DataBelowFull "DATA: below first, which is L−63: Ignored",
     DataHeld "DATA: held with the same bytes: Ignored",
     DataClash "DATA: held with other bytes: Clash",
     DataWaiting "DATA: otherwise hold it, drop its request, Got",
@@ -209,6 +243,7 @@ branches! {
     // RQST
     RqstNoFirst "RQST: no first: Ignored",
     RqstBelow "RQST: below first: Ignored",
+    RqstBelowFull "RQST: below first, which is L−63: Ignored",
     RqstOwnAbove "RQST: own above last: Ignored",
     RqstReplyWaits "RQST: held, a reply waits: Ignored",
     RqstReplyQuiet "RQST: held, clock below reply-quiet: Ignored",
@@ -224,6 +259,7 @@ branches! {
     // REPL
     ReplNoFirst "REPL: a repair never opens a source: Ignored",
     ReplBelow "REPL: below first: Ignored",
+    ReplBelowFull "REPL: below first, which is L−63: Ignored",
     ReplOwnAbove "REPL: own above last: Ignored",
     ReplWaiting "REPL: not held: as DATA, Got",
     ReplNext "REPL: not held, above last, none between",
@@ -268,6 +304,7 @@ branches! {
     FireKind "Fire: ties: request before reply",
     FireSource "Fire: ties: then lower source",
     FireNumber "Fire: ties: lower number",
+    FireNumberNotPlace "Fire: ties: lower number, at the higher place",
 
     // The reason behind Ignored: document 02, P3
     WhyNone "reason: none",
@@ -347,8 +384,7 @@ pub fn take_answer(answer: Answer, out: &[u8]) {
     match answer {
         Answer::Refused(number) => take_refusal(Branch::Refused1, 1, number),
         Answer::Out(_) => {
-            let kind = usize::from(out[0]);
-            take(BRANCHES[Branch::OutData as usize + kind - 1].0);
+            take_nth(Branch::OutData, usize::from(out[0] - message::DATA));
         }
         Answer::Got { .. } => take(Branch::Got),
         Answer::Clash { .. } => take(Branch::Clash),

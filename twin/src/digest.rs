@@ -54,6 +54,7 @@ impl Digest {
             }
             _ => self.mix(0u8),
         }
+        self.mix(source.missed);
         self.mix(source.distance);
         match source.heard {
             Some(heard) => {

@@ -3,7 +3,7 @@
 use crate::branches::{self, take, unless, when, Branch};
 use crate::cue::Cue;
 use crate::message::{self, Datagram, Echo, Message, Name, Report};
-use crate::{Draw, CLOCK_MAX, DRAWS, HOSTS, NUMBERS, OUTPUT_LEN};
+use crate::{Draw, CLOCK_MAX, DRAWS, HOSTS, NUMBERS, OUTPUT_LEN, PLACES};
 
 /// "due and quiet times are below 2^48+2^32".
 pub const TIME_LIMIT: u64 = (1 << 48) + (1 << 32);
@@ -59,7 +59,7 @@ pub enum Body {
 }
 
 /// What an end keeps for one name. The cue bytes mean something only beside
-/// `Held`; otherwise they are free and nothing looks at them.
+/// `Held`; otherwise they are free and nothing looks at them. Number n stands at place n mod 64.
 #[derive(Clone, Copy, Debug, PartialEq, Eq)]
 pub struct Record {
     pub body: Body,
@@ -76,14 +76,17 @@ pub struct Heard {
 }
 
 /// "For each of the eight hosts an end keeps first and last (both or neither),
-/// distance, the latest stamp heard from it and when", and its names.
+/// distance, the latest stamp heard from it and when", and its names; by document 02, P7, "the
+/// latest 64 numbers of each source" and the count of "the numbers retired without a cue since
+/// joining".
 #[derive(Clone, Copy, Debug, PartialEq, Eq)]
 pub struct Source {
-    pub first: Option<u8>,
-    pub last: Option<u8>,
+    pub first: Option<u16>,
+    pub last: Option<u16>,
+    pub missed: u32,
     pub distance: u64,
     pub heard: Option<Heard>,
-    pub names: [Record; NUMBERS as usize],
+    pub names: [Record; PLACES as usize],
 }
 
 /// An end. Any value of any field can be written down, sound or not.
@@ -93,7 +96,7 @@ pub struct End {
     pub params: Params,
     pub clock: u64,
     pub status: Status,
-    pub next: u8,
+    pub next: u32,
     pub sources: [Source; HOSTS as usize],
 }
 
@@ -120,12 +123,12 @@ pub enum Answer {
     /// "Got (name, and its cue in the first 24)".
     Got {
         source: u8,
-        number: u8,
+        number: u16,
     },
     /// Document 02, P4: "a new answer, Clash, with the name".
     Clash {
         source: u8,
-        number: u8,
+        number: u16,
     },
     Done,
     Ignored,
@@ -142,8 +145,21 @@ const OWN_DISTANCE: u64 = 0;
 /// "Parameters C1, C2, C3, D1, D2, D3 are 0..32 quarters".
 const PARAM_MAX: u8 = 32;
 
-/// "the next own cue number, 0..64".
-const NEXT_MAX: u8 = NUMBERS;
+/// "the next own cue number, 0..64", with P7's numbers 0..65536.
+const NEXT_MAX: u32 = NUMBERS;
+
+/// Document 02, P7: "A sound state has last − first at most 63".
+const SPAN_MAX: u16 = 63;
+
+/// P7: "An end keeps the latest 64 numbers of each source: when last rises to L, numbers below L−63 are retired".
+pub fn window_start(last: u16) -> u16 {
+    last.saturating_sub(SPAN_MAX)
+}
+
+/// The place of a number's record, and of its draw: "Cue number n uses draw n mod 64."
+pub fn place_of(number: u16) -> usize {
+    usize::from(number % u16::from(PLACES))
+}
 
 impl Status {
     /// "Join: idle to joining. Joined: joining to member. Leave: joining or member to
@@ -253,40 +269,114 @@ impl Source {
         Source {
             first: None,
             last: None,
+            missed: 0,
             distance,
             heard: None,
-            names: [Record::EMPTY; NUMBERS as usize],
+            names: [Record::EMPTY; PLACES as usize],
         }
     }
 
-    /// "first and last (both or neither)"; "first ≤ last"; "cue numbers 0..63".
+    /// "first and last (both or neither)"; "first ≤ last"; document 02, P7: "A sound state has
+    /// last − first at most 63, and that count at most first, 0 without one."
     fn span_sound(&self) -> bool {
         match (self.first, self.last) {
-            (None, None) => true,
+            (None, None) => unless(self.missed == 0, Branch::SoundMissedClosed),
             (Some(first), Some(last)) => {
                 unless(first <= last, Branch::SoundFirst)
-                    && unless(last < NUMBERS, Branch::SoundNumber)
+                    && unless(last - first <= SPAN_MAX, Branch::SoundSpan)
+                    && unless(self.missed <= u32::from(first), Branch::SoundMissed)
             }
             _ => false,
         }
     }
 
-    /// Is the number inside first..last?
-    fn spans(&self, number: u8) -> bool {
-        match (self.first, self.last) {
-            (Some(first), Some(last)) => (first..=last).contains(&number),
-            _ => false,
-        }
+    /// The numbers first..last, if any.
+    pub fn numbers(&self) -> impl Iterator<Item = u16> {
+        let span = self.first.zip(self.last);
+        span.into_iter().flat_map(|(first, last)| first..=last)
+    }
+
+    /// What is kept of a number: its record, where it is inside first..last.
+    pub fn kept(&self, number: u16) -> Option<&Record> {
+        let (first, last) = self.first.zip(self.last)?;
+        let inside = (first..=last).contains(&number);
+        inside.then(|| &self.names[place_of(number)])
+    }
+
+    /// Has a number of first..last this place? It is so many numbers after first.
+    fn serves(&self, place: usize) -> bool {
+        let places = usize::from(PLACES);
+        self.first.zip(self.last).is_some_and(|(first, last)| {
+            let after = (place + places - place_of(first)) % places;
+            usize::from(first) + after <= usize::from(last)
+        })
     }
 
     /// Is there a first, and the number below it?
-    fn is_below_first(&self, number: u8) -> bool {
+    fn is_below_first(&self, number: u16) -> bool {
         self.first.is_some_and(|first| number < first)
     }
 
     /// Is there a last, and the number above it?
-    fn is_above_last(&self, number: u8) -> bool {
+    fn is_above_last(&self, number: u16) -> bool {
         self.last.is_some_and(|last| number > last)
+    }
+
+    /// The window is full: first is L−63, and not for being the least number.
+    fn is_full(&self) -> bool {
+        let span = self.first.zip(self.last);
+        span.is_some_and(|(first, last)| last - first == SPAN_MAX)
+    }
+}
+
+/// Last rises: document 02, P7.
+impl Source {
+    /// "when last rises to L, numbers below L−63 are retired with their waits, first becomes the
+    /// greater of itself and L−63, and the freed places serve the new numbers." The source is
+    /// open, and L above its last. The branch is taken where a number is retired.
+    fn rise(&mut self, to: u16, retires: Branch) {
+        let Some((first, last)) = self.first.zip(self.last) else {
+            return;
+        };
+        let start = window_start(to);
+        when(first >= start, Branch::RiseKeeps);
+        if when(first < start, retires) {
+            take(if last < start {
+                Branch::RiseAll
+            } else {
+                Branch::RiseSome
+            });
+            self.retire(first, last, start);
+        }
+        self.first = Some(first.max(start));
+        self.last = Some(to);
+        // "the freed places serve the new numbers": nothing was kept of a new number, so its
+        // record starts blank, free cue bytes too.
+        for number in (last + 1).max(start)..=to {
+            self.names[place_of(number)] = Record::EMPTY;
+        }
+    }
+
+    /// "Per source the end counts the numbers retired without a cue since joining, those passed
+    /// over in one rise included": of the numbers first..last those below the window that are
+    /// not held, and of the numbers above last all that are below the window.
+    fn retire(&mut self, first: u16, last: u16, start: u16) {
+        for number in (first..=last).filter(|&number| number < start) {
+            let record = self.names[place_of(number)];
+            when(record.reply.is_some(), Branch::RetiredReply);
+            when(record.reply_quiet > 0, Branch::RetiredQuiet);
+            if unless(!record.is_held(), Branch::RetiredHeld) {
+                take(Branch::RetiredMissing);
+                self.missed += 1;
+            }
+        }
+        let passed_over = u32::from(start.saturating_sub(last.saturating_add(1)));
+        take(if passed_over > 0 {
+            Branch::PassedOver
+        } else {
+            Branch::PassedNone
+        });
+        self.missed += passed_over;
     }
 }
 
@@ -393,7 +483,7 @@ impl End {
     /// "own last, if any, is next−1".
     fn own_last_sound(&self) -> bool {
         let last = self.source(self.host).last;
-        let sound = last.is_none_or(|last| self.next.checked_sub(1) == Some(last));
+        let sound = last.is_none_or(|last| self.next.checked_sub(1) == Some(last.into()));
         unless(sound, Branch::SoundOwnLast)
     }
 
@@ -402,7 +492,7 @@ impl End {
         kept.span_sound()
             && self.distance_sound(source)
             && self.heard_sound(source)
-            && (0..NUMBERS).all(|number| self.record_sound(source, number))
+            && (0..PLACES).all(|place| self.record_sound(source, place))
     }
 
     /// "A distance (half a round trip) is 1..1000 whole milliseconds, at first 40; to
@@ -429,9 +519,12 @@ impl End {
 
     /// "names outside first..last hold nothing and have reply-quiet 0; those inside have
     /// a cue or a request, own ones a cue"; "due and quiet times are below 2^48+2^32".
-    fn record_sound(&self, source: u8, number: u8) -> bool {
-        let record = self.record(source, number);
-        if !self.source(source).spans(number) {
+    /// A place that no number of first..last has is a name's outside.
+    fn record_sound(&self, source: u8, place: u8) -> bool {
+        let place = usize::from(place);
+        let kept = self.source(source);
+        let record = &kept.names[place];
+        if !kept.serves(place) {
             return record.is_empty();
         }
         self.body_sound(source, record)
@@ -521,14 +614,15 @@ impl End {
     }
 
     /// "Send: are offsets and lamp in range? 6. For a member, is the next number below
-    /// 64? 7."
+    /// 64? 7." Document 02, P7: "Number 7 comes only at 65,536".
     fn questions_of_send(&self, cue: &Cue) -> Result<(), u8> {
         message::ask(cue.in_range(), 6)?;
         if self.next < NUMBERS {
+            when(self.next == NUMBERS - 1, Branch::NextBelowEnd);
             return Ok(());
         }
         let asked = unless(self.status == Status::Member, Branch::NextNotAsked);
-        message::ask(!when(asked, Branch::NextAtSixtyFour), 7)
+        message::ask(!when(asked, Branch::NextAtEnd), 7)
     }
 
     /// "An unrefused event sets the clock. On a crashed end everything unrefused is
@@ -572,29 +666,32 @@ impl End {
     }
 
     /// "These give Done"; "Leave and Crash clear firsts, names and heard stamps and set
-    /// distances to others to 40. The next own number stays."
+    /// distances to others to 40. The next own number stays." The count is one "since joining",
+    /// and "0 without" a first.
     fn move_to(&mut self, status: Status) -> Answer {
         self.status = status;
         if matches!(status, Status::Leaving | Status::Crashed) {
+            let missed = self.sources.iter().any(|kept| kept.missed > 0);
+            when(missed, Branch::LeaveMissed);
             self.sources = fresh_sources(self.host);
         }
         Answer::Done
     }
 
     /// "Send: hold the cue under the next number; it becomes last, and first if none;
-    /// Out DATA."
+    /// Out DATA." Last rises as under an arrival. Question 7 leaves next numbers to 65,535.
     fn send(&mut self, cue: Cue, out: &mut [u8]) -> Answer {
-        let (host, number) = (self.host, self.next);
+        let (host, number) = (self.host, self.next as u16);
         self.next += 1;
         let own = self.source_mut(host);
-        own.last = Some(number);
         if own.first.is_none() {
             take(Branch::SendFirst);
-            own.first = Some(number);
+            (own.first, own.last) = (Some(number), Some(number));
         } else {
             take(Branch::SendLast);
+            own.rise(number, Branch::RiseRetiresSend);
         }
-        own.names[usize::from(number)].hold(cue);
+        self.record_mut(host, number).hold(cue);
         let name = Name {
             source: host,
             number,
@@ -650,13 +747,16 @@ impl End {
     }
 
     /// "the earliest; ties: request before reply, then lower source, lower number".
-    fn earliest_wait(&self) -> Option<(u64, Wait, u8, u8)> {
+    fn earliest_wait(&self) -> Option<(u64, Wait, u8, u16)> {
         self.waits().min()
     }
 
     /// All waits.
-    fn waits(&self) -> impl Iterator<Item = (u64, Wait, u8, u8)> + '_ {
-        let names = (0..HOSTS).flat_map(|source| (0..NUMBERS).map(move |number| (source, number)));
+    fn waits(&self) -> impl Iterator<Item = (u64, Wait, u8, u16)> + '_ {
+        let names = (0..HOSTS).flat_map(|source| {
+            let numbers = self.source(source).numbers();
+            numbers.map(move |number| (source, number))
+        });
         names.filter_map(|(source, number)| {
             let (due, wait) = self.record(source, number).wait()?;
             Some((due, wait, source, number))
@@ -664,7 +764,7 @@ impl End {
     }
 
     /// What set the fired wait before each other one that is due.
-    fn take_others_due(&self, fired: (u64, Wait, u8, u8)) {
+    fn take_others_due(&self, fired: (u64, Wait, u8, u16)) {
         if !branches::counting() {
             return;
         }
@@ -677,6 +777,8 @@ impl End {
                 Branch::FireKind
             } else if other.2 != source {
                 Branch::FireSource
+            } else if place_of(other.3) < place_of(fired.3) {
+                Branch::FireNumberNotPlace
             } else {
                 Branch::FireNumber
             });
@@ -684,7 +786,7 @@ impl End {
     }
 
     /// "A request goes out as RQST and its next round is set."
-    fn fire_request(&mut self, source: u8, number: u8, draws: &[Draw], out: &mut [u8]) -> Answer {
+    fn fire_request(&mut self, source: u8, number: u16, draws: &[Draw], out: &mut [u8]) -> Answer {
         if let Body::Waiting(request) = self.record(source, number).body {
             take(Branch::FireRequest);
             when(request.round == LAST_ROUND, Branch::FireSixteen);
@@ -699,7 +801,7 @@ impl End {
     }
 
     /// "A reply goes out as REPL, is dropped, and reply-quiet is set as above."
-    fn fire_reply(&mut self, source: u8, number: u8, out: &mut [u8]) -> Answer {
+    fn fire_reply(&mut self, source: u8, number: u16, out: &mut [u8]) -> Answer {
         let Record {
             cue,
             reply: Some(Reply { requester, .. }),
@@ -744,6 +846,7 @@ impl End {
             kept.first = Some(name.number);
             kept.last = Some(name.number);
         } else if when(kept.is_below_first(name.number), Branch::DataBelow) {
+            when(kept.is_full(), Branch::DataBelowFull);
             return Answer::Ignored;
         } else if when(self.clashes(name, cue), Branch::DataClash) {
             return self.clash(name, cue);
@@ -752,15 +855,15 @@ impl End {
         } else {
             self.take_rise(name, TAKES);
         }
-        self.hand_out(name, cue, draws, out)
+        self.hand_out(name, cue, draws, out, Branch::RiseRetiresData)
     }
 
     /// Document 02, P4: "DATA and REPL messages counted as the same cue when their names
     /// agreed; now all 24 cue bytes must agree too. Such a message from another end that
     /// names a held cue with other bytes": is this cue held with other bytes?
     fn clashes(&self, name: &Name, cue: Cue) -> bool {
-        let record = self.record(name.source, name.number);
-        record.is_held() && record.cue.0 != cue.0
+        self.kept(name)
+            .is_some_and(|record| record.is_held() && record.cue.0 != cue.0)
     }
 
     /// "gets a new answer, Clash, with the name; apart from the clock nothing changes,
@@ -784,8 +887,15 @@ impl End {
 
     /// "Otherwise hold it, drop its request, Got; if it is above last, each number
     /// between gets round 1 and last rises."; "Got (name, and its cue in the first 24)".
-    fn hand_out(&mut self, name: &Name, cue: Cue, draws: &[Draw], out: &mut [u8]) -> Answer {
-        self.raise_last(name.source, name.number, draws);
+    fn hand_out(
+        &mut self,
+        name: &Name,
+        cue: Cue,
+        draws: &[Draw],
+        out: &mut [u8],
+        retires: Branch,
+    ) -> Answer {
+        self.raise_last(name.source, name.number, draws, retires);
         self.record_mut(name.source, name.number).hold(cue);
         out[..cue.0.len()].copy_from_slice(&cue.0);
         Answer::Got {
@@ -795,26 +905,33 @@ impl End {
     }
 
     /// "RQST: no first, below first, or own above last: Ignored."
-    fn out_of_reach(&self, name: &Name, branches: [Branch; 3]) -> bool {
-        let [no_first, below, own_above] = branches;
+    fn out_of_reach(&self, name: &Name, branches: [Branch; 4]) -> bool {
+        let [no_first, below, below_full, own_above] = branches;
         let kept = self.source(name.source);
         let own = name.source == self.host;
+        let is_below = kept.is_below_first(name.number);
+        when(is_below && kept.is_full(), below_full);
         when(kept.first.is_none(), no_first)
-            || when(kept.is_below_first(name.number), below)
+            || when(is_below, below)
             || when(own && kept.is_above_last(name.number), own_above)
     }
 
     /// "RQST: no first, below first, or own above last: Ignored. Held: [...] Not held
     /// and above last: [...] Not held up to last: [...]".
     fn rqst(&mut self, name: &Name, draws: &[Draw]) -> Answer {
-        const IGNORED: [Branch; 3] = [Branch::RqstNoFirst, Branch::RqstBelow, Branch::RqstOwnAbove];
+        const IGNORED: [Branch; 4] = [
+            Branch::RqstNoFirst,
+            Branch::RqstBelow,
+            Branch::RqstBelowFull,
+            Branch::RqstOwnAbove,
+        ];
         if self.out_of_reach(name, IGNORED) {
             return Answer::Ignored;
         }
-        match self.record(name.source, name.number).body {
-            Body::Held => self.rqst_held(name, draws),
-            Body::Nothing => self.rqst_above(name, draws),
-            Body::Waiting(request) => self.rqst_waiting(name, request, draws),
+        match self.kept(name).map(|record| record.body) {
+            Some(Body::Held) => self.rqst_held(name, draws),
+            Some(Body::Waiting(request)) => self.rqst_waiting(name, request, draws),
+            _ => self.rqst_above(name, draws),
         }
     }
 
@@ -840,7 +957,7 @@ impl End {
         });
         let d = self.distance(name.host);
         let longest = u64::from(self.params.d2) * d;
-        let share = share(longest, draws[usize::from(name.number)], SHARES);
+        let share = share(longest, draws[place_of(name.number)], SHARES);
         let reply = Reply {
             due: self.clock + u64::from(self.params.d1) * d + share,
             requester: name.host,
@@ -850,11 +967,11 @@ impl End {
     }
 
     /// "Not held and above last: numbers between get round 1, this one round 2, last
-    /// rises, Done." In a sound state a name in reach with nothing is one above last.
+    /// rises, Done." In a sound state a name in reach with nothing kept is one above last.
     fn rqst_above(&mut self, name: &Name, draws: &[Draw]) -> Answer {
         // The name is above last, so the first of the three is never taken.
         self.take_rise(name, [Branch::RqstNext, Branch::RqstNext, Branch::RqstGap]);
-        self.raise_last(name.source, name.number, draws);
+        self.raise_last(name.source, name.number, draws, Branch::RiseRetiresRqst);
         self.set_round(name.source, name.number, 2, draws);
         Answer::Done
     }
@@ -877,7 +994,12 @@ impl End {
     /// held: as DATA, Got; held: Done. Either way its waiting reply goes and reply-quiet
     /// = t + D3×d, d to the requester."; held with other bytes, P4's Clash.
     fn repl(&mut self, name: &Name, cue: Cue, draws: &[Draw], out: &mut [u8]) -> Answer {
-        const IGNORED: [Branch; 3] = [Branch::ReplNoFirst, Branch::ReplBelow, Branch::ReplOwnAbove];
+        const IGNORED: [Branch; 4] = [
+            Branch::ReplNoFirst,
+            Branch::ReplBelow,
+            Branch::ReplBelowFull,
+            Branch::ReplOwnAbove,
+        ];
         if self.out_of_reach(name, IGNORED) {
             return Answer::Ignored;
         }
@@ -899,7 +1021,7 @@ impl End {
         } else {
             const TAKES: [Branch; 3] = [Branch::ReplWaiting, Branch::ReplNext, Branch::ReplGap];
             self.take_rise(name, TAKES);
-            self.hand_out(name, cue, draws, out)
+            self.hand_out(name, cue, draws, out, Branch::RiseRetiresRepl)
         };
         let record = self.record(name.source, name.number);
         when(record.reply.is_some(), Branch::ReplDropsReply);
@@ -939,7 +1061,7 @@ impl End {
             return;
         }
         take(Branch::SessRises);
-        self.raise_last(report.source, report.last, draws);
+        self.raise_last(report.source, report.last, draws, Branch::RiseRetiresSess);
         self.set_round(report.source, report.last, 1, draws);
     }
 
@@ -962,22 +1084,18 @@ impl End {
     /// "each number between gets round 1 and last rises", where the source is opened and
     /// the number is above its last; else nothing. The new last's own record is the
     /// caller's to fill: with an arrived cue, a request's round 2 or a report's round 1.
-    fn raise_last(&mut self, source: u8, to: u8, draws: &[Draw]) {
+    fn raise_last(&mut self, source: u8, to: u16, draws: &[Draw], retires: Branch) {
         let Some(last) = self.source(source).last.filter(|&last| last < to) else {
             return;
         };
-        for number in last + 1..=to {
-            // Nothing was kept of it: its record starts blank, free cue bytes too.
-            *self.record_mut(source, number) = Record::EMPTY;
-        }
-        for number in last + 1..to {
+        self.source_mut(source).rise(to, retires);
+        for number in (last + 1).max(window_start(to))..to {
             self.set_round(source, number, 1, draws);
         }
-        self.source_mut(source).last = Some(to);
     }
 
     /// The round after the one that waits.
-    fn set_next_round(&mut self, source: u8, number: u8, request: Request, draws: &[Draw]) {
+    fn set_next_round(&mut self, source: u8, number: u16, request: Request, draws: &[Draw]) {
         take(match request.next_round() {
             LAST_ROUND if request.round == LAST_ROUND => Branch::RoundStays,
             LAST_ROUND => Branch::RoundSixteen,
@@ -988,8 +1106,9 @@ impl End {
 
     /// "Setting round k at clock t, F = 2^(k−1), d the distance to the source, u the draw
     /// at the cue number: due = t + F×C1×d + floor(F×C2×d×u/255); quiet-until = t +
-    /// F×C3×d (001, lemma 4.24: for every round)." The share is P1's.
-    fn set_round(&mut self, source: u8, number: u8, round: u8, draws: &[Draw]) {
+    /// F×C3×d (001, lemma 4.24: for every round)." The share is P1's; by P7 "Cue number n uses
+    /// draw n mod 64."
+    fn set_round(&mut self, source: u8, number: u16, round: u8, draws: &[Draw]) {
         const SHARES: [Branch; 3] = [
             Branch::RoundNoShare,
             Branch::RoundShare,
@@ -997,7 +1116,8 @@ impl End {
         ];
         let fd = (1 << (round - 1)) * self.distance(source);
         let longest = fd * u64::from(self.params.c2);
-        let share = share(longest, draws[usize::from(number)], SHARES);
+        when(number >= u16::from(PLACES), Branch::DrawAgain);
+        let share = share(longest, draws[place_of(number)], SHARES);
         let request = Request {
             round,
             due: self.clock + fd * u64::from(self.params.c1) + share,
@@ -1007,7 +1127,7 @@ impl End {
     }
 
     /// "its waiting reply goes and reply-quiet = t + D3×d, d to the requester."
-    fn quiet_reply(&mut self, source: u8, number: u8, requester: u8) {
+    fn quiet_reply(&mut self, source: u8, number: u16, requester: u8) {
         let quiet = self.clock + u64::from(self.params.d3) * self.distance(requester);
         let record = self.record_mut(source, number);
         record.reply = None;
@@ -1046,14 +1166,19 @@ impl End {
     /// it, or above it with numbers between.
     fn take_rise(&self, name: &Name, [within, next, gap]: [Branch; 3]) {
         take(match self.source(name.source).last {
-            Some(last) if name.number > last + 1 => gap,
+            Some(last) if name.number > last && name.number - last > 1 => gap,
             Some(last) if name.number > last => next,
             _ => within,
         });
     }
 
     fn is_held(&self, name: &Name) -> bool {
-        self.record(name.source, name.number).is_held()
+        self.kept(name).is_some_and(Record::is_held)
+    }
+
+    /// What is kept of a name, where it is inside its source's first..last.
+    fn kept(&self, name: &Name) -> Option<&Record> {
+        self.source(name.source).kept(name.number)
     }
 
     fn distance(&self, host: u8) -> u64 {
@@ -1068,11 +1193,12 @@ impl End {
         &mut self.sources[usize::from(source)]
     }
 
-    fn record(&self, source: u8, number: u8) -> &Record {
-        &self.source(source).names[usize::from(number)]
+    /// The record of a number inside first..last.
+    fn record(&self, source: u8, number: u16) -> &Record {
+        &self.source(source).names[place_of(number)]
     }
 
-    fn record_mut(&mut self, source: u8, number: u8) -> &mut Record {
-        &mut self.source_mut(source).names[usize::from(number)]
+    fn record_mut(&mut self, source: u8, number: u16) -> &mut Record {
+        &mut self.source_mut(source).names[place_of(number)]
     }
 }

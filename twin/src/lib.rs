@@ -2,9 +2,9 @@
 //! landed, read a second time and written down as plain Rust, so that another implementation can be compared with it call by
 //! call. It favours being easy to hold against the document over being fast.
 //!
-//! Host numbers and cue numbers are both plain `u8` here, because a state must be
-//! able to hold any value; they are still kept apart by name, and "host number
-//! and cue number are never added or compared".
+//! A host number is a plain `u8` here and a cue number a plain `u16`, because a state must be
+//! able to hold any value; they are kept apart by name, and "host number and cue number are
+//! never added or compared".
 
 pub mod book;
 pub mod branches;
@@ -24,8 +24,11 @@ pub mod windows;
 /// "Hosts are 0..7".
 pub const HOSTS: u8 = 8;
 
-/// "cue numbers 0..63 per source".
-pub const NUMBERS: u8 = 64;
+/// Document 02, P7: "Cue numbers become 0..65535": so many there are.
+pub const NUMBERS: u32 = 65_536;
+
+/// P7: "An end keeps the latest 64 numbers of each source": so many places it has for them.
+pub const PLACES: u8 = 64;
 
 /// "Clocks are 0..2^48−1 ticks"; stamps and held ticks have the same bound.
 pub const CLOCK_MAX: u64 = (1 << 48) - 1;

@@ -1,26 +1,34 @@
 //! The reader and the writer of messages, with their refusal numbers.
 
-use crate::branches::{unless, Branch};
+use crate::branches::{self, unless, Branch};
 use crate::cue::{Cue, CUE_LEN};
-use crate::{CLOCK_MAX, HOSTS, NUMBERS, OUTPUT_LEN};
+use crate::{CLOCK_MAX, HOSTS, OUTPUT_LEN};
 
-pub const DATA: u8 = 1;
-pub const RQST: u8 = 2;
-pub const REPL: u8 = 3;
-pub const SESS: u8 = 4;
+/// Document 02, P7: "under kinds 17 to 20 for 1 to 4".
+pub const DATA: u8 = 17;
+pub const RQST: u8 = 18;
+pub const REPL: u8 = 19;
+pub const SESS: u8 = 20;
+
+/// "the old kinds are still read, numbers to 63, as the same meanings and no longer written".
+pub const OLD_DATA: u8 = 1;
+const OLD_SESS: u8 = 4;
+
+/// "the old kinds are still read, numbers to 63".
+const OLD_NUMBER_MAX: u16 = 63;
 
 /// A name with the host of the table's last column.
 #[derive(Clone, Copy, Debug, PartialEq, Eq)]
 pub struct Name {
     pub source: u8,
-    pub number: u8,
+    pub number: u16,
     pub host: u8,
 }
 
 #[derive(Clone, Copy, Debug, PartialEq, Eq)]
 pub struct Report {
     pub source: u8,
-    pub last: u8,
+    pub last: u16,
 }
 
 #[derive(Clone, Copy, Debug, PartialEq, Eq)]
@@ -65,32 +73,85 @@ const HEAD_LEN: usize = 8;
 /// "Are there 12 bytes or more".
 const LEAST_LEN: usize = 12;
 
-/// "names (source, cue number, host: 3 bytes)".
-const NAME_LEN: usize = 3;
-
-/// "reports (source, last: 2)".
-const REPORT_LEN: usize = 2;
-
 /// "echoes (host, stamp, held ticks: 1+6+6)".
 const ECHO_LEN: usize = 13;
 
+/// How many bytes a cue number has in a name and a report: "names (source, cue number, host: 3 bytes)" and "reports (source, last:
+/// 2)" have one; by document 02, P7, "Cue numbers become 0..65535, two bytes in names and reports".
+#[derive(Clone, Copy)]
+struct Sizes {
+    number: usize,
+}
+
+impl Sizes {
+    const OLD: Sizes = Sizes { number: 1 };
+    const NEW: Sizes = Sizes { number: 2 };
+
+    /// P7: "Question 8 counts kinds 1 to 4 by the old sizes and every other kind byte by the new."
+    fn of(kind: u8) -> Sizes {
+        if is_old(kind) {
+            Sizes::OLD
+        } else {
+            Sizes::NEW
+        }
+    }
+
+    /// Source, cue number, host.
+    fn name(self) -> usize {
+        2 + self.number
+    }
+
+    /// Source, last.
+    fn report(self) -> usize {
+        1 + self.number
+    }
+}
+
+/// One of the kinds 1 to 4.
+pub fn is_old(kind: u8) -> bool {
+    (OLD_DATA..=OLD_SESS).contains(&kind)
+}
+
+/// "kinds 17 to 20 for 1 to 4": the kind that has the meaning of this one; another kind stays.
+fn meaning(kind: u8) -> u8 {
+    if is_old(kind) {
+        DATA + (kind - OLD_DATA)
+    } else {
+        kind
+    }
+}
+
 /// The reader: "Arrival, and the reader alone" have questions 8, 9, 10 and 11; "Each
 /// call stops at its first no." Document 02, P5: "The reader alone answers "probe" for"
-/// a message of no bytes.
+/// a message of no bytes. P7: "the old kinds are still read [...] as the same meanings": the
+/// message that is read has a new kind.
 pub fn read(bytes: &[u8]) -> Result<Datagram, u8> {
     if bytes.is_empty() {
         return Ok(Datagram::Probe);
     }
-    let message = take_apart(bytes)?;
-    check(&message)?;
+    let raw = take_apart(bytes)?;
+    let message = Message {
+        kind: meaning(raw.kind),
+        ..raw
+    };
+    ask(counts_fit(&message), 9)?;
+    ask(numbers_fit(bytes[0], &message) && in_range(&message), 10)?;
+    ask(hosts_fit(&message) && order_fits(&message), 11)?;
+    if is_old(bytes[0]) {
+        branches::take_nth(Branch::OldData, usize::from(bytes[0] - OLD_DATA));
+    }
     Ok(Datagram::Message(message))
 }
 
 /// "The writer has questions 1, 9, 10, 11."; "A refusal gives only its number; state,
-/// clock and buffers keep every byte."; "Other output bytes are untouched."
+/// clock and buffers keep every byte."; "Other output bytes are untouched." Document 02, P7:
+/// the old kinds are "no longer written".
 pub fn write(message: &Message, out: &mut [u8]) -> Result<usize, u8> {
     ask(out.len() >= OUTPUT_LEN, 1)?;
-    check(message)?;
+    ask(unless(!is_old(message.kind), Branch::OldNotWritten), 9)?;
+    ask(counts_fit(message), 9)?;
+    ask(in_range(message), 10)?;
+    ask(hosts_fit(message) && order_fits(message), 11)?;
     let bytes = put_together(message);
     out[..bytes.len()].copy_from_slice(&bytes);
     Ok(bytes.len())
@@ -112,32 +173,55 @@ pub(crate) fn ask(yes: bool, number: u8) -> Result<(), u8> {
     }
 }
 
-/// The questions that reader and writer share, in their order.
-fn check(message: &Message) -> Result<(), u8> {
-    ask(counts_fit(message), 9)?;
-    ask(in_range(message), 10)?;
-    ask(hosts_fit(message) && order_fits(message), 11)
-}
-
 /// "Are there 12 bytes or more, and do the counts account for the length exactly? 8."; by
 /// P5, "Number 8 is from then on for lengths 1 to 11 and counts that miss the length".
 fn take_apart(bytes: &[u8]) -> Result<Message, u8> {
     ask(unless(bytes.len() >= LEAST_LEN, Branch::ShortMessage), 8)?;
-    let (head, rest) = bytes.split_at(HEAD_LEN);
-    let (names, rest) = section(rest, NAME_LEN)?;
-    let (cues, rest) = section(rest, CUE_LEN)?;
-    let (reports, rest) = section(rest, REPORT_LEN)?;
-    let (echoes, rest) = section(rest, ECHO_LEN)?;
-    ask(unless(rest.is_empty(), Branch::LengthPastCounts), 8)?;
+    let sizes = Sizes::of(bytes[0]);
+    let parts = sections(bytes, sizes);
+    take_sizes(bytes, parts.is_ok());
+    let [names, cues, reports, echoes] = parts?;
+    let head = &bytes[..HEAD_LEN];
     Ok(Message {
         kind: head[0],
         sender: head[1],
         stamp: number(&head[2..]),
-        names: names.chunks_exact(NAME_LEN).map(read_name).collect(),
+        names: names.chunks_exact(sizes.name()).map(read_name).collect(),
         cues: cues.chunks_exact(CUE_LEN).map(read_cue).collect(),
-        reports: reports.chunks_exact(REPORT_LEN).map(read_report).collect(),
+        reports: reports
+            .chunks_exact(sizes.report())
+            .map(read_report)
+            .collect(),
         echoes: echoes.chunks_exact(ECHO_LEN).map(read_echo).collect(),
     })
+}
+
+/// The four sections, where "the counts account for the length exactly".
+fn sections(bytes: &[u8], sizes: Sizes) -> Result<[&[u8]; 4], u8> {
+    let rest = &bytes[HEAD_LEN..];
+    let (names, rest) = section(rest, sizes.name())?;
+    let (cues, rest) = section(rest, CUE_LEN)?;
+    let (reports, rest) = section(rest, sizes.report())?;
+    let (echoes, rest) = section(rest, ECHO_LEN)?;
+    ask(unless(rest.is_empty(), Branch::LengthPastCounts), 8)?;
+    Ok([names, cues, reports, echoes])
+}
+
+/// Counts where the one layout accounts for the length and the other would not.
+fn take_sizes(bytes: &[u8], fits: bool) {
+    if !branches::counting() {
+        return;
+    }
+    let old = is_old(bytes[0]);
+    let other = if old { Sizes::NEW } else { Sizes::OLD };
+    let fits_other = branches::uncounted(|| sections(bytes, other).is_ok());
+    match (fits, fits_other, old) {
+        (true, false, true) => branches::take(Branch::OldSizes),
+        (false, true, true) => branches::take(Branch::OldSizesMissed),
+        (true, false, false) => branches::take(Branch::NewSizes),
+        (false, true, false) => branches::take(Branch::NewSizesMissed),
+        _ => {}
+    }
 }
 
 /// "then four sections, each after its one-byte count": one section and what follows it.
@@ -157,12 +241,13 @@ fn number(bytes: &[u8]) -> u64 {
         .fold(0, |value, &byte| value << 8 | u64::from(byte))
 }
 
-/// "names (source, cue number, host: 3 bytes)".
+/// "names (source, cue number, host: 3 bytes)", the cue number "two bytes" under a new kind: it is what lies between the hosts.
 fn read_name(bytes: &[u8]) -> Name {
+    let end = bytes.len() - 1;
     Name {
         source: bytes[0],
-        number: bytes[1],
-        host: bytes[2],
+        number: number(&bytes[1..end]) as u16,
+        host: bytes[end],
     }
 }
 
@@ -173,11 +258,11 @@ fn read_cue(bytes: &[u8]) -> Cue {
     cue
 }
 
-/// "reports (source, last: 2)".
+/// "reports (source, last: 2)", the last "two bytes" under a new kind.
 fn read_report(bytes: &[u8]) -> Report {
     Report {
         source: bytes[0],
-        last: bytes[1],
+        last: number(&bytes[1..]) as u16,
     }
 }
 
@@ -190,7 +275,7 @@ fn read_echo(bytes: &[u8]) -> Echo {
     }
 }
 
-/// "Is the kind 1..4 with its counts? 9.": the table's column "counts".
+/// "Is the kind 1..4 with its counts? 9.": the table's column "counts", asked of the kind that has an old one's meaning.
 fn counts_fit(message: &Message) -> bool {
     let counts = (
         message.names.len(),
@@ -217,17 +302,29 @@ fn in_range(message: &Message) -> bool {
         && message.echoes.iter().all(echo_in_range)
 }
 
-/// "Hosts are 0..7, cue numbers 0..63 per source."
+/// Document 02, P7: "Cue numbers become 0..65535", so two bytes are always in range; "the old kinds are still read, numbers to 63".
+fn numbers_fit(kind: u8, message: &Message) -> bool {
+    let mut names = message.names.iter();
+    let mut reports = message.reports.iter();
+    !is_old(kind)
+        || unless(
+            names.all(|name| name.number <= OLD_NUMBER_MAX),
+            Branch::NameNumberRange,
+        ) && unless(
+            reports.all(|report| report.last <= OLD_NUMBER_MAX),
+            Branch::ReportLastRange,
+        )
+}
+
+/// "Hosts are 0..7".
 fn name_in_range(name: &Name) -> bool {
     unless(name.source < HOSTS, Branch::NameSourceRange)
-        && unless(name.number < NUMBERS, Branch::NameNumberRange)
         && unless(name.host < HOSTS, Branch::NameHostRange)
 }
 
-/// "Hosts are 0..7, cue numbers 0..63 per source."
+/// "Hosts are 0..7".
 fn report_in_range(report: &Report) -> bool {
     unless(report.source < HOSTS, Branch::ReportSourceRange)
-        && unless(report.last < NUMBERS, Branch::ReportLastRange)
 }
 
 /// "stamps and held ticks below 2^48".
@@ -271,14 +368,26 @@ fn order_fits(message: &Message) -> bool {
 
 /// "Kind (1 byte), sender (1), stamp (6, the sender's clock), then four sections, each
 /// after its one-byte count: names (source, cue number, host: 3 bytes), cues (24),
-/// reports (source, last: 2), echoes (host, stamp, held ticks: 1+6+6)." Asked only of
-/// messages with counts that fit.
+/// reports (source, last: 2), echoes (host, stamp, held ticks: 1+6+6)." By document 02, P7,
+/// cue numbers have "two bytes in names and reports". The writer asks it only of messages with
+/// counts that fit.
 pub fn put_together(message: &Message) -> Vec<u8> {
+    laid_out(message, Sizes::NEW)
+}
+
+/// The bytes of an old kind, by the old sizes: a cue number's low byte stands for it. The writer gives none such.
+pub fn put_together_old(message: &Message) -> Vec<u8> {
+    laid_out(message, Sizes::OLD)
+}
+
+fn laid_out(message: &Message, sizes: Sizes) -> Vec<u8> {
     let mut bytes = vec![message.kind, message.sender];
     bytes.extend(six_bytes(message.stamp));
     bytes.push(message.names.len() as u8);
     for name in &message.names {
-        bytes.extend([name.source, name.number, name.host]);
+        bytes.push(name.source);
+        bytes.extend(number_bytes(name.number, sizes));
+        bytes.push(name.host);
     }
     bytes.push(message.cues.len() as u8);
     for cue in &message.cues {
@@ -286,7 +395,8 @@ pub fn put_together(message: &Message) -> Vec<u8> {
     }
     bytes.push(message.reports.len() as u8);
     for report in &message.reports {
-        bytes.extend([report.source, report.last]);
+        bytes.push(report.source);
+        bytes.extend(number_bytes(report.last, sizes));
     }
     bytes.push(message.echoes.len() as u8);
     for echo in &message.echoes {
@@ -295,6 +405,11 @@ pub fn put_together(message: &Message) -> Vec<u8> {
         bytes.extend(six_bytes(echo.held));
     }
     bytes
+}
+
+/// "Numbers are big-endian."
+fn number_bytes(number: u16, sizes: Sizes) -> Vec<u8> {
+    number.to_be_bytes()[2 - sizes.number..].to_vec()
 }
 
 /// "Numbers are big-endian."; "stamp (6, the sender's clock)".

@@ -156,37 +156,40 @@ impl Asked<'_> {
     fn already_held(&self) -> bool {
         let cue = self.message.as_ref().and_then(|m| m.cues.first());
         self.named(&[DATA])
-            .is_some_and(|(_, _, record)| record.body == Body::Held && Some(&record.cue) == cue)
+            .and_then(|(_, _, record)| record)
+            .is_some_and(|record| record.body == Body::Held && Some(&record.cue) == cue)
     }
 
     /// RQST, "Held: with no reply waiting [...]; otherwise Ignored."
     fn reply_waiting(&self) -> bool {
         self.named(&[RQST])
-            .is_some_and(|(_, _, record)| record.body == Body::Held && record.reply.is_some())
+            .and_then(|(_, _, record)| record)
+            .is_some_and(|record| record.body == Body::Held && record.reply.is_some())
     }
 
     /// RQST, "Held: with [...] clock ≥ reply-quiet [...]; otherwise Ignored."
     fn reply_quiet(&self) -> bool {
-        self.named(&[RQST]).is_some_and(|(_, _, record)| {
-            record.body == Body::Held && self.clock < record.reply_quiet
-        })
+        self.named(&[RQST])
+            .and_then(|(_, _, record)| record)
+            .is_some_and(|record| record.body == Body::Held && self.clock < record.reply_quiet)
     }
 
     /// RQST, "Not held up to last: clock above quiet-until (lemma 4.24 is strict) [...]; otherwise Ignored."
     fn request_quiet(&self) -> bool {
         self.named(&[RQST])
-            .is_some_and(|(_, _, record)| match record.body {
+            .and_then(|(_, _, record)| record)
+            .is_some_and(|record| match record.body {
                 Body::Waiting(request) => self.clock <= request.quiet_until,
                 _ => false,
             })
     }
 
-    /// The name in a message of one of these kinds, with what the end keeps of its source and of itself.
-    fn named(&self, kinds: &[u8]) -> Option<(Name, &Source, &Record)> {
+    /// The name in a message of one of these kinds, with what the end keeps of its source and, inside first..last, of itself.
+    fn named(&self, kinds: &[u8]) -> Option<(Name, &Source, Option<&Record>)> {
         let message = self.message.as_ref().filter(|m| kinds.contains(&m.kind))?;
         let name = *message.names.first()?;
         let source = &self.end.sources[usize::from(name.source)];
-        Some((name, source, &source.names[usize::from(name.number)]))
+        Some((name, source, source.kept(name.number)))
     }
 }
 

@@ -13,7 +13,7 @@ use crate::reason::Why;
 use crate::text::Hex;
 use crate::trace::{row_of_draws, BUFFER, ENDS, MOST_DRAWS};
 use crate::trace::{Asked, At, Brought, Composed, Does, Field, InWords, Kind, Line, Row, Verb};
-use crate::{Draw, DRAWS, HOSTS, NUMBERS, OUTPUT_LEN};
+use crate::{Draw, DRAWS, HOSTS, OUTPUT_LEN, PLACES};
 
 /// What is printed.
 #[derive(Clone, Copy, Debug, PartialEq, Eq)]
@@ -403,9 +403,11 @@ impl Bench {
                 let kind = self.buffer[0];
                 let (one, other) = if kind == message::SESS {
                     let reports = self.buffer[10];
-                    (reports, self.buffer[11 + 2 * usize::from(reports)])
+                    let echoes = self.buffer[11 + 3 * usize::from(reports)];
+                    (reports, u16::from(echoes))
                 } else {
-                    (self.buffer[9], self.buffer[10])
+                    let number = u16::from_be_bytes([self.buffer[10], self.buffer[11]]);
+                    (self.buffer[9], number)
                 };
                 format!("out {length} {} {one} {other}", Kind(kind))
             }
@@ -426,8 +428,11 @@ impl Bench {
             }
             Ok(Datagram::Message(message)) => {
                 take(Branch::Accepted);
-                let same = written(&message).is_some_and(|again| again == bytes);
-                let fault = if same { "" } else { " OTHER BYTES" };
+                let fault = if reads_back(&message, bytes) {
+                    ""
+                } else {
+                    " OTHER BYTES"
+                };
                 (format!("accepted {}", InWords(&message)), fault)
             }
             Err(number) => {
@@ -506,6 +511,7 @@ impl Bench {
                 (Some(first), Some(last)) => format!("{first} {last}"),
                 _ => "closed".to_string(),
             },
+            Asked::Missed(of) => source(of).missed.to_string(),
             Asked::Heard(of) => match source(of).heard {
                 Some(Heard { stamp, at }) => format!("{stamp} {at}"),
                 None => "unheard".to_string(),
@@ -538,6 +544,20 @@ pub(crate) fn written(message: &Message) -> Option<Vec<u8>> {
     Some(buffer[..length].to_vec())
 }
 
+/// Document 02, P7: "reading back is exact for the new kinds"; of an old kind's message the writer
+/// gives bytes that are read and written again as the same ones.
+fn reads_back(message: &Message, bytes: &[u8]) -> bool {
+    let Some(again) = written(message) else {
+        return false;
+    };
+    if !message::is_old(bytes[0]) {
+        return again == bytes;
+    }
+    let read = branches::uncounted(|| message::read(&again));
+    let message = read.ok().and_then(Datagram::message);
+    message.and_then(|message| written(&message)) == Some(again)
+}
+
 fn record<'a>(end: &'a End, at: &At) -> &'a Record {
     &end.sources[usize::from(at.source)].names[usize::from(at.place)]
 }
@@ -566,6 +586,7 @@ pub(crate) fn set(end: &mut End, field: &Field) {
             let kept = &mut end.sources[usize::from(*source)];
             (kept.first, kept.last) = (None, None);
         }
+        Field::Missed(source, missed) => end.sources[usize::from(*source)].missed = *missed,
         Field::Distance(source, distance) => {
             end.sources[usize::from(*source)].distance = *distance;
         }
@@ -628,11 +649,13 @@ pub fn in_words(end: &End) -> String {
             Some(Heard { stamp, at }) => format!("heard {stamp} {at}"),
             None => "unheard".to_string(),
         };
-        let distance = source.distance;
-        line(format!("source {place} {span} distance {distance} {heard}"));
-        for (number, record) in (0..NUMBERS).zip(&source.names) {
+        let (missed, distance) = (source.missed, source.distance);
+        line(format!(
+            "source {place} {span} missed {missed} distance {distance} {heard}"
+        ));
+        for (at, record) in (0..PLACES).zip(&source.names) {
             if *record != Record::EMPTY {
-                line(format!("record {place} {number} {}", record_words(record)));
+                line(format!("record {place} {at} {}", record_words(record)));
             }
         }
     }

@@ -6,7 +6,7 @@ use crate::cue::{Cue, CUE_LEN};
 use crate::end::{Heard, Params, Reply, Request, Status};
 use crate::message::{self, Echo, Message, Name, Report};
 use crate::text::{decimal, hexadecimal, signed, Hex};
-use crate::{Draw, HOSTS, NUMBERS};
+use crate::{Draw, HOSTS, PLACES};
 
 /// "END is a place 0..9."
 pub const ENDS: u8 = 10;
@@ -106,11 +106,12 @@ pub struct At {
 pub enum Field {
     Host(u8),
     Clock(u64),
-    Next(u8),
+    Next(u32),
     Params(Params),
     Status(Status),
-    Span { source: u8, first: u8, last: u8 },
+    Span { source: u8, first: u16, last: u16 },
     Closed(u8),
+    Missed(u8, u32),
     Distance(u8, u64),
     Heard(u8, Heard),
     Unheard(u8),
@@ -132,6 +133,7 @@ pub enum Asked {
     Params,
     Distance(u8),
     Span(u8),
+    Missed(u8),
     Heard(u8),
     Record(At),
     Same(u8),
@@ -212,6 +214,16 @@ impl<'a> Words<'a> {
         u8::try_from(self.number()?).ok()
     }
 
+    /// A cue number, 0..65535.
+    fn cue_number(&mut self) -> Option<u16> {
+        u16::try_from(self.number()?).ok()
+    }
+
+    /// A number below 2^32.
+    fn count(&mut self) -> Option<u32> {
+        u32::try_from(self.number()?).ok()
+    }
+
     fn draw(&mut self) -> Option<Draw> {
         Draw::try_from(self.number()?).ok()
     }
@@ -227,7 +239,7 @@ impl<'a> Words<'a> {
     fn at(&mut self) -> Option<At> {
         Some(At {
             source: self.source()?,
-            place: self.below(NUMBERS)?,
+            place: self.below(PLACES)?,
         })
     }
 
@@ -307,7 +319,7 @@ impl<'a> Words<'a> {
     fn name(&mut self) -> Option<Name> {
         Some(Name {
             source: self.byte()?,
-            number: self.byte()?,
+            number: self.cue_number()?,
             host: self.byte()?,
         })
     }
@@ -315,7 +327,7 @@ impl<'a> Words<'a> {
     fn report(&mut self) -> Option<Report> {
         Some(Report {
             source: self.byte()?,
-            last: self.byte()?,
+            last: self.cue_number()?,
         })
     }
 
@@ -471,15 +483,16 @@ fn field(words: &mut Words) -> Option<Field> {
     Some(match words.word()? {
         "host" => Field::Host(words.byte()?),
         "clock" => Field::Clock(words.number()?),
-        "next" => Field::Next(words.byte()?),
+        "next" => Field::Next(words.count()?),
         "params" => Field::Params(words.params()?),
         "status" => Field::Status(status(words.word()?)?),
         "span" => Field::Span {
             source: words.source()?,
-            first: words.byte()?,
-            last: words.byte()?,
+            first: words.cue_number()?,
+            last: words.cue_number()?,
         },
         "closed" => Field::Closed(words.source()?),
+        "missed" => Field::Missed(words.source()?, words.count()?),
         "distance" => Field::Distance(words.source()?, words.number()?),
         "heard" => Field::Heard(
             words.source()?,
@@ -521,6 +534,7 @@ fn asked(words: &mut Words) -> Option<Asked> {
         "params" => Asked::Params,
         "distance" => Asked::Distance(words.source()?),
         "span" => Asked::Span(words.source()?),
+        "missed" => Asked::Missed(words.source()?),
         "heard" => Asked::Heard(words.source()?),
         "record" => Asked::Record(words.at()?),
         "same" => Asked::Same(words.below(ENDS)?),
@@ -805,6 +819,7 @@ impl fmt::Display for Field {
                 last,
             } => write!(f, "span {source} {first} {last}"),
             Field::Closed(source) => write!(f, "closed {source}"),
+            Field::Missed(source, missed) => write!(f, "missed {source} {missed}"),
             Field::Distance(source, distance) => write!(f, "distance {source} {distance}"),
             Field::Heard(source, heard) => {
                 write!(f, "heard {source} {} {}", heard.stamp, heard.at)
@@ -833,6 +848,7 @@ impl fmt::Display for Asked {
             Asked::Params => f.write_str("params"),
             Asked::Distance(source) => write!(f, "distance {source}"),
             Asked::Span(source) => write!(f, "span {source}"),
+            Asked::Missed(source) => write!(f, "missed {source}"),
             Asked::Heard(source) => write!(f, "heard {source}"),
             Asked::Record(at) => write!(f, "record {at}"),
             Asked::Same(other) => write!(f, "same {other}"),

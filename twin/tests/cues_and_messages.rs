@@ -3,7 +3,7 @@
 use twin::cue::Cue;
 use twin::message::{self, Datagram, Echo, Message, Name, Report, DATA, REPL, RQST, SESS};
 
-fn name(source: u8, number: u8, host: u8) -> Name {
+fn name(source: u8, number: u16, host: u8) -> Name {
     Name {
         source,
         number,
@@ -51,7 +51,7 @@ fn sess() -> Message {
         reports: (0..8)
             .map(|source| Report {
                 source,
-                last: source + 56,
+                last: 65_528 + u16::from(source),
             })
             .collect(),
         echoes: (1..8)
@@ -120,17 +120,19 @@ fn cue_range() {
 #[test]
 fn the_listed_request() {
     let listed = [2, 1, 0, 0, 0, 0, 1, 0x88, 1, 0, 1, 1, 0, 0, 0];
-    assert_eq!(bytes(&rqst()), listed);
     assert_eq!(read(&listed), Ok(rqst()));
+    let written = [18, 1, 0, 0, 0, 0, 1, 0x88, 1, 0, 0, 1, 1, 0, 0, 0];
+    assert_eq!(bytes(&rqst()), written);
+    assert_eq!(read(&written), Ok(rqst()));
 }
 
 #[test]
 fn written_is_read() {
     for (message, len) in [
-        (data(), 39),
-        (rqst(), 15),
-        (repl(), 39),
-        (sess(), 12 + 16 + 91),
+        (data(), 40),
+        (rqst(), 16),
+        (repl(), 40),
+        (sess(), 12 + 24 + 91),
     ] {
         assert_eq!(bytes(&message).len(), len);
         assert_eq!(read(&bytes(&message)), Ok(message));
@@ -140,8 +142,8 @@ fn written_is_read() {
 #[test]
 fn writing_leaves_the_rest() {
     let mut out = [9; 200];
-    assert_eq!(message::write(&rqst(), &mut out), Ok(15));
-    assert_eq!(out[15..], [9; 185]);
+    assert_eq!(message::write(&rqst(), &mut out), Ok(16));
+    assert_eq!(out[16..], [9; 184]);
 }
 
 #[test]
@@ -172,10 +174,11 @@ fn question_9() {
     for kind in [0, 5, 255] {
         assert_eq!(refused(&message(kind, 9, 0)), 9);
     }
-    for kind in 1..=3 {
+    for kind in [1, 2, 3, DATA, RQST, REPL] {
         assert_eq!(refused(&message(kind, 9, 0)), 9);
         assert_eq!(refused(&Message { kind, ..sess() }), 9);
     }
+    assert_eq!(refused(&message(4, 0, 0)), 9);
     assert_eq!(
         refused(&Message {
             kind: RQST,
@@ -220,7 +223,7 @@ fn question_9() {
 fn question_10() {
     assert_eq!(refused(&message(SESS, 8, 0)), 10);
     assert_eq!(refused(&message(SESS, 0, 1 << 48)), 10);
-    for bad in [name(8, 63, 3), name(3, 64, 3), name(3, 63, 8)] {
+    for bad in [name(8, 63, 3), name(3, 63, 8)] {
         assert_eq!(
             refused(&Message {
                 names: vec![bad],
@@ -236,32 +239,24 @@ fn question_10() {
         }),
         10
     );
-    for bad in [
-        Report { source: 8, last: 0 },
-        Report {
-            source: 0,
-            last: 64,
-        },
-    ] {
-        assert_eq!(
-            refused(&Message {
-                reports: vec![bad],
-                ..sess()
-            }),
-            10
-        );
-    }
+    assert_eq!(
+        refused(&Message {
+            reports: vec![Report { source: 8, last: 0 }],
+            ..sess()
+        }),
+        10
+    );
     for (host, stamp, held) in [(8, 0, 0), (1, 1 << 48, 0), (1, 0, 1 << 48)] {
         let echoes = vec![Echo { host, stamp, held }];
         assert_eq!(refused(&Message { echoes, ..sess() }), 10);
     }
     let mut wire = bytes(&data());
-    wire[13..15].copy_from_slice(&i16::to_be_bytes(-2001));
+    wire[14..16].copy_from_slice(&i16::to_be_bytes(-2001));
     assert_eq!(read(&wire), Err(10));
     // Before question 11.
     assert_eq!(
         refused(&Message {
-            names: vec![name(3, 64, 4)],
+            names: vec![name(3, 63, 9)],
             ..data()
         }),
         10

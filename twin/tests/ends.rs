@@ -88,7 +88,7 @@ fn session(sender: u8, stamp: u64, reports: Vec<Report>, echoes: Vec<Echo>) -> M
     }
 }
 
-fn about(kind: u8, sender: u8, name: (u8, u8, u8), cue: Option<Cue>) -> Message {
+fn about(kind: u8, sender: u8, name: (u8, u16, u8), cue: Option<Cue>) -> Message {
     let (source, number, host) = name;
     Message {
         kind,
@@ -102,25 +102,25 @@ fn about(kind: u8, sender: u8, name: (u8, u8, u8), cue: Option<Cue>) -> Message 
     }
 }
 
-fn data(source: u8, number: u8) -> Message {
+fn data(source: u8, number: u16) -> Message {
     about(
         DATA,
         source,
         (source, number, source),
-        Some(Cue::with_focus(number.into())),
+        Some(Cue::with_focus(number as i16)),
     )
 }
 
-fn rqst(source: u8, number: u8, requester: u8) -> Message {
+fn rqst(source: u8, number: u16, requester: u8) -> Message {
     about(RQST, requester, (source, number, requester), None)
 }
 
-fn repl(sender: u8, source: u8, number: u8, requester: u8) -> Message {
-    let cue = Some(Cue::with_focus(number.into()));
+fn repl(sender: u8, source: u8, number: u16, requester: u8) -> Message {
+    let cue = Some(Cue::with_focus(number as i16));
     about(REPL, sender, (source, number, requester), cue)
 }
 
-fn got(source: u8, number: u8) -> Answer {
+fn got(source: u8, number: u16) -> Answer {
     Answer::Got { source, number }
 }
 
@@ -136,7 +136,7 @@ fn record(end: &mut End, source: usize, number: usize) -> &mut Record {
     &mut end.sources[source].names[number]
 }
 
-fn span(end: &End, source: usize) -> (Option<u8>, Option<u8>) {
+fn span(end: &End, source: usize) -> (Option<u16>, Option<u16>) {
     (end.sources[source].first, end.sources[source].last)
 }
 
@@ -201,15 +201,15 @@ fn the_listing() {
         (0, Event::Joined, 0, Answer::Done),
         (1, Event::Join, 0, Answer::Done),
         (1, Event::Joined, 0, Answer::Done),
-        (0, Event::Send(Cue::with_focus(-2)), 10, Answer::Out(39)),
+        (0, Event::Send(Cue::with_focus(-2)), 10, Answer::Out(40)),
         (1, Event::Arrival(vec![0]), 12, got(0, 0)),
-        (0, Event::Send(Cue::with_focus(-2)), 20, Answer::Out(39)),
-        (0, Event::Send(Cue::with_focus(-2)), 30, Answer::Out(39)),
+        (0, Event::Send(Cue::with_focus(-2)), 20, Answer::Out(40)),
+        (0, Event::Send(Cue::with_focus(-2)), 30, Answer::Out(40)),
         (1, Event::Arrival(vec![2]), 32, got(0, 2)),
         (1, Event::Fire, 391, Answer::Nothing),
-        (1, Event::Fire, 392, Answer::Out(15)),
+        (1, Event::Fire, 392, Answer::Out(16)),
         (0, Event::Arrival(vec![3]), 400, Answer::Done),
-        (0, Event::Fire, 560, Answer::Out(39)),
+        (0, Event::Fire, 560, Answer::Out(40)),
         (1, Event::Arrival(vec![4]), 570, got(0, 1)),
     ];
     let mut ends = [opened(0), opened(1)];
@@ -228,9 +228,12 @@ fn the_listing() {
     }
     assert_eq!(
         messages[3],
-        [2, 1, 0, 0, 0, 0, 1, 0x88, 1, 0, 1, 1, 0, 0, 0]
+        [18, 1, 0, 0, 0, 0, 1, 0x88, 1, 0, 0, 1, 1, 0, 0, 0]
     );
-    assert_eq!(messages[4][..12], [3, 0, 0, 0, 0, 0, 2, 0x30, 1, 0, 1, 1]);
+    assert_eq!(
+        messages[4][..13],
+        [19, 0, 0, 0, 0, 0, 2, 0x30, 1, 0, 0, 1, 1]
+    );
 }
 
 #[test]
@@ -241,7 +244,7 @@ fn questions_1_to_5_in_order() {
         ..member(0)
     };
     let unsound = End {
-        next: 65,
+        next: 65_537,
         ..end.clone()
     };
     let ask = |end: &End, clock, draws: usize, out: usize| {
@@ -272,7 +275,7 @@ fn questions_6_to_11_in_any_status() {
     ];
     for status in all {
         let mut end = End {
-            next: 64,
+            next: 65_536,
             ..with_status(0, status)
         };
         let bad = Event::Send(Cue::with_focus(-2001));
@@ -288,7 +291,7 @@ fn questions_6_to_11_in_any_status() {
             Answer::Refused(8)
         );
         let mut looped = bytes(&data(0, 0));
-        looped[13..15].copy_from_slice(&i16::to_be_bytes(-2001));
+        looped[14..16].copy_from_slice(&i16::to_be_bytes(-2001));
         assert_eq!(
             step(&mut end, Event::Arrival(looped), 2, 0).0,
             Answer::Refused(10)
@@ -299,7 +302,7 @@ fn questions_6_to_11_in_any_status() {
 #[test]
 fn lamp_at_send() {
     let mut end = member(0);
-    for (lamp, answer) in [(1000u16, Answer::Out(39)), (1001, Answer::Refused(6))] {
+    for (lamp, answer) in [(1000u16, Answer::Out(40)), (1001, Answer::Refused(6))] {
         let mut cue = Cue::ZERO;
         cue.0[8..10].copy_from_slice(&lamp.to_be_bytes());
         assert_eq!(step(&mut end, Event::Send(cue), 0, 0).0, answer);
@@ -416,7 +419,7 @@ fn leave_and_crash_clear() {
         };
         assert_eq!(
             step(&mut end, Event::Send(Cue::ZERO), 20, 0).0,
-            Answer::Out(39)
+            Answer::Out(40)
         );
         assert_eq!(
             hear(&mut end, &session(0, 3, vec![], vec![echo]), 80, 0),
@@ -444,17 +447,17 @@ fn the_own_number_goes_on_after_leave() {
         assert_eq!(step(&mut end, event, 1, 0).0, Answer::Done);
     }
     let (_, out) = step(&mut end, send(), 2, 0);
-    assert_eq!(out[9..12], [0, 1, 0]);
+    assert_eq!(out[9..13], [0, 0, 1, 0]);
     assert_eq!((span(&end, 0), end.next), ((Some(1), Some(1)), 2));
 }
 
 #[test]
-fn sixty_four_sends() {
+fn a_season_of_sends() {
     let mut end = member(3);
-    for number in 0..64 {
-        let cue = Cue::with_focus(i16::from(number));
+    for number in 0..=65_535 {
+        let cue = Cue::with_focus((number % 2000) as i16);
         let (answer, out) = step(&mut end, Event::Send(cue), 7, 0);
-        assert_eq!(answer, Answer::Out(39));
+        assert_eq!(answer, Answer::Out(40));
         let sent = read(&out).unwrap();
         let expected = about(DATA, 3, (3, number, 3), Some(cue));
         assert_eq!(
@@ -464,13 +467,16 @@ fn sixty_four_sends() {
                 ..expected
             }
         );
-        assert_eq!(span(&end, 3), (Some(0), Some(number)));
+        // "first becomes the greater of itself and L−63"
+        let first = number.saturating_sub(63);
+        assert_eq!(span(&end, 3), (Some(first), Some(number)));
+        assert_eq!(end.sources[3].missed, 0);
     }
     assert_eq!(
         step(&mut end, Event::Send(Cue::ZERO), 8, 0).0,
         Answer::Refused(7)
     );
-    assert_eq!((end.next, end.clock), (64, 7));
+    assert_eq!((end.next, end.clock), (65_536, 7));
 }
 
 #[test]
@@ -602,7 +608,7 @@ fn the_last_round_at_the_last_clock() {
     record(&mut end, 0, 3).body = waiting(15, 5, 0);
     assert_eq!(
         step(&mut end, Event::Fire, CLOCK_MAX, 65534).0,
-        Answer::Out(15)
+        Answer::Out(16)
     );
     // 1048576000 / 65535 is 16000 and a part: so much and that part is missing.
     let due = CLOCK_MAX + long + long - 16_001;
@@ -781,7 +787,7 @@ fn reports() {
     let (answer, out) = step(&mut end, Event::Report, 3, 0);
     assert_eq!(
         (answer, out),
-        (Answer::Out(12), vec![4, 1, 0, 0, 0, 0, 0, 3, 0, 0, 0, 0])
+        (Answer::Out(12), vec![20, 1, 0, 0, 0, 0, 0, 3, 0, 0, 0, 0])
     );
     let mut end = holder();
     step(&mut end, Event::Send(Cue::ZERO), 20, 0);
@@ -822,7 +828,7 @@ fn fire_takes_the_earliest() {
         assert!(message
             .cues
             .iter()
-            .all(|cue| *cue == Cue::with_focus(number.into())));
+            .all(|cue| *cue == Cue::with_focus(number as i16)));
     }
     let expected = [
         (REPL, 2, 0, 3),
@@ -846,7 +852,7 @@ fn sound_with(change: impl FnOnce(&mut End)) -> bool {
     let mut end = holder();
     assert_eq!(
         step(&mut end, Event::Send(Cue::ZERO), 20, 0).0,
-        Answer::Out(39)
+        Answer::Out(40)
     );
     change(&mut end);
     end.sound()
@@ -870,7 +876,13 @@ fn sound_fields() {
     assert!(!sound_with(|end| end.clock = CLOCK_MAX + 1));
     assert!(!sound_with(|end| end.next = 2), "own last is next-1");
     assert!(!sound_with(|end| end.next = 0));
-    for (next, sound) in [(0, true), (64, true), (65, false), (255, false)] {
+    for (next, sound) in [
+        (0, true),
+        (64, true),
+        (65_536, true),
+        (65_537, false),
+        (u32::MAX, false),
+    ] {
         assert_eq!(End { next, ..member(0) }.sound(), sound);
     }
     for (distance, sound) in [(0, false), (1, true), (1000, true), (1001, false)] {
@@ -1046,7 +1058,7 @@ fn long_runs() {
             };
             let draws: Vec<Draw> = (0..64).map(|_| dice.below(65536) as Draw).collect();
             let end = &mut ends[host];
-            let full = end.next == 64 && end.status == Status::Member;
+            let full = end.next == 65_536 && end.status == Status::Member;
             let (answer, out) = stepped(end, &event, clock, &draws);
             match answer {
                 Answer::Refused(7) => assert!(full && matches!(event, Event::Send(_))),

@@ -48,6 +48,14 @@ fn small_number(out: &mut [u8], at: usize, n: u8) -> usize
     decimal::put_u64(out, at, n as u64)
 }
 
+// A cue number has five bytes at most.
+fn cue_number(out: &mut [u8], at: usize, n: u16) -> usize
+    requires { ⌜ at + 5 ≤ length (now out) ⌝ }
+    ensures { λ r. ⌜ Put 5 at (decimalOf n) (now (out .entry)) (now (out .exit)) r ⌝ }
+{
+    decimal::put_u64(out, at, n as u64)
+}
+
 fn integer(out: &mut [u8], at: usize, z: i16) -> usize
     requires { ⌜ at + 6 ≤ length (now out) ⌝ }
     ensures { λ r. ⌜ Put 6 at (signedDecimal z) (now (out .entry)) (now (out .exit)) r ⌝ }
@@ -60,6 +68,14 @@ fn spaced(out: &mut [u8], at: usize, n: u8) -> usize
     ensures { λ r. ⌜ Put 4 at (spacedOf n) (now (out .entry)) (now (out .exit)) r ⌝ }
 {
     let end = small_number(out, at, n);
+    text(out, end, b" ")
+}
+
+fn spaced_number(out: &mut [u8], at: usize, n: u16) -> usize
+    requires { ⌜ at + 6 ≤ length (now out) ⌝ }
+    ensures { λ r. ⌜ Put 6 at (spacedOf n) (now (out .entry)) (now (out .exit)) r ⌝ }
+{
+    let end = cue_number(out, at, n);
     text(out, end, b" ")
 }
 
@@ -89,11 +105,11 @@ fn put_refused(out: &mut [u8], at: usize, question: u8) -> usize
 
 // The name and the focus after got.
 fn put_values(out: &mut [u8], at: usize, source: Host, number: CueNumber, focus: i16) -> usize
-    requires { ⌜ at + 14 ≤ length (now out) ⌝ }
-    ensures { λ r. ⌜ Put 14 at (spacedOf (source .0) ++ (spacedOf (number .0) ++ signedDecimal focus)) (now (out .entry)) (now (out .exit)) r ⌝ }
+    requires { ⌜ at + 16 ≤ length (now out) ⌝ }
+    ensures { λ r. ⌜ Put 16 at (spacedOf (source .0) ++ (spacedOf (number .0) ++ signedDecimal focus)) (now (out .entry)) (now (out .exit)) r ⌝ }
 {
     let first = spaced(out, at, source.0);
-    let second = spaced(out, first, number.0);
+    let second = spaced_number(out, first, number.0);
     integer(out, second, focus)
 }
 
@@ -111,7 +127,7 @@ fn put_clash(out: &mut [u8], at: usize, source: Host, number: CueNumber) -> usiz
 {
     let first = text(out, at, b"clash ");
     let second = spaced(out, first, source.0);
-    small_number(out, second, number.0)
+    cue_number(out, second, number.0)
 }
 
 fn put_reason(out: &mut [u8], at: usize, reason: Reason) -> usize

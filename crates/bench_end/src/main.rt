@@ -63,7 +63,7 @@ fn sent(e: End, clock: u64) -> End {
     s.end
 }
 
-// s: a member sends its 64 cues; then another does.
+// s: a member sends 64 cues; then another does.
 fn sends(n: u64) -> u64 {
     let mut e = member(0);
     let mut i: u64 = 0;
@@ -88,15 +88,15 @@ fn heard(e: End, clock: u64, bytes: &[u8], len: usize) -> End
 
 // A message of host 0, sent at clock 0: a session message that reports nothing, in the first 12 bytes, or its cue of this number, all
 // zeros.
-fn message(session: bool, number: u8) -> [u8; 39] {
-    let mut bytes: [u8; 39] = [0; 39];
+fn message(session: bool, number: u8) -> [u8; 40] {
+    let mut bytes: [u8; 40] = [0; 40];
     if session {
-        bytes[0] = 4;
+        bytes[0] = message::SESS;
     } else {
-        bytes[0] = 1;
+        bytes[0] = message::DATA;
         bytes[8] = 1;
-        bytes[10] = number;
-        bytes[12] = 1;
+        bytes[11] = number;
+        bytes[13] = 1;
     }
     bytes
 }
@@ -104,7 +104,7 @@ fn message(session: bool, number: u8) -> [u8; 39] {
 // g: a member gets 64 cues in their order; then another does. h: a member hears session messages. One loop for both, so that the call
 // stands at one place, as in a controller's loop.
 fn hears(n: u64, session: bool) -> u64 {
-    let len: usize = if session { 12 } else { 39 };
+    let len: usize = if session { 12 } else { 40 };
     let mut e = member(1);
     let mut i: u64 = 0;
     while i < n {

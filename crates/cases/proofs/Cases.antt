@@ -11,11 +11,12 @@ use Rattle.cases.specs.Quiet.{quietRows}
 use Rattle.cases.specs.Stage.{stageRows}
 use Rattle.cases.specs.Clashes.{clashRows}
 use Rattle.cases.specs.Probe.{probeRows}
+use Rattle.cases.specs.Season.{seasonRows}
 use Rattle.cases.proofs.Opened.{opened}
 
 pub cases-hold : Hold rows
 unfolding rows opened
-cases-hold = (refl, (refl, (refl, (refl, (refl, (refl, (refl, (refl, (refl, (refl, (refl, (refl, (refl, (refl, (refl, (refl, (refl, (refl, (refl, (refl, (refl, (refl, (refl, (refl, (refl, (refl, (refl, (refl, tt))))))))))))))))))))))))))))
+cases-hold = (refl, (refl, (refl, (refl, (refl, (refl, (refl, (refl, (refl, (refl, (refl, (refl, (refl, (refl, (refl, (refl, (refl, (refl, (refl, (refl, (refl, (refl, (refl, (refl, (refl, (refl, (refl, (refl, (refl, (refl, (refl, (refl, tt))))))))))))))))))))))))))))))))
 
 pub moves-hold : Hold moveRows
 unfolding moveRows opened
@@ -23,7 +24,7 @@ moves-hold = (refl, (refl, (refl, (refl, (refl, tt)))))
 
 pub wire-holds : Hold wireRows
 unfolding wireRows opened
-wire-holds = (refl, (refl, (refl, (refl, (refl, (refl, (refl, (refl, tt))))))))
+wire-holds = (refl, (refl, (refl, (refl, (refl, (refl, (refl, (refl, (refl, (refl, (refl, (refl, (refl, (refl, (refl, (refl, (refl, (refl, (refl, (refl, (refl, tt)))))))))))))))))))))
 
 pub timed-hold : Hold timedRows
 unfolding timedRows opened
@@ -60,3 +61,7 @@ probe-holds = (refl, (refl, (refl, (refl, (refl, (refl, (refl, (refl, (refl, (re
 pub factors-hold : Hold factorRows
 unfolding factorRows opened
 factors-hold = (refl, (refl, (refl, (refl, (refl, (refl, (refl, (refl, (refl, (refl, (refl, (refl, (refl, (refl, (refl, (refl, tt))))))))))))))))
+
+pub season-holds : Hold seasonRows
+unfolding seasonRows opened
+season-holds = (refl, (refl, (refl, (refl, (refl, (refl, (refl, (refl, (refl, (refl, (refl, (refl, (refl, (refl, (refl, (refl, (refl, (refl, (refl, (refl, (refl, (refl, (refl, (refl, tt))))))))))))))))))))))))

@@ -150,6 +150,22 @@ pub not-looped : TurnsDown arrive.looped
 unfolding From start books told standing opened
 not-looped = turned-down arrive.looped (λ r. true≢false (r .0), (refl, refl, (refl, refl, tt)), (refl, refl, (refl, refl, tt)))
 
+pub not-retired : TurnsDown arrive.retired
+unfolding From start books told standing opened
+not-retired = turned-down arrive.retired (
+  λ r. true≢false (r .0),
+  (refl, refl, (refl, refl, (refl, refl, tt))),
+  (refl, refl, (refl, refl, (refl, refl, tt))),
+)
+
+pub not-reported-early : TurnsDown arrive.reportedEarly
+unfolding From start books told standing opened
+not-reported-early = turned-down arrive.reportedEarly (
+  λ r. eqb-false 2 4 refl (ap told (r .0)),
+  (refl, refl, (refl, refl, (refl, refl, tt))),
+  (refl, refl, (refl, refl, (refl, refl, tt))),
+)
+
 pub not-other-name : TurnsDown arrive.otherName
 unfolding From start books told standing opened
 not-other-name = turned-down arrive.otherName (λ r. eqb-false 4 3 refl (ap told (r .0)), (refl, refl, tt), (refl, refl, tt))

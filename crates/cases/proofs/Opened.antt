@@ -7,7 +7,7 @@ use Rattle.message.specs.Message.{bytesWith, meaningWith}
 use Rattle.message.specs.Question.{inRange, hostsFit, readRefusal, readOf, writeRefusal, writtenOf, outputOf}
 use Rattle.end.specs.Sound.{allBelow, soundOf}
 use Rattle.end.specs.Round.{factor, share}
-use Rattle.end.specs.Names.{requested, rise}
+use Rattle.end.specs.Names.{filled, lacking, riseWith}
 use Rattle.end.specs.Messages.{reportsBelow, echoesBelow}
 use Rattle.end.specs.Records.{recordAt}
 use Rattle.end.specs.Decide.{sameCue, decideData, reached, decideReply, decideRound, decideRequest, decideRepair, decideAs, apply, effectOf, stepAt}
@@ -17,11 +17,11 @@ use Rattle.end.specs.Fire.{foldUp, earliest, fireAt, fired}
 use Rattle.end.specs.Event.{movedEnd, moveOf, actOf, stepOf, questionOf, eventOf}
 use Rattle.end.specs.Why.{whyOf}
 use Rattle.end.specs.Opening.{openRefusal, openingOf}
-use Rattle.end.specs.Book.{put, readAs, among, firstOf, notBelow, isSome, limits, gets, dueMessage, due, clearedBy, movedBook, file, hand, afterMessage, after as afterCall, isGot, bookAfter}
+use Rattle.end.specs.Book.{put, readAs, raisedTo, reportedTo, broughtTo, among, firstOf, notBelow, isSome, kept, limits, gets, dueMessage, due, clearedBy, movedBook, file, higher, hand, bring, hears, afterMessage, after as afterCall, isGot, bookAfter}
 use Rattle.end.specs.Run.{resultOf, sentAfter, worldAfter, seen}
 use Rattle.end.specs.Answer.{answerOf, bufferOf}
 use Rattle.cases.specs.Shown.{returned, readOff, onlooked}
 
 unfoldable pub opened : ℕ
-unfolding valueAfter digits cueIn cueWith entries flat section sectionFrom after all rises bytesWith meaningWith inRange hostsFit readRefusal readOf writeRefusal writtenOf outputOf allBelow soundOf factor share requested rise reportsBelow echoesBelow recordAt sameCue decideData reached decideReply decideRound decideRequest decideRepair decideAs apply effectOf stepAt allReported measured sessionOf messageStep foldUp earliest fireAt fired movedEnd moveOf arrivalOf actOf stepOf questionOf eventOf whyOf openRefusal openingOf put readAs among firstOf notBelow isSome limits gets dueMessage due clearedBy movedBook file hand afterMessage afterCall isGot bookAfter resultOf sentAfter worldAfter seen answerOf bufferOf returned readOff onlooked
+unfolding valueAfter digits cueIn cueWith entries flat section sectionFrom after all rises bytesWith meaningWith inRange hostsFit readRefusal readOf writeRefusal writtenOf outputOf allBelow soundOf factor share filled lacking riseWith reportsBelow echoesBelow recordAt sameCue decideData reached decideReply decideRound decideRequest decideRepair decideAs apply effectOf stepAt allReported measured sessionOf messageStep foldUp earliest fireAt fired movedEnd moveOf arrivalOf actOf stepOf questionOf eventOf whyOf openRefusal openingOf put readAs raisedTo reportedTo broughtTo among firstOf notBelow isSome kept limits gets dueMessage due clearedBy movedBook file higher hand bring hears afterMessage afterCall isGot bookAfter resultOf sentAfter worldAfter seen answerOf bufferOf returned readOff onlooked
 opened = 0

@@ -18,7 +18,7 @@ use Rattle.end.specs.Answer.{Effect, Out, Got, Done, Ignored, Nothing, Clash}
 use Rattle.end.specs.Event.{Action, Moves, Send, Arrival, Else, moves}
 use Rattle.end.specs.Answer.{Outcome, Refused, Did}
 use Rattle.end.specs.State.{isMember}
-use Rattle.end.specs.Book.{Book, put, readAs, source, number, isOriginal, isRepair, among, firstOf, notBelow, isSome, limits, gets, dueMessage}
+use Rattle.end.specs.Book.{Book, put, readAs, source, number, isOriginal, isRepair, among, firstOf, notBelow, isSome, kept, limits, gets, hears, bring, dueMessage}
 use Rattle.end.specs.Book.{Entry, due, movedBook, file, hand, afterMessage, after, isGot, Meets, Answered, bookAfter, RunFrom, emptyBook}
 use Rattle.end.specs.Run.{World, Call, CueArray, Allowed, resultOf, sentAfter, worldAfter, seen}
 use Rattle.end.proofs.Tools.{byCond, clash, clash′, and-left, and-right}
@@ -48,9 +48,9 @@ long-at (x ∷ l) (suc n) a h = long-at l n (a .1) h
 
 -- a call leaves the book so
 long-message : (b : Book) (h : ℕ) (m : Option Meaning) → Long b → Long (afterMessage b h m)
-unfolding Long afterMessage hand
+unfolding Long afterMessage hand bring
 long-message b h none l = l
-long-message b h (some m) l = byCond Long (gets b h m) (λ _. l) (λ _. l)
+long-message b h (some m) l = byCond Long (gets b h m) (λ _. l) (λ _. byCond Long (hears b h m) (λ _. l) (λ _. l))
 
 long-after : (b : Book) (h : ℕ) (ev : Action) → CueArray ev → Long b → Long (after b h ev)
 unfolding Long after movedBook file put
@@ -83,7 +83,7 @@ unfolding gets limits
 gets-filed b h m t =
     let such = isOriginal m || (isRepair m && isSome (firstOf (b .handed h (source m)))) in
     let within : limits b h (source m) (number m) ≡ true = and-right (not (eqb (m .sender .0) h)) _ (and-right such _ t) in
-    and-left _ (notBelow (firstOf (b .handed h (source m))) (number m) && not (among (number m) (b .handed h (source m))))
+    and-left _ (notBelow (firstOf (b .handed h (source m))) (number m) && (kept (b .highest h (source m)) (number m) && not (among (number m) (b .handed h (source m)))))
     (and-right (not (eqb h (source m))) _ (and-right (isMember (b .status h)) _ within))
 
 whole-message : (b : Book) (h : ℕ) (m : Option Meaning) (x : Effect) → Long b → Meets (dueMessage b h m) x → Whole x

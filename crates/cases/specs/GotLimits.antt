@@ -1,5 +1,9 @@
 -- The limits of the book on an Arrival, one list of entries for each. Document 01, "The service's book".
-use mathlib.Core.List.{[], _∷_, _++_}
+use Prim.Native.Nat.{ℕ}
+use mathlib.Core.List.{List, [], _∷_, _++_}
+use mathlib.Core.Option.{some}
+use Rattle.message.specs.Entry.{asHost, asNumber}
+use Rattle.message.specs.Message.{SESS, bytesOf}
 use Rattle.end.specs.declared.Status.the-variants.{Idle, Member, Leaving}
 use Rattle.end.specs.Answer.{Got, Done, Ignored}
 use Rattle.end.specs.Event.{Moves, Arrival}
@@ -42,7 +46,7 @@ toTheSource = record {
 -- a book that no list leads to, in which this limit alone is left: all hosts are members, each has sent two cues, and the first of each is
 -- handed out to all, the sender too
 abbrev pub owned : Book
-owned = record { status = λ h. Member; filed = λ h. minusTwo ∷ minusTwo ∷ []; handed = λ h s. 0 ∷ [] }
+owned = record { status = λ h. Member; filed = λ h. minusTwo ∷ minusTwo ∷ []; handed = λ h s. 0 ∷ []; highest = λ h s. some 0 }
 
 -- ---- "the name is filed": host 0 has not sent its third cue
 abbrev pub notFiled : Limit
@@ -68,6 +72,36 @@ twice = record {
   wrong = hears 1 message0 (got 0);
   right = hears 1 message0 (Did Ignored);
   instead = hears 1 message0 (got 0) ∷ leaves 1 ++ (joins 1 ++ (hears 1 message0 (got 0) ∷ []));
+}
+
+-- ---- document 02, P7: "Got now also needs a number not below L−63", L "the highest number .. that unlooped DATA, RQST, REPL and SESS ..
+-- brought": host 2 reports last 65 of host 0, so 2 is the least; 64 leaves 1 in
+abbrev pub reported : ℕ → List ℕ
+reported last = bytesOf (record {
+  kind = SESS;
+  sender = asHost 2;
+  stamp = 30;
+  names = [];
+  cues = [];
+  reports = record { source = asHost 0; last = asNumber last } ∷ [];
+  echoes = [];
+})
+
+abbrev pub retired : Limit
+retired = record {
+  before = hears 1 message0 (got 0) ∷ hears 1 (reported 65) (Did Done) ∷ [];
+  wrong = hears 1 message1 (got 1);
+  right = hears 1 message1 (Did Ignored);
+  instead = hears 1 message0 (got 0) ∷ hears 1 (reported 64) (Did Done) ∷ hears 1 message1 (got 1) ∷ [];
+}
+
+-- "from the first hand-out since joining": a report before it counts for nothing
+abbrev pub reportedEarly : Limit
+reportedEarly = record {
+  before = hears 1 (reported 65) (Did Done) ∷ hears 1 message0 (got 0) ∷ [];
+  wrong = hears 1 message1 (Did Ignored);
+  right = hears 1 message1 (got 1);
+  instead = hears 1 message0 (got 0) ∷ hears 1 (reported 65) (Did Done) ∷ hears 1 message1 (Did Ignored) ∷ [];
 }
 
 -- ---- "Got comes exactly when an original, or a repair where there is such a first, isn't looped and meets the limits."

@@ -15,3 +15,4 @@ pub mod GotLimits
 pub mod CallLimits
 pub mod Reasons
 pub mod Probe
+pub mod Season

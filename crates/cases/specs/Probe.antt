@@ -59,7 +59,7 @@ probing = call 0 0 (Arrival []) ∷ script ++ (call 1 571 (Arrival []) ∷ [])
 
 -- end 1's session message at clock 571, hexadecimal 23B, with source 0 up to number 2
 abbrev pub session571 : List ℕ
-session571 = SESS ∷ 1 ∷ 0 ∷ 0 ∷ 0 ∷ 0 ∷ 0x02 ∷ 0x3B ∷ 0 ∷ 0 ∷ 1 ∷ 0 ∷ 2 ∷ 0 ∷ []
+session571 = SESS ∷ 1 ∷ 0 ∷ 0 ∷ 0 ∷ 0 ∷ 0x02 ∷ 0x3B ∷ 0 ∷ 0 ∷ 1 ∷ 0 ∷ 0 ∷ 2 ∷ 0 ∷ []
 
 abbrev pub probingGives : List Outcome
 probingGives = Did Ignored ∷ printed ++ (Did (Out session571) ∷ [])

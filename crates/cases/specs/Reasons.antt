@@ -98,11 +98,11 @@ reasonRows =
     ∷ case (whyOf (endBy 0 []) 20 (Send minusTwo)) NoReason
     ∷ case (whyOf (endBy 0 []) 20 (Else Report)) NoReason
     -- "An event that would be refused as 3 to 11 yields that number."
-    ∷ case (whyOf (memberAt 65) 20 (Else Fire)) (Refused 3)
+    ∷ case (whyOf (memberAt 65537) 20 (Else Fire)) (Refused 3)
     ∷ case (whyOf (endBy 0 []) ticksLimit (Else Fire)) (Refused 4)
     ∷ case (whyOf (endBy 0 sent) 9 (Else Fire)) (Refused 5)
     ∷ case (whyOf (endBy 0 []) 20 (Send (cueOfFocus (negsuc 2000)))) (Refused 6)
-    ∷ case (whyOf (memberAt 64) 20 (Send (cueOfFocus (pos 0)))) (Refused 7)
+    ∷ case (whyOf (memberAt 65536) 20 (Send (cueOfFocus (pos 0)))) (Refused 7)
     ∷ case (whyOf (endBy 0 []) 20 (Arrival (SESS ∷ []))) (Refused 8)
     ∷ case (whyOf (endBy 0 []) 20 (Arrival (9 ∷ replicate 11 0))) (Refused 9)
     ∷ case (whyOf (endBy 0 []) 20 (Arrival (SESS ∷ 8 ∷ replicate 10 0))) (Refused 10)

@@ -43,7 +43,7 @@ dataNumbered n cue = record {
 abbrev pub dataOf : List ℕ → Meaning
 dataOf cue = dataNumbered 0 cue
 
--- the RQST of end 1 at clock 392 for name 0,1, and its bytes
+-- the RQST of end 1 at clock 392 for name 0,1; its bytes in document 01, and those that document 02, P7, gives it
 abbrev pub rqst : Meaning
 rqst = record {
   kind = RQST;
@@ -57,6 +57,9 @@ rqst = record {
 
 abbrev pub rqstBytes : List ℕ
 rqstBytes = 0x02 ∷ 0x01 ∷ 0x00 ∷ 0x00 ∷ 0x00 ∷ 0x00 ∷ 0x01 ∷ 0x88 ∷ 0x01 ∷ 0x00 ∷ 0x01 ∷ 0x01 ∷ 0x00 ∷ 0x00 ∷ 0x00 ∷ []
+
+abbrev pub rqstBytesNow : List ℕ
+rqstBytesNow = 0x12 ∷ 0x01 ∷ 0x00 ∷ 0x00 ∷ 0x00 ∷ 0x00 ∷ 0x01 ∷ 0x88 ∷ 0x01 ∷ 0x00 ∷ 0x00 ∷ 0x01 ∷ 0x01 ∷ 0x00 ∷ 0x00 ∷ 0x00 ∷ []
 
 -- an output of 128 bytes
 abbrev pub output : List ℕ
@@ -86,9 +89,12 @@ rows =
     ∷ case (openRefusal (asHost 0) (params 9 8 4 4 4 10)) 13
     -- "−2001: 6 at Send"
     ∷ case (at0 (memberAt 0) (Send (cueOfFocus (negsuc 2000))) .outcome) (Refused 6)
-    -- "Cue 63 is sent; a next send: 7"
+    -- "Cue 63 is sent; a next send: 7", which document 02, P7, has "only at 65,536, in document 01's case after 65,535"
     ∷ case (at0 (memberAt 63) (Send (cueOfFocus (pos 0))) .outcome) (Did (Out (bytesOf (dataNumbered 63 (cueOfFocus (pos 0))))))
-    ∷ case (at0 (at0 (memberAt 63) (Send (cueOfFocus (pos 0))) .left) (Send (cueOfFocus (pos 0))) .outcome) (Refused 7)
+    ∷ case (at0 (at0 (memberAt 63) (Send (cueOfFocus (pos 0))) .left) (Send (cueOfFocus (pos 0))) .outcome) (Did (Out (bytesOf (dataNumbered 64 (cueOfFocus (pos 0))))))
+    ∷ case (at0 (memberAt 65535) (Send (cueOfFocus (pos 0))) .outcome) (Did (Out (bytesOf (dataNumbered 65535 (cueOfFocus (pos 0))))))
+    ∷ case (at0 (at0 (memberAt 65535) (Send (cueOfFocus (pos 0))) .left) (Send (cueOfFocus (pos 0))) .outcome) (Refused 7)
+    ∷ case (at0 (memberAt 65536) (Send (cueOfFocus (pos 0))) .outcome) (Refused 7)
     -- "Fresh member's Report: 12 bytes"
     ∷ case (at0 (memberAt 0) (Else Report) .outcome) (Did (Out (SESS ∷ replicate 11 0)))
     -- "e = 80 gives 10 ms; e = 0 gives 1": at clock 100, from a distance of 40
@@ -97,7 +103,7 @@ rows =
     -- the listing of "house"
     ∷ case (played script) printed
     -- and the RQST in it, which goes out of Fire at clock 392
-    ∷ case message3 rqstBytes
+    ∷ case message3 rqstBytesNow
     -- "Focus −2 is FF FE"
     ∷ case (take 2 (cueOfFocus (negsuc 1))) (0xFF ∷ 0xFE ∷ [])
     ∷ case (fieldsOf (0xFF ∷ 0xFE ∷ replicate 22 0) .focus) (negsuc 1)
@@ -117,7 +123,8 @@ rows =
     ∷ case (writeRefusal (Saying (heldAs (dataOf (cueOfFocus (negsuc 1999))))) output) 0
     -- "Empty message: 8", which by document 02, P5, "reads "probe""
     ∷ case (readOf []) (record { verdict = Probe; message = blankMessage })
-    -- "RQST of end 1 at clock 392 for name 0,1: hexadecimal 02 01 00 00 00 00 01 88 01 00 01 01 00 00 00", written and read
-    ∷ case (outputOf (Saying (heldAs rqst)) output) (rqstBytes ++ replicate 113 170)
+    -- "RQST of end 1 at clock 392 for name 0,1: hexadecimal 02 01 00 00 00 00 01 88 01 00 01 01 00 00 00", "one of reading"; as it is written now
+    ∷ case (outputOf (Saying (heldAs rqst)) output) (rqstBytesNow ++ replicate 112 170)
+    ∷ case (readOf rqstBytesNow) (record { verdict = Accepted; message = heldAs rqst })
     ∷ case (readOf rqstBytes) (record { verdict = Accepted; message = heldAs rqst })
     ∷ []

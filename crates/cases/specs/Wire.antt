@@ -1,5 +1,6 @@
 -- Messages and cues as bytes, written and read, in which no two fields could change places unseen. Document 01, "Messages" and "The link
--- and its edge". "Numbers are big-endian."
+-- and its edge". "Numbers are big-endian." Document 02, P7: "Cue numbers become 0..65535, two bytes in names and reports, under kinds 17 to 20
+-- for 1 to 4; the old kinds are still read, numbers to 63, as the same meanings and no longer written".
 use Prim.Native.Nat.{ℕ}
 use mathlib.Core.List.{List, [], _∷_, _++_}
 use lib.ListN.{length, drop, replicate}
@@ -7,9 +8,10 @@ use lib.IntN.{pos, negsuc}
 use Rattle.message.specs.Cue.{fieldsOf, cueWith}
 use Rattle.message.specs.Entry.{asHost, asNumber}
 use Rattle.message.specs.Message.{DATA, RQST, SESS, Meaning, Saying, heldAs}
-use Rattle.message.specs.Question.{readOf, outputOf}
+use Rattle.message.specs.Question.{blankMessage, readOf, writtenOf, outputOf}
 use Rattle.message.specs.declared.CueFields.{CueFields}
-use Rattle.message.specs.declared.Verdict.the-variants.{Accepted}
+use Rattle.message.specs.declared.Reading.{Reading}
+use Rattle.message.specs.declared.Verdict.the-variants.{Accepted, Refused}
 use Rattle.cases.specs.Case.{Case, case}
 
 -- "focus, zoom, sideways and upright offset, each a signed 16-bit two's complement number ..; lamp power ..; 14 free bytes"
@@ -33,37 +35,48 @@ stamp = 0x010203040506
 abbrev pub head : ℕ → ℕ → List ℕ
 head kind sender = kind ∷ sender ∷ 0x01 ∷ 0x02 ∷ 0x03 ∷ 0x04 ∷ 0x05 ∷ 0x06 ∷ []
 
--- "names (source, cue number, host: 3 bytes)": a RQST of end 5 for name 2,33
-abbrev pub request : Meaning
-request = record {
-  kind = RQST;
-  sender = asHost 5;
+-- "names (source, cue number, host ..)": an end asks for a name
+abbrev pub asks : ℕ → ℕ → ℕ → ℕ → ℕ → Meaning
+asks kind sender stamp source number = record {
+  kind = kind;
+  sender = asHost sender;
   stamp = stamp;
-  names = record { name = record { source = asHost 2; number = asNumber 33 }; host = asHost 5 } ∷ [];
+  names = record { name = record { source = asHost source; number = asNumber number }; host = asHost sender } ∷ [];
   cues = [];
   reports = [];
   echoes = [];
 }
 
-abbrev pub requestBytes : List ℕ
-requestBytes = head 2 5 ++ (1 ∷ 2 ∷ 33 ∷ 5 ∷ 0 ∷ 0 ∷ 0 ∷ [])
+-- a RQST of end 5 for name 2,33, whose number has two bytes, and one byte under the old kind
+abbrev pub request : Meaning
+request = asks RQST 5 stamp 2 33
 
--- "cues (24)": the DATA of name 6,7
+abbrev pub requestBytes : List ℕ
+requestBytes = head 18 5 ++ (1 ∷ 2 ∷ 0 ∷ 33 ∷ 5 ∷ 0 ∷ 0 ∷ 0 ∷ [])
+
+abbrev pub oldRequest : ℕ → List ℕ
+oldRequest number = head 2 5 ++ (1 ∷ 2 ∷ number ∷ 5 ∷ 0 ∷ 0 ∷ 0 ∷ [])
+
+-- the greatest number
+abbrev pub greatest : List ℕ
+greatest = head 18 5 ++ (1 ∷ 2 ∷ 0xFF ∷ 0xFF ∷ 5 ∷ 0 ∷ 0 ∷ 0 ∷ [])
+
+-- "cues (24)": the DATA of name 6,263
 abbrev pub original : Meaning
 original = record {
   kind = DATA;
   sender = asHost 6;
   stamp = stamp;
-  names = record { name = record { source = asHost 6; number = asNumber 7 }; host = asHost 6 } ∷ [];
+  names = record { name = record { source = asHost 6; number = asNumber 0x0107 }; host = asHost 6 } ∷ [];
   cues = fullCue ∷ [];
   reports = [];
   echoes = [];
 }
 
 abbrev pub originalBytes : List ℕ
-originalBytes = head 1 6 ++ (1 ∷ 6 ∷ 7 ∷ 6 ∷ 1 ∷ fullCue ++ (0 ∷ 0 ∷ []))
+originalBytes = head 17 6 ++ (1 ∷ 6 ∷ 0x01 ∷ 0x07 ∷ 6 ∷ 1 ∷ fullCue ++ (0 ∷ 0 ∷ []))
 
--- "reports (source, last: 2), echoes (host, stamp, held ticks: 1+6+6)": a SESS of end 3
+-- "reports (source, last ..), echoes (host, stamp, held ticks: 1+6+6)": a SESS of end 3
 abbrev pub session : Meaning
 session = record {
   kind = SESS;
@@ -71,20 +84,59 @@ session = record {
   stamp = stamp;
   names = [];
   cues = [];
-  reports = record { source = asHost 6; last = asNumber 41 } ∷ [];
+  reports = record { source = asHost 6; last = asNumber 0x2930 } ∷ [];
   echoes = record { host = asHost 1; stamp = 0x0A0B0C0D0E0F; held = 0x101112131415 } ∷ [];
 }
 
 abbrev pub sessionBytes : List ℕ
 sessionBytes =
-    head 4 3
-    ++ (0 ∷ 0 ∷ 1 ∷ 6 ∷ 41 ∷ 1 ∷ 1 ∷ 0x0A ∷ 0x0B ∷ 0x0C ∷ 0x0D ∷ 0x0E ∷ 0x0F ∷ 0x10 ∷ 0x11 ∷ 0x12 ∷ 0x13 ∷ 0x14 ∷ 0x15 ∷ [])
+    head 20 3
+    ++ (0 ∷ 0 ∷ 1 ∷ 6 ∷ 0x29 ∷ 0x30 ∷ 1 ∷ 1 ∷ 0x0A ∷ 0x0B ∷ 0x0C ∷ 0x0D ∷ 0x0E ∷ 0x0F ∷ 0x10 ∷ 0x11 ∷ 0x12 ∷ 0x13 ∷ 0x14 ∷ 0x15 ∷ [])
+
+-- document 01, "Cases": a RQST of end 1 at stamp 392 for name 0,1, as bytes: "document 01's RQST case is one of reading"; and as it is now
+abbrev pub caseRequest : Meaning
+caseRequest = asks RQST 1 392 0 1
+
+abbrev pub caseBytes : List ℕ
+caseBytes = 0x02 ∷ 0x01 ∷ 0 ∷ 0 ∷ 0 ∷ 0 ∷ 0x01 ∷ 0x88 ∷ 1 ∷ 0 ∷ 1 ∷ 1 ∷ 0 ∷ 0 ∷ 0 ∷ []
+
+abbrev pub caseBytesNow : List ℕ
+caseBytesNow = 0x12 ∷ 0x01 ∷ 0 ∷ 0 ∷ 0 ∷ 0 ∷ 0x01 ∷ 0x88 ∷ 1 ∷ 0 ∷ 0 ∷ 1 ∷ 1 ∷ 0 ∷ 0 ∷ 0 ∷ []
+
+-- what the reader answers: a message, or a refusal
+abbrev pub says : Meaning → Reading
+says m = record { verdict = Accepted; message = heldAs m }
+
+abbrev pub refuses : ℕ → Reading
+refuses k = record { verdict = Refused k; message = blankMessage }
 
 -- a message written over an output of 128 bytes, and read
 abbrev pub bothWays : Meaning → List ℕ → List Case
 bothWays m bytes =
     case (outputOf (Saying (heldAs m)) (replicate 128 170)) (bytes ++ drop (length bytes) (replicate 128 170))
-    ∷ case (readOf bytes) (record { verdict = Accepted; message = heldAs m })
+    ∷ case (readOf bytes) (says m)
+    ∷ []
+
+-- document 01's kinds, read and no longer written
+abbrev pub oldRows : List Case
+oldRows =
+    case (readOf caseBytes) (says caseRequest)
+    -- "numbers to 63"
+    ∷ case (readOf (oldRequest 63)) (says (asks RQST 5 stamp 2 63))
+    ∷ case (readOf (oldRequest 64)) (refuses 10)
+    ∷ case (readOf (head 4 3 ++ (0 ∷ 0 ∷ 1 ∷ 6 ∷ 64 ∷ 0 ∷ []))) (refuses 10)
+    -- "no longer written": the kind of a message is 17 to 20
+    ∷ case (writtenOf (Saying (heldAs (asks 2 5 stamp 2 33))) (replicate 128 170)) (record { verdict = Refused 9; len = 0 })
+    ∷ []
+
+-- "Question 8 counts kinds 1 to 4 by the old sizes and every other kind byte by the new": a byte that is no kind, with a name of 3 bytes and of
+-- 4; kind 4 with a report of 3 bytes, and kind 20 with one of 2
+abbrev pub sizeRows : List Case
+sizeRows =
+    case (readOf (head 5 5 ++ (1 ∷ 2 ∷ 33 ∷ 5 ∷ 0 ∷ 0 ∷ 0 ∷ []))) (refuses 8)
+    ∷ case (readOf (head 5 5 ++ (1 ∷ 2 ∷ 0 ∷ 33 ∷ 5 ∷ 0 ∷ 0 ∷ 0 ∷ []))) (refuses 9)
+    ∷ case (readOf (head 4 3 ++ (0 ∷ 0 ∷ 1 ∷ 6 ∷ 0 ∷ 41 ∷ 0 ∷ []))) (refuses 8)
+    ∷ case (readOf (head 20 3 ++ (0 ∷ 0 ∷ 1 ∷ 6 ∷ 41 ∷ 0 ∷ []))) (refuses 8)
     ∷ []
 
 unfoldable pub wireRows : List Case
@@ -93,4 +145,6 @@ wireRows =
     case (cueWith fiveFields) fiveCue
     ∷ case (fieldsOf fullCue) fiveFields
     ∷ bothWays request requestBytes
-    ++ (bothWays original originalBytes ++ bothWays session sessionBytes)
+    ++ (bothWays original originalBytes
+    ++ (bothWays session sessionBytes
+    ++ (bothWays caseRequest caseBytesNow ++ (bothWays (asks RQST 5 stamp 2 65535) greatest ++ (oldRows ++ sizeRows)))))

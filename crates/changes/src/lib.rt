@@ -9,7 +9,6 @@ use end::Slot;
 use end::Source;
 use end::Span;
 use end::Status;
-use message::CueNumber;
 use message::Host;
 use trace::words;
 
@@ -58,7 +57,7 @@ fn set_top(e: End, field: u64, line: &[u8; 1000], end: usize, at: &mut usize) ->
             t.host = host;
         }
         words::CLOCK => t.clock = trace::number(line, end, at),
-        words::NEXT => t.next = trace::byte(line, end, at) as u32,
+        words::NEXT => t.next = trace::count(line, end, at),
         words::PARAMS => {
             let p = params(line, end, at);
             t.params = p;
@@ -71,9 +70,9 @@ fn set_top(e: End, field: u64, line: &[u8; 1000], end: usize, at: &mut usize) ->
 fn span(old: Span, field: u64, line: &[u8; 1000], end: usize, at: &mut usize) -> Span {
     match field {
         words::SPAN => {
-            let first = trace::byte(line, end, at);
-            let last = trace::byte(line, end, at);
-            Span::Open(CueNumber(first), CueNumber(last))
+            let first = trace::cue_number(line, end, at);
+            let last = trace::cue_number(line, end, at);
+            Span::Open(first, last)
         }
         words::CLOSED => Span::Closed,
         _ => old,
@@ -109,12 +108,17 @@ fn set_source(e: End, field: u64, line: &[u8; 1000], end: usize, at: &mut usize)
     let names = s.names;
     let span = span(old_span, field, line, end, at);
     let heard = heard(old_heard, field, line, end, at);
+    let mut missed = s.missed;
+    if field == words::MISSED {
+        missed = trace::count(line, end, at);
+    }
     let mut distance = s.distance;
     if field == words::DISTANCE {
         distance = trace::number(line, end, at);
     }
     let changed = Source {
         span,
+        missed,
         distance,
         heard,
         names,
@@ -178,9 +182,12 @@ pub fn set(e: End, line: &[u8; 1000], end: usize, at: &mut usize) -> End {
     let field = trace::key(line, end, at);
     match field {
         words::STATUS => state::with_status(e, status(line, end, at)),
-        words::SPAN | words::CLOSED | words::DISTANCE | words::HEARD | words::UNHEARD => {
-            set_source(e, field, line, end, at)
-        }
+        words::SPAN
+        | words::CLOSED
+        | words::MISSED
+        | words::DISTANCE
+        | words::HEARD
+        | words::UNHEARD => set_source(e, field, line, end, at),
         words::EMPTY | words::HELD | words::WAITS | words::REPLY | words::CUE | words::HUSH => {
             set_record(e, field, line, end, at)
         }

@@ -16,9 +16,9 @@ use Rattle.end.specs.declared.Reason.the-variants.{NotOpen, BelowFirst, OwnAbov
 use Rattle.end.specs.declared.Decision.{Decision}
 use Rattle.end.specs.declared.Decision.the-variants.{Ignores, Opens, Takes}
 use Rattle.end.specs.Records.{isClosed, isBelow, isAbove, isHeld}
-use Rattle.end.specs.Names.{rise}
+use Rattle.end.specs.Names.{asked, rise}
 use Rattle.end.specs.Ready.{Ranges}
-use Rattle.end.proofs.RecordLaws.{rise-distance}
+use Rattle.end.proofs.RiseLaws.{rise-distance}
 use Rattle.end.specs.Decide.{number, unless, ifSame, decideData, reached, decideRequest, decideRepair, decideAs}
 
 pub data-ladder : (w : Word) (r : Record) (x : Span)
@@ -49,4 +49,4 @@ module _ (t : Moment) (w : Word) (r : Record) (x : Span) where
 
 -- ---- a source whose last rose is as far as it was
 pub risen-ranges : (t : Moment) (us : List ℕ) (n : ℕ) (s x : Source) → x ≡ rise t us n s (s .span) → Ranges t (s .distance) → Ranges t (x .distance)
-risen-ranges t us n s x p r = rw (p, rise-distance t us n s (s .span)) r
+risen-ranges t us n s x p r = rw (p, rise-distance (asked t us (s .distance)) n s (s .span)) r

@@ -8,10 +8,13 @@ use Rattle.end.specs.Answer.{Did, answerOf}
 use Rattle.end.specs.Ready.{Ranges, Numbered}
 use Rattle.end.specs.Decide.{number, decide, apply, effectOf}
 use Rattle.state.specs.declared.Change.{Change}
+use Rattle.state.specs.Counted.{Counted}
 
--- the distances to the source and to the requester in range, and the number and the draws that the questions let through
-pub record Heeded (t : Moment) (w : Word) (d draws : ℕ) : Type 0 where
-  pub source : Ranges t d
+-- the distances to the source and to the requester in range, the source counted, and the number and the draws that the questions let
+-- through
+pub record Heeded (t : Moment) (w : Word) (s : Source) (draws : ℕ) : Type 0 where
+  pub source : Ranges t (s .distance)
+  pub counted : Counted s
   pub requester : Ranges t (w .distance)
   pub numbered : Numbered (number w) draws
 

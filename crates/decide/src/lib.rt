@@ -18,9 +18,7 @@ use end::Word;
 use state::Change;
 ghost use mathlib.Core.Path.{_≡_};
 ghost use mathlib.Core.Bool.{cond};
-ghost use Prim.Native.Nat.{_<_};
 ghost use lib.ListN.{length};
-ghost use Rattle.message.specs.Limit.{numberLimit};
 ghost use Rattle.end.specs.Answer.{Did, answerOf};
 ghost use Rattle.end.specs.Ready.{Ranges, Numbered};
 ghost use Rattle.end.specs.Records.{isClosed};
@@ -29,6 +27,7 @@ ghost use Rattle.end.specs.Names.{setRound, hold};
 ghost use Rattle.end.specs.Decide.{number, unless, sameCue, ifSame, decideData, reached, decideReply, decideRound, decideRequest, decideRepair, decideAs, risen, opened, apply, effectOf};
 ghost use Rattle.end.specs.Reasons.{reasonOf};
 ghost use Rattle.end.specs.Why.{because};
+ghost use Rattle.state.specs.Counted.{Counted};
 ghost use Rattle.decide.specs.Step.{Heeded, stepped};
 
 // ---- what is decided
@@ -175,7 +174,6 @@ pub fn decide(t: Moment, w: Word, r: Record, span: Span) -> Decision
 
 // The first cue of a source.
 fn open_source(w: Word, s: Source) -> Source
-    requires { ⌜ number w < numberLimit ⌝ }
     ensures { λ r. ⌜ r ≡ hold (number w) (w .cue) (opened w s) ⌝ }
 {
     let n = w.name.number;
@@ -188,6 +186,7 @@ fn open_source(w: Word, s: Source) -> Source
 fn take_cue(t: Moment, draws: &[Draw], w: Word, s: Source) -> Source
     requires { ⌜ Ranges t (s .distance) ⌝ }
     requires { ⌜ Numbered (number w) (length (now draws)) ⌝ }
+    requires { ⌜ Counted s ⌝ }
     ensures { λ r. ⌜ r ≡ hold (number w) (w .cue) (risen t (now (draws .entry)) w s) ⌝ }
 {
     let n = w.name.number;
@@ -200,6 +199,7 @@ fn take_cue(t: Moment, draws: &[Draw], w: Word, s: Source) -> Source
 fn learn(t: Moment, draws: &[Draw], w: Word, s: Source) -> Source
     requires { ⌜ Ranges t (s .distance) ⌝ }
     requires { ⌜ Numbered (number w) (length (now draws)) ⌝ }
+    requires { ⌜ Counted s ⌝ }
     ensures { λ r. ⌜ r ≡ setRound t (now (draws .entry)) (number w) 2 (risen t (now (draws .entry)) w s) ⌝ }
 {
     let n = w.name.number;
@@ -219,7 +219,7 @@ fn back_off(t: Moment, draws: &[Draw], w: Word, k: u8, s: Source) -> Source
 
 // What the decision does.
 fn apply(t: Moment, draws: &[Draw], w: Word, d: Decision, s: Source) -> Source
-    requires { ⌜ Heeded t w (s .distance) (length (now draws)) ⌝ }
+    requires { ⌜ Heeded t w s (length (now draws)) ⌝ }
     ensures { λ r. ⌜ r ≡ apply t (now (draws .entry)) w d s ⌝ }
 {
     let n = w.name.number;
@@ -276,7 +276,7 @@ pub fn reason_of(d: Decision) -> Why
 
 // A message about a name, on the name's source: what is decided is done, and answered.
 pub fn step(t: Moment, draws: &[Draw], w: Word, s: Source) -> Change
-    requires { ⌜ Heeded t w (s .distance) (length (now draws)) ⌝ }
+    requires { ⌜ Heeded t w s (length (now draws)) ⌝ }
     ensures { λ r. ⌜ r ≡ stepped t (now (draws .entry)) w s ⌝ }
 {
     let known = records::record_at(s, w.name.number);

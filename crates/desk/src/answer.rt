@@ -20,7 +20,7 @@ fn about(m: Message) -> Name {
     if m.kind == message::SESS {
         return Name {
             source: Host((m.counts.reports % 256) as u8),
-            number: CueNumber((m.counts.echoes % 256) as u8),
+            number: CueNumber((m.counts.echoes % 256) as u16),
         };
     }
     first.name

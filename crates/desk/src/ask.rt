@@ -21,6 +21,7 @@ fn ask_source(
     let s = changes::source(e, h);
     let head = flat::head_of(s);
     match field {
+        words::MISSED => text::number(text, n, head.missed),
         words::DISTANCE => text::number(text, n, head.distance),
         words::SPAN => shown::span(text, n, head),
         words::HEARD => shown::heard(text, n, head),

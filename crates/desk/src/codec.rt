@@ -44,6 +44,33 @@ fn reading(bytes: &[u8], len: usize) -> Reading {
     }
 }
 
+// Whether the first bytes of a buffer are accepted, and the writer gives them back.
+fn stands(bytes: &[u8; 256], len: usize) -> bool {
+    let r = reading(bytes, len);
+    let v = r.verdict;
+    let m = r.message;
+    match v {
+        Verdict::Accepted => comes_back(m, bytes, len),
+        _ => false,
+    }
+}
+
+// Whether what the writer gives for a message of an old kind, which it writes as the new one, stands.
+fn comes_anew(m: Message) -> bool {
+    let mut again = [0u8; 256];
+    let n = written(m, &mut again);
+    stands(&again, n)
+}
+
+// Whether an accepted message is written as it should be: an old kind's byte is not its kind.
+fn is_kept(m: Message, bytes: &[u8; 256], len: usize) -> bool {
+    if message::kind_of(bytes[0]) == bytes[0] {
+        comes_back(m, bytes, len)
+    } else {
+        comes_anew(m)
+    }
+}
+
 // `accepted` and the message.
 fn accepted(text: &mut [u8; 65536], n: &mut [usize; 20], m: Message, back: bool) {
     text::word(text, n, words::ACCEPTED);
@@ -69,7 +96,7 @@ fn told(text: &mut [u8; 65536], n: &mut [usize; 20], bytes: &[u8; 256], len: usi
     let v = r.verdict;
     let m = r.message;
     match v {
-        Verdict::Accepted => accepted(text, n, m, comes_back(m, bytes, len)),
+        Verdict::Accepted => accepted(text, n, m, is_kept(m, bytes, len)),
         Verdict::Probe => probed(text, n),
         Verdict::Refused(question) => {
             answer::refused(text, n, question);

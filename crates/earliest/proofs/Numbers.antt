@@ -31,9 +31,9 @@ module _ {x : Span} {first last : CueNumber} (l : SpanIn x) (e : x ≡ Open firs
   pub in-order : first .0 ≤ last .0 + 1
   in-order = omega (arith, ordered)
 
-  pub open-width : (last .0 + 1 - first .0 ≡ width x) × (start x + (last .0 + 1 - first .0) ≤ 64)
+  pub open-width : (last .0 + 1 - first .0 ≡ width x) × (start x + (last .0 + 1 - first .0) ≤ 65536)
   open-width = rw e (refl, omega (arith, ordered))
 
 -- the spans of a settled state, source by source
 pub span-in : {e : End} (h : ℕ) → h < 8 → Settled e → SpanIn (getD (e .sources) h noSource .span)
-span-in h l s = s .spans (asHost h) l
+span-in h l s = s .counts (asHost h) l .span

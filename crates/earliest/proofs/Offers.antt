@@ -22,7 +22,8 @@ module _ (name : Name) (clock : ℕ) (best : Earliest) {slot : Slot} {x : Earlie
       → slot ≡ Waiting q → x ≡ offered name clock slot best
   offered-request x e = rw e x
 
-  pub offered-reply : {reply : Reply} {due : ℕ} {requester : Host} → x ≡ cond (leb due clock) (earlier best (record { due = due; reply = true; name = name })) best
+  pub offered-reply : {reply : Reply} {due : ℕ} {requester : Host}
+      → x ≡ cond (leb due clock) (earlier best (record { due = due; reply = true; name = name })) best
       → slot ≡ Held reply → reply ≡ Due due requester → x ≡ offered name clock slot best
   offered-reply x e f = rw (e, f) x
 

@@ -68,16 +68,7 @@ fn offer(name: Name, clock: u64, slot: Slot, best: Earliest) -> Earliest
     }
 }
 
-// The first of the numbers first..last, and how many they are.
-fn start_of(span: Span) -> u64
-    ensures { λ r. ⌜ r ≡ start span ⌝ }
-{
-    match span {
-        Span::Closed => 0,
-        Span::Open(first, _) => first.0 as u64,
-    }
-}
-
+// How many the numbers first..last are.
 fn width_of(span: Span) -> u64
     requires { ⌜ SpanIn span ⌝ }
     ensures { λ r. ⌜ r ≡ width span ⌝ }
@@ -95,19 +86,19 @@ fn earliest_name(h: Host, clock: u64, s: Source, best: Earliest) -> Earliest
     ensures { λ r. ⌜ r ≡ earliestName h clock s best (width (s .span)) ⌝ }
 {
     let span = s.span;
-    let from = start_of(span);
+    let from = state::start_of(span);
     let count = width_of(span);
     let mut out = best;
     let mut i = 0;
     while i < count {
-        let k = (from + i) as u8;
-        let n = CueNumber(k);
-        let at = records::place(n);
+        let k = from + i;
+        let at = state::place(k);
         let r = s.names[at];
         let slot = r.slot;
+        let n = k as u16;
         let name = Name {
             source: h,
-            number: n,
+            number: CueNumber(n),
         };
         out = offer(name, clock, slot, out);
         i += 1;

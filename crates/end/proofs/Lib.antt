@@ -1,6 +1,7 @@
 pub mod Tools
 pub mod RecordLaws
-pub mod NameLaws
+pub mod Lacking
+pub mod RiseLaws
 pub mod FireLaws
 pub mod Bounds
 pub mod SoundLaws

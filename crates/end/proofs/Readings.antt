@@ -1,26 +1,26 @@
 -- What is known of a message that was read, and of bytes that an end puts out.
-use mathlib.Core.Path.{_≡_, refl, sym, ap, _∙_}
+use mathlib.Core.Path.{_≡_, refl, sym, ap, _∙_, subst}
 use mathlib.Core.Bool.{Bool, true, false, _&&_, _||_}
 use mathlib.Core.List.{List, [], _∷_}
 use mathlib.Core.Option.{some}
-use Prim.Native.Nat.{ℕ, _<_}
+use Prim.Native.Nat.{ℕ, _≤_, _<_}
 use native.Mathlib.Omega.{arith}
 use lib.ListN.{length, getD}
 use lib.Dec.{eqb}
-use borrow.Author.Tests.{eqb-true, eq-eqb, ltb-true}
+use borrow.Author.Tests.{eqb-true, eq-eqb, ltb-true, leb-true}
 use Rattle.message.specs.Section.{all}
 use Rattle.message.specs.Cue.{cueIn}
 use Rattle.message.specs.Entry.{blankName}
-use Rattle.message.specs.Message.{DATA, numberWidth, Meaning, meaningFrom, meaningWith, bytesOf, bytesWith, countsOf}
+use Rattle.message.specs.Message.{DATA, RQST, REPL, SESS, isOld, kindOf, numberWidth, mostNumber, Meaning, meaningFrom, bytesOf, countsOf}
 use Rattle.message.specs.Question.{ask, firstNo, messageQuestions, meaningQuestions, kindHasCounts, inRange, hostsFit, hostIn, numberIn, ticksIn, nameIn, reportIn, hostFits, sameHost, readRefusal}
 use Rattle.message.specs.declared.NameEntry.{NameEntry}
 use Rattle.message.specs.declared.Counts.{Counts}
 use Rattle.message.specs.declared.Host.{Host}
-use Rattle.message.proofs.QuestionLaws.{and-both, all-passed, counted as counted-row}
+use Rattle.message.proofs.QuestionLaws.{and-both, all-passed, kind-again, counts-new, counted as counted-row}
 use Rattle.roundtrip.proofs.ThereAndBack.{Fits}
-use Rattle.roundtrip.proofs.RoundTrip.{accepted, accepts, read-back, meaning-accepted}
+use Rattle.roundtrip.proofs.RoundTrip.{Accepted, accepted, accepts, first-byte, read-back, meaning-accepted, kind-from, counts-read, rest-read, range-read}
 use Rattle.end.specs.Book.{readAs, source, number}
-use Rattle.end.proofs.Tools.{byCond, clash′}
+use Rattle.end.proofs.Tools.{byCond, byTest, clash′}
 
 -- no bytes are no message
 pub none-read : (m : Meaning) → readAs [] ≡ some m → ⊥
@@ -43,33 +43,27 @@ unfolding readAs readRefusal
 reads [] h = absurd (omega arith)
 reads (b ∷ s) h = rw (eq-eqb (firstNo (messageQuestions (b ∷ s))) 0 h)
 
--- the kind is the first byte
-kind-first : (x : List ℕ) → meaningFrom x .kind ≡ getD x 0 0
-unfolding meaningWith
-kind-first x = refl
+-- the bytes of a message whose kind is no old one have its kind
+pub written-kind : (y m : Meaning) → isOld (y .kind) ≡ false → readAs (bytesOf y) ≡ some m → m .kind ≡ y .kind
+written-kind y m e p =
+    ap (λ (z : Meaning). z .kind) (sym (read-is (bytesOf y) m p .1)) ∙ kind-from (bytesOf y) ∙ ap kindOf (first-byte (y .kind) y) ∙ kind-again (y .kind) e
 
-first-kind : (y : Meaning) → getD (bytesOf y) 0 0 ≡ y .kind
-unfolding bytesWith
-first-kind y = refl
-
-pub written-kind : (y m : Meaning) → readAs (bytesOf y) ≡ some m → m .kind ≡ y .kind
-written-kind y m p = ap (λ (z : Meaning). z .kind) (sym (read-is (bytesOf y) m p .1)) ∙ kind-first (bytesOf y) ∙ first-kind y
-
--- the bytes of a message that fits are read as that message
-pub written-back : (y m : Meaning) → Fits (numberWidth (y .kind)) y → readAs (bytesOf y) ≡ some m → y ≡ m
-written-back y m f p = sym (read-back y f) ∙ read-is (bytesOf y) m p .1
+-- those of one that fits are read as that message
+pub written-back : (y m : Meaning) → isOld (y .kind) ≡ false → Fits (numberWidth (y .kind)) y → readAs (bytesOf y) ≡ some m → y ≡ m
+written-back y m e f p = sym (read-back y e f) ∙ read-is (bytesOf y) m p .1
 
 -- and they are read, if it has its kind's counts and passes questions 10 and 11
-pub written-reads : (y : Meaning) → Fits (numberWidth (y .kind)) y → kindHasCounts (y .kind) (countsOf y) ≡ true → firstNo (meaningQuestions y) ≡ 0 → readAs (bytesOf y) ≡ some y
+pub written-reads : (y : Meaning) → Fits (numberWidth (y .kind)) y → kindHasCounts (y .kind) (countsOf y) ≡ true → firstNo (meaningQuestions (y .kind) y) ≡ 0
+    → readAs (bytesOf y) ≡ some y
 written-reads y f k q =
-    reads (bytesOf y) (accepts (bytesOf y) (meaning-accepted y f k q)) ∙ ap some (read-back y f)
+    reads (bytesOf y) (accepts (bytesOf y) (meaning-accepted y f k q)) ∙ ap some (read-back y (counts-new (y .kind) (countsOf y) k) f)
 
 -- ---- what questions 9, 10 and 11 say of its name
 
 -- the name in a message that was read is in range
 pub record InRange (m : Meaning) : Type 0 where
   pub source : source m < 8
-  pub number : number m < 64
+  pub number : number m < 65536
 
 -- the first of a list that passes a test, or what passes it beside
 all-first : {A : Type 0} (p : A → Bool) (l : List A) (d : A) → all p l ≡ true → p d ≡ true → p (getD l 0 d) ≡ true
@@ -90,31 +84,35 @@ sender-source sender (a ∷ l) n h =
     sym (eqb-true (a .host .0) (sender .0) (parts .1)) ∙ eqb-true (a .host .0) (a .name .source .0) (parts .0)
 
 module _ (x : List ℕ) (m : Meaning) (p : readAs x ≡ some m) where
-  questions : firstNo (meaningQuestions m) ≡ 0
-  questions = ap (λ (y : Meaning). firstNo (meaningQuestions y)) (sym (read-is x m p .1)) ∙ accepted x (read-is x m p .0) .rest
+  taken : Accepted x
+  taken = accepted x (read-is x m p .0)
+
+  questions : firstNo (meaningQuestions (m .kind) m) ≡ 0
+  questions = subst (λ (y : Meaning). firstNo (meaningQuestions (y .kind) y) ≡ 0) (read-is x m p .1) (rest-read x taken)
+
+  counted : kindHasCounts (m .kind) (countsOf m) ≡ true
+  counted = subst (λ (y : Meaning). kindHasCounts (y .kind) (countsOf y) ≡ true) (read-is x m p .1) (counts-read x taken)
+
+  -- whatever byte said its kind, its numbers are below the limit
+  range : inRange 65535 m ≡ true
+  range = ap (inRange 65535) (sym (read-is x m p .1)) ∙ range-read x taken
 
   pub in-range : InRange m
   unfolding inRange
   in-range =
-      let a = all-passed (inRange m) 10 (ask (hostsFit m) 11 ∷ []) (omega arith) questions .0 in
-      let b = and-both (ticksIn (m .stamp)) _ (and-both (hostIn (m .sender)) _ a .1) .1 in
-      let name = all-first nameIn (m .names) blankName (and-both (all nameIn (m .names)) _ b .0) refl in
+      let b = and-both (ticksIn (m .stamp)) _ (and-both (hostIn (m .sender)) _ range .1) .1 in
+      let name = all-first (nameIn 65535) (m .names) blankName (and-both (all (nameIn 65535) (m .names)) _ b .0) refl in
       let n = getD (m .names) 0 blankName in
       let rest = and-both (hostIn (n .name .source)) _ name in
-      record { source = ltb-true (source m) 8 (rest .0); number = ltb-true (number m) 64 (and-both (numberIn (n .name .number)) _ (rest .1) .0) }
+      let most : number m ≤ 65535 = leb-true (number m) 65535 (and-both (numberIn 65535 (n .name .number)) _ (rest .1) .0) in
+      record { source = ltb-true (source m) 8 (rest .0); number = omega arith }
 
-  pub reports-in : all reportIn (m .reports) ≡ true
+  pub reports-in : all (reportIn 65535) (m .reports) ≡ true
   unfolding inRange
   reports-in =
-      let a = all-passed (inRange m) 10 (ask (hostsFit m) 11 ∷ []) (omega arith) questions .0 in
-      let b = and-both (ticksIn (m .stamp)) _ (and-both (hostIn (m .sender)) _ a .1) .1 in
-      let c = and-both (all cueIn (m .cues)) _ (and-both (all nameIn (m .names)) _ b .1) .1 in
-      and-both (all reportIn (m .reports)) _ c .0
-
-  counted : kindHasCounts (m .kind) (countsOf m) ≡ true
-  counted =
-      let back = read-is x m p .1 in
-      (λ i. kindHasCounts ((ap (λ (y : Meaning). y .kind) (sym back) ∙ kind-first x) i) (countsOf (sym back i))) ∙ accepted x (read-is x m p .0) .counts
+      let b = and-both (ticksIn (m .stamp)) _ (and-both (hostIn (m .sender)) _ range .1) .1 in
+      let c = and-both (all cueIn (m .cues)) _ (and-both (all (nameIn 65535) (m .names)) _ b .1) .1 in
+      and-both (all (reportIn 65535) (m .reports)) _ c .0
 
   -- the source of an original is its sender
   pub original-source : eqb (m .kind) DATA ≡ true → m .sender .0 ≡ source m
@@ -122,7 +120,11 @@ module _ (x : List ℕ) (m : Meaning) (p : readAs x ≡ some m) where
   original-source k =
       let kind : m .kind ≡ DATA = eqb-true (m .kind) DATA k in
       let one : length (m .names) ≡ 1 = data-counts (countsOf m) (ap (λ (k : ℕ). kindHasCounts k (countsOf m)) (sym kind) ∙ counted) in
-      let h = all-passed (hostsFit m) 11 [] (omega arith) (all-passed (inRange m) 10 (ask (hostsFit m) 11 ∷ []) (omega arith) questions .1) .0 in
+      let h = all-passed (hostsFit m) 11 [] (omega arith) (all-passed (inRange (mostNumber (m .kind)) m) 10 (ask (hostsFit m) 11 ∷ []) (omega arith) questions .1) .0 in
       let fits = and-both (all (hostFits (m .kind) (m .sender)) (m .names)) _ h .0 in
       sender-source (m .sender) (m .names) one
       (ap (λ (k : ℕ). all (hostFits k (m .sender)) (m .names)) (sym kind) ∙ fits)
+
+  -- a message that is about no name is a SESS
+  pub session-kind : eqb (m .kind) DATA ≡ false → eqb (m .kind) RQST ≡ false → eqb (m .kind) REPL ≡ false → eqb (m .kind) SESS ≡ true
+  session-kind a b c = byTest (eqb (m .kind) SESS) (λ d. d) (λ d. clash′ (sym (rw (a, b, c, d)) ∙ counted))

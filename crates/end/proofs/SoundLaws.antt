@@ -1,6 +1,6 @@
 -- What a sound state says: the laws of its tests, and the facts that the theorems and the code's proofs use.
-use mathlib.Core.Path.{_≡_, refl, sym, ap, _∙_}
-use Prim.Native.Nat.{ℕ, zero, suc, _+_, _≤_, _<_}
+use mathlib.Core.Path.{_≡_, refl, sym, ap, _∙_, subst}
+use Prim.Native.Nat.{ℕ, zero, suc, _+_, _-_, _≤_, _<_}
 use native.Mathlib.Numerals.{add-one}
 use native.Mathlib.Omega.{arith}
 use mathlib.Core.Bool.{Bool, true, false, cond, not, _&&_, _||_, true≢false}
@@ -21,7 +21,7 @@ use Rattle.end.specs.declared.Span.the-variants.{Closed, Open}
 use Rattle.end.specs.declared.Source.{Source}
 use Rattle.end.specs.declared.End.{End}
 use Rattle.end.specs.State.{noSource, isMember}
-use Rattle.end.specs.Records.{isClosed, within, rawAt, isHeld}
+use Rattle.end.specs.Records.{isClosed, within, start, rawAt, isHeld}
 use Rattle.end.specs.Sound.{allFrom, allOf, allBelow, heldTests, insideSound, outsideSound, recordSound, nonMemberTests, sourceTests, sourceSound, soundTests, soundOf}
 
 -- ---- the tests
@@ -60,7 +60,7 @@ all-at f (suc n) i h l =
 pub record SoundEnd (e : End) : Type 0 where
   pub host : e .host .0 < 8
   pub clock : e .clock < 281474976710656
-  pub next : e .next ≤ 64
+  pub next : e .next ≤ 65536
   pub sources : length (e .sources) ≡ 8
   pub each : (h : ℕ) → h < 8 → sourceSound (e .host) (e .next) (e .clock) (isMember (e .status)) (asHost h) (getD (e .sources) h noSource) ≡ true
 
@@ -69,7 +69,7 @@ unfolding soundOf
 sound-end e h = record {
   host = ltb-true (e .host .0) 8 (nth (soundTests e) 1 h);
   clock = ltb-true (e .clock) 281474976710656 (nth (soundTests e) 3 h);
-  next = leb-true (e .next) 64 (nth (soundTests e) 4 h);
+  next = leb-true (e .next) 65536 (nth (soundTests e) 4 h);
   sources = eqb-true (length (e .sources)) 8 (nth (soundTests e) 0 h);
   each = λ k l. all-at (λ h. sourceSound (e .host) (e .next) (e .clock) (isMember (e .status)) (asHost h) (getD (e .sources) h noSource)) 8 k (nth (soundTests e) 5 h) l;
 }
@@ -79,8 +79,14 @@ module _ (e : End) (h : Host) (s : Source) (sound : sourceSound (e .host) (e .ne
   pub names-length : length (s .names) ≡ 64
   names-length = eqb-true (length (s .names)) 64 (nth (sourceTests (e .host) (e .next) (e .clock) (isMember (e .status)) h s) 0 sound)
 
-  pub record-sound : (n : ℕ) → n < 64 → recordSound (e .host) h (s .span) n (rawAt (s .names) n) ≡ true
-  record-sound n l = all-at (λ n. recordSound (e .host) h (s .span) n (rawAt (s .names) n)) 64 n (nth (sourceTests (e .host) (e .next) (e .clock) (isMember (e .status)) h s) 5 sound) l
+  -- of each of the 64 numbers from first on
+  pub record-sound : (n : ℕ) → start (s .span) ≤ n → n < start (s .span) + 64 → recordSound (e .host) h (s .span) n (rawAt (s .names) n) ≡ true
+  record-sound n a b =
+      let low = start (s .span) in
+      let i : low + (n - low) ≡ n = omega arith in
+      subst (λ (m : ℕ). recordSound (e .host) h (s .span) m (rawAt (s .names) m) ≡ true) i
+      (all-at (λ i. recordSound (e .host) h (s .span) (low + i) (rawAt (s .names) (low + i))) 64 (n - low)
+      (nth (sourceTests (e .host) (e .next) (e .clock) (isMember (e .status)) h s) 5 sound) (omega arith))
 
   closed-is : (x : Span) → isClosed x ≡ true → x ≡ Closed
   closed-is Closed p = refl

@@ -22,10 +22,10 @@ use Rattle.end.specs.declared.Reason.{Reason}
 use Rattle.end.specs.declared.Reason.the-variants.{NotOpen, BelowFirst, OwnAboveLast, AlreadyHeld, ReplyWaiting, ReplyQuiet, RequestQuiet}
 use Rattle.end.specs.declared.Decision.{Decision}
 use Rattle.end.specs.declared.Decision.the-variants.{Ignores, Opens, Takes, Repairs, Hushes, Replies, Learns, BacksOff, Clashes}
-use Rattle.end.specs.State.{sourceAt, withSpan, onSource}
+use Rattle.end.specs.State.{sourceAt, onSource}
 use Rattle.end.specs.Records.{isAbove, recordAt, isHeld, isNo, replyIn}
 use Rattle.end.specs.Round.{nextRound}
-use Rattle.end.specs.Names.{setRound, hold, setReply, quietReply, rise}
+use Rattle.end.specs.Names.{setRound, hold, setReply, quietReply, rise, openAt}
 use Rattle.end.specs.Answer.{Effect, Got, Done, Ignored, Clash, Step, give}
 
 abbrev pub number : Word → ℕ
@@ -104,7 +104,7 @@ risen t us w s = rise t us (number w) s (s .span)
 
 -- "no first: first = last = the number"
 abbrev pub opened : Word → Source → Source
-opened w s = withSpan s (Open (w .name .number) (w .name .number))
+opened w s = openAt (number w) s
 
 -- REPL: "Either way its waiting reply goes and reply-quiet = t + D3×d, d to the requester." P4: "apart from the clock nothing changes,
 -- reply waits included"

@@ -21,10 +21,11 @@ use Rattle.end.specs.declared.Event.{Event}
 use Rattle.end.specs.declared.Event.the-variants as event
 use Rattle.end.specs.declared.Stepped.{Stepped}
 use Rattle.end.specs.declared.End.{End}
-use Rattle.end.specs.State.{unheardSources, isMember, isCrashed, momentOf, withClock, withStatus, withNext, withSources, withSpan, onSource}
+use Rattle.end.specs.declared.Moment.{Moment}
+use Rattle.end.specs.State.{unheardSources, isMember, isCrashed, momentOf, withClock, withStatus, withNext, withSources, onSource}
 use Rattle.end.specs.Sound.{soundOf}
 use Rattle.end.specs.Round.{drawCount}
-use Rattle.end.specs.Names.{hold}
+use Rattle.end.specs.Names.{hold, rise, openAt}
 use Rattle.end.specs.Answer.{Out, Done, Ignored, Step, give, Refused, Result, done, calledOf, bufferOf}
 use Rattle.end.specs.Messages.{dataMessage, sessionMessage}
 use Rattle.end.specs.Arrival.{arrivalOf}
@@ -87,7 +88,8 @@ movesTo Leave = Leaving
 movesTo Left = Idle
 movesTo Crash = Crashed
 
--- "Leave and Crash clear firsts, names and heard stamps and set distances to others to 40. The next own number stays."
+-- "Leave and Crash clear firsts, names and heard stamps and set distances to others to 40. The next own number stays." The count of the
+-- numbers missed goes with its first: "0 without one" (document 02, P7)
 abbrev pub cleared : End → Status → End
 cleared e status = withSources (withStatus e status) (unheardSources (e .host .0))
 
@@ -108,19 +110,20 @@ moveOf m e = cond (moves m (e .status)) (give Done (movedEnd m e)) (give Ignored
 abbrev pub ownName : End → Name
 ownName e = record { source = e .host; number = asNumber (e .next) }
 
-abbrev pub extended : ℕ → Span → Span
-extended n Closed = Open (asNumber n) (asNumber n)
-extended n (Open first last) = Open first (asNumber n)
+-- last rises by the one rise, which retires the numbers below L−63
+abbrev pub extended : Moment → List ℕ → ℕ → Source → Span → Source
+extended t us n s Closed = openAt n s
+extended t us n s (Open first last) = rise t us n s (Open first last)
 
 -- the own source
-abbrev pub sentSource : ℕ → List ℕ → Source → Source
-sentSource n cue s = hold n cue (withSpan s (extended n (s .span)))
+abbrev pub sentSource : Moment → List ℕ → ℕ → List ℕ → Source → Source
+sentSource t us n cue s = hold n cue (extended t us n s (s .span))
 
-abbrev pub sentEnd : List ℕ → End → End
-sentEnd cue e = withNext (onSource e (e .host) (sentSource (e .next) cue)) (e .next + 1)
+abbrev pub sentEnd : List ℕ → List ℕ → End → End
+sentEnd us cue e = withNext (onSource e (e .host) (sentSource (momentOf e) us (e .next) cue)) (e .next + 1)
 
-abbrev pub sendOf : List ℕ → End → Step
-sendOf cue e = give (Out (bytesOf (dataMessage (momentOf e) (ownName e) cue))) (sentEnd cue e)
+abbrev pub sendOf : List ℕ → List ℕ → End → Step
+sendOf us cue e = give (Out (bytesOf (dataMessage (momentOf e) (ownName e) cue))) (sentEnd us cue e)
 
 -- ---- Fire; Report: "Out SESS with all firsts' sources and all heard stamps."
 abbrev pub otherOf : List ℕ → Other → End → Step
@@ -140,7 +143,7 @@ ifMember e step = cond (isMember (e .status)) step (give Ignored e)
 -- what an event does on an end that is not crashed and whose clock is set
 unfoldable pub actOf : List ℕ → Action → End → Step
 actOf us (Moves m) e = moveOf m e
-actOf us (Send cue) e = ifMember e (sendOf cue e)
+actOf us (Send cue) e = ifMember e (sendOf us cue e)
 actOf us (Arrival bytes) e = ifMember e (hearingOf us (datagramFrom bytes) e)
 actOf us (Else o) e = ifMember e (otherOf us o e)
 
@@ -158,8 +161,8 @@ stateQuestions e clock = ask (soundOf e) 3 ∷ ask (ticksIn clock) 4 ∷ ask (le
 abbrev pub anyQuestions : End → ℕ → ℕ → ℕ → List Question
 anyQuestions e clock room draws = ask (leb roomNeeded room) 1 ∷ ask (eqb draws drawCount) 2 ∷ stateQuestions e clock
 
--- "Send: are offsets and lamp in range? 6. For a member, is the next number below 64? 7." Arrival asks the reader's questions,
--- and a probe none
+-- "Send: are offsets and lamp in range? 6. For a member, is the next number below 64? 7.", which document 02, P7, makes "Number 7 comes only
+-- at 65,536". Arrival asks the reader's questions, and a probe none
 abbrev pub ownQuestions : Action → End → List Question
 ownQuestions (Moves m) e = []
 ownQuestions (Send cue) e = ask (cueIn cue) 6 ∷ ask (not (isMember (e .status)) || ltb (e .next) numberLimit) 7 ∷ []

@@ -1,6 +1,7 @@
 -- What happens to the records of a source: a round is set, last rises, a cue is held, a reply is set or goes. Each changes only
--- what it says; a number that comes into first..last gets a record of its own. Document 01, "Events".
-use Prim.Native.Nat.{ℕ, zero, suc, _+_, _-_, max}
+-- what it says; a number that comes into first..last gets a record of its own. Document 01, "Events"; document 02, P7.
+use Prim.Native.Nat.{ℕ, zero, suc, _+_, _-_, min, max}
+use mathlib.Core.Bool.{Bool, cond}
 use mathlib.Core.List.{List}
 use lib.ListN.{set}
 use Rattle.message.specs.declared.Host.{Host}
@@ -13,8 +14,8 @@ use Rattle.end.specs.declared.Span.{Span}
 use Rattle.end.specs.declared.Span.the-variants.{Closed, Open}
 use Rattle.end.specs.declared.Source.{Source}
 use Rattle.end.specs.declared.Moment.{Moment}
-use Rattle.end.specs.State.{blankRecord, withSpan, withNames}
-use Rattle.end.specs.Records.{place, recordAt, withRecord, withReply}
+use Rattle.end.specs.State.{blankRecord, withSpan, withMissed, withNames}
+use Rattle.end.specs.Records.{place, recordAt, isHeld, withRecord, withReply}
 use Rattle.end.specs.Round.{requestAt, replyDue, quietAfterReply}
 
 -- ---- one record
@@ -50,16 +51,54 @@ setReply t us n d requester s = withRecord s n (replying (recordAt s n) (replyDu
 abbrev pub quietReply : Moment → ℕ → ℕ → Source → Source
 quietReply t n d s = withRecord s n (quieted (recordAt s n) (quietAfterReply t d))
 
--- ---- last rises
+-- ---- last rises. Document 02, P7: "when last rises to L, numbers below L−63 are retired with their waits, first becomes the greater of
+-- itself and L−63, and the freed places serve the new numbers. .. Per source the end counts the numbers retired without a cue since joining,
+-- those passed over in one rise included"
 
--- the k numbers from n on, of which nothing was kept, get round 1
-unfoldable pub requested : Moment → List ℕ → ℕ → ℕ → ℕ → List Record → List Record
-requested t us d zero n names = names
-requested t us d (suc k) n names = requested t us d k (n + 1) (set names (place n) (asking blankRecord (requestAt t us d n 1)))
+-- a new number is asked for in round 1, and has nothing of what stood in its place
+abbrev pub asked : Moment → List ℕ → ℕ → ℕ → Record
+asked t us d n = asking blankRecord (requestAt t us d n 1)
 
--- all that happens when last of a source rises to n: the numbers above last, up to n, get round 1, and last is n. Where n is
--- not above last, nothing happens; a source with no first stays as it is
-unfoldable pub rise : Moment → List ℕ → ℕ → Source → Span → Source
-rise t us n s Closed = s
-rise t us n s (Open first last) =
-    withNames (withSpan s (Open first (asNumber (max (last .0) n)))) (requested t us (s .distance) (n - last .0) (last .0 + 1) (s .names))
+-- the k numbers from n on are new, each with its record
+unfoldable pub filled : (ℕ → Record) → ℕ → ℕ → List Record → List Record
+filled new zero n names = names
+filled new (suc k) n names = filled new k (n + 1) (set names (place n) (new n))
+
+-- the source holds the cue of a number
+abbrev pub holdsCue : Source → ℕ → Bool
+holdsCue s n = isHeld (recordAt s n .slot)
+
+-- 1 for a number without a cue
+abbrev pub lacks : Bool → ℕ
+lacks held = cond held 0 1
+
+-- how many of the k numbers from n on have no cue
+unfoldable pub lacking : (ℕ → Bool) → ℕ → ℕ → ℕ
+lacking held zero n = 0
+lacking held (suc k) n = lacks (held n) + lacking held k (n + 1)
+
+-- "first becomes the greater of itself and L−63"
+abbrev pub firstAfter : ℕ → ℕ → ℕ
+firstAfter first l = max first (l - 63)
+
+-- first and last are the old ones, lo and l the new. Retired are first..lo−1: those up to the old last have a cue or lack it, those above
+-- it, passed over, all lack it. New are the numbers above the old last, not below lo, up to l: at most 64, and where any is retired theirs
+-- are just the places that no kept number has
+abbrev pub raised : (ℕ → Record) → ℕ → ℕ → ℕ → ℕ → Source → Source
+raised new first last lo l s =
+    withNames
+    (withMissed (withSpan s (Open (asNumber lo) (asNumber l))) (s .missed + lacking (holdsCue s) (min lo (last + 1) - first) first + (lo - (last + 1))))
+    (filled new (l + 1 - max lo (last + 1)) (max lo (last + 1)) (s .names))
+
+-- all that happens when last of a source rises to n, with the records that new numbers get. Where n is not above last, last stays and, in a
+-- sound state, so does all; a source with no first stays as it is
+unfoldable pub riseWith : (ℕ → Record) → ℕ → Source → Span → Source
+riseWith new n s Closed = s
+riseWith new n s (Open first last) = raised new (first .0) (last .0) (firstAfter (first .0) (max (last .0) n)) (max (last .0) n) s
+
+abbrev pub rise : Moment → List ℕ → ℕ → Source → Span → Source
+rise t us n s x = riseWith (asked t us (s .distance)) n s x
+
+-- a source with no first: "first = last = the number"
+abbrev pub openAt : ℕ → Source → Source
+openAt n s = withSpan s (Open (asNumber n) (asNumber n))

@@ -2,7 +2,7 @@
 -- ask for these records, and the calls make them.
 use mathlib.Core.Path.{_≡_}
 use mathlib.Core.Bool.{true}
-use Prim.Native.Nat.{ℕ, _≤_, _<_}
+use Prim.Native.Nat.{ℕ, _+_, _≤_, _<_}
 use Rattle.message.specs.Limit.{numberLimit, ticksLimit}
 use Rattle.message.specs.Entry.{asHost}
 use Rattle.end.specs.declared.Heard.{Heard}
@@ -37,10 +37,10 @@ pub record Numbered (n draws : ℕ) : Type 0 where
   pub number : n < numberLimit
   pub draws-in : draws ≡ drawCount
 
--- a span whose numbers all have a place
+-- a span of at most 64 cue numbers
 abbrev pub SpanIn : Span → Type 0
 SpanIn Closed = Unit {0}
-SpanIn (Open first last) = (first .0 ≤ last .0) × (last .0 < numberLimit)
+SpanIn (Open first last) = (first .0 ≤ last .0) × (last .0 < numberLimit) × (last .0 ≤ first .0 + 63)
 
 -- heard at the clock or before
 abbrev pub HeardBy : ℕ → Heard → Type 0

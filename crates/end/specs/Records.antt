@@ -1,8 +1,8 @@
 -- A source's records by cue number. Document 01, "What an end keeps": "first and last (both or neither)"; "For each name: the held cue, or
 -- one waiting request ..; with a held cue perhaps one waiting reply .., and a reply-quiet time". Rules and theorems read a record by
 -- `recordAt` and store one by `withRecord`; where a number's record stands (`place`) is known here, to the draws, to the walk by which
--- last rises (`requested`) and to soundness.
-use Prim.Native.Nat.{ℕ, _+_, _-_}
+-- last rises (`filled`) and to soundness. Document 02, P7: "An end keeps the latest 64 numbers of each source".
+use Prim.Native.Nat.{ℕ, _+_, _-_, _%_}
 use mathlib.Core.Bool.{Bool, true, false, cond, _&&_}
 use mathlib.Core.List.{List}
 use lib.ListN.{getD, set}
@@ -46,9 +46,9 @@ width (Open first last) = last .0 + 1 - first .0
 
 -- ---- the record of a number
 
--- the place of a cue number, among a source's records and among the draws
+-- the place of a cue number, among a source's records and among the draws: "Cue number n uses draw n mod 64." (document 02, P7)
 abbrev pub place : ℕ → ℕ
-place n = n
+place n = n % 64
 
 -- what stands in a number's place
 abbrev pub rawAt : List Record → ℕ → Record

@@ -18,7 +18,7 @@ mostDraw = 65535
 abbrev pub Drawn : List ℕ → Type 0
 Drawn us = (i : ℕ) → getD us i 0 ≤ mostDraw
 
--- "u the draw at the cue number"
+-- "u the draw at the cue number"; document 02, P7: "Cue number n uses draw n mod 64."
 abbrev pub drawAt : List ℕ → ℕ → ℕ
 drawAt us n = getD us (place n) 0
 

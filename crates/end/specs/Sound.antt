@@ -24,7 +24,7 @@ use Rattle.end.specs.declared.Heard.the-variants.{Never, At}
 use Rattle.end.specs.declared.Source.{Source}
 use Rattle.end.specs.declared.End.{End}
 use Rattle.end.specs.State.{noSource, places, isMember, firstDistance}
-use Rattle.end.specs.Records.{isClosed, within, rawAt}
+use Rattle.end.specs.Records.{isClosed, within, start, rawAt}
 
 -- ---- tests
 
@@ -82,10 +82,17 @@ recordSound me source span n r = cond (within span n) (insideSound me source r (
 
 -- ---- one source
 
--- "own last, if any, is next−1; first ≤ last"
-abbrev pub spanTests : Bool → ℕ → Span → List Bool
-spanTests own next Closed = []
-spanTests own next (Open first last) = leb (first .0) (last .0) ∷ ltb (last .0) numberLimit ∷ (not own || eqb (last .0 + 1) next) ∷ []
+-- "own last, if any, is next−1; first ≤ last"; document 02, P7: "A sound state has last − first at most 63, and that count at most first, 0
+-- without one."
+abbrev pub spanTests : Bool → ℕ → ℕ → Span → List Bool
+spanTests own next missed Closed = eqb missed 0 ∷ []
+spanTests own next missed (Open first last) =
+    leb (first .0) (last .0)
+    ∷ ltb (last .0) numberLimit
+    ∷ (not own || eqb (last .0 + 1) next)
+    ∷ leb (last .0) (first .0 + 63)
+    ∷ leb missed (first .0)
+    ∷ []
 
 -- "A distance .. is 1..1000 whole milliseconds ..; to oneself it is 0."
 abbrev pub distanceSound : Bool → ℕ → Bool
@@ -105,15 +112,16 @@ isNever (At stamp when) = false
 abbrev pub nonMemberTests : Bool → Source → List Bool
 nonMemberTests own s = isClosed (s .span) ∷ isNever (s .heard) ∷ (own || eqb (s .distance) firstDistance) ∷ []
 
--- each place is that of one number below 64
+-- each place is that of one of the 64 numbers from first on, or from 0 where there is no first: those in first..last are inside, the
+-- rest are not
 abbrev pub namesSound : Host → Host → Span → List Record → ℕ → Bool
-namesSound me source span names k = allBelow (λ n. recordSound me source span n (rawAt names n)) k
+namesSound me source span names k = allBelow (λ i. recordSound me source span (start span + i) (rawAt names (start span + i))) k
 
 -- of the end it takes its host, its next number, its clock and whether it is a member
 abbrev pub sourceTests : Host → ℕ → ℕ → Bool → Host → Source → List Bool
 sourceTests me next clock member h s =
     eqb (length (s .names)) places
-    ∷ allOf (spanTests (sameHost h me) next (s .span))
+    ∷ allOf (spanTests (sameHost h me) next (s .missed) (s .span))
     ∷ distanceSound (sameHost h me) (s .distance)
     ∷ allOf (heardTests (sameHost h me) clock (s .heard))
     ∷ (member || allOf (nonMemberTests (sameHost h me) s))

@@ -24,11 +24,11 @@ abbrev pub noRecord : Record
 noRecord = record { slot = Empty; cue = []; hush = 0 }
 
 abbrev pub noSource : Source
-noSource = record { span = Closed; distance = 0; heard = Never; names = [] }
+noSource = record { span = Closed; missed = 0; distance = 0; heard = Never; names = [] }
 
 -- ---- a fresh end
 
--- how many cue numbers of a source an end keeps, each in a place of its own
+-- "An end keeps the latest 64 numbers of each source" (document 02, P7), each in a place of its own
 abbrev pub places : ℕ
 places = 64
 
@@ -44,7 +44,7 @@ abbrev pub firstDistance : ℕ
 firstDistance = 40
 
 abbrev pub unheard : ℕ → Source
-unheard distance = record { span = Closed; distance = distance; heard = Never; names = blankNames }
+unheard distance = record { span = Closed; missed = 0; distance = distance; heard = Never; names = blankNames }
 
 -- the eight sources of which nothing is kept: 0 to oneself, 40 to the others
 abbrev pub unheardSources : ℕ → List Source
@@ -80,16 +80,19 @@ momentOf e = record { me = e .host; params = e .params; clock = e .clock }
 
 -- ---- changing a part of a source
 abbrev pub withSpan : Source → Span → Source
-withSpan s span = record { span = span; distance = s .distance; heard = s .heard; names = s .names }
+withSpan s span = record { span = span; missed = s .missed; distance = s .distance; heard = s .heard; names = s .names }
+
+abbrev pub withMissed : Source → ℕ → Source
+withMissed s missed = record { span = s .span; missed = missed; distance = s .distance; heard = s .heard; names = s .names }
 
 abbrev pub withDistance : Source → ℕ → Source
-withDistance s distance = record { span = s .span; distance = distance; heard = s .heard; names = s .names }
+withDistance s distance = record { span = s .span; missed = s .missed; distance = distance; heard = s .heard; names = s .names }
 
 abbrev pub withHeard : Source → Heard → Source
-withHeard s heard = record { span = s .span; distance = s .distance; heard = heard; names = s .names }
+withHeard s heard = record { span = s .span; missed = s .missed; distance = s .distance; heard = heard; names = s .names }
 
 abbrev pub withNames : Source → List Record → Source
-withNames s names = record { span = s .span; distance = s .distance; heard = s .heard; names = names }
+withNames s names = record { span = s .span; missed = s .missed; distance = s .distance; heard = s .heard; names = names }
 
 -- ---- changing a part of an end
 abbrev pub withClock : End → ℕ → End

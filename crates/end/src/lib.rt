@@ -12,8 +12,11 @@ pub type Draw = u16;
 // A call brings so many draws: one for each of the numbers that an end keeps of a source.
 pub const DRAWS: usize = 64;
 
+// An end keeps the latest so many numbers of a source: first is at least last less 63.
+pub const KEPT: u64 = 64;
+
 // A source has so many cue numbers; the next own number is at most this.
-pub const NUMBERS: u32 = 64;
+pub const NUMBERS: u32 = 65536;
 
 // "due and quiet times are below 2^48+2^32"
 pub const TIME_LIMIT: u64 = 281479271677952;
@@ -75,15 +78,17 @@ pub enum Heard {
     At(u64, u64),
 }
 
-// What an end keeps for one of the eight hosts, with a record for each of its 64 cue numbers.
+// What an end keeps for one of the eight hosts, with a record for each of its latest 64 cue numbers: number n stands at place n mod 64.
+// `missed` is how many numbers were retired without a cue since joining.
 pub struct Source {
     pub span: Span,
+    pub missed: u32,
     pub distance: u64,
     pub heard: Heard,
     pub names: [Record; 64],
 }
 
-// The state of an end. `next` is the next own cue number, 0..64.
+// The state of an end. `next` is the next own cue number, 0..65536.
 pub struct End {
     pub host: Host,
     pub params: Params,

@@ -7,7 +7,7 @@ use mathlib.Core.Logic.{_⊎_, inl, inr, ⊎-elim}
 use Prim.Native.Nat.{ℕ, _+_, _*_, _≤_, _<_, zero, suc}
 use native.Mathlib.Nat.{mul-le-mul}
 use native.Mathlib.Omega.{arith}
-use lib.ListN.{getD, length}
+use lib.ListN.{length}
 use lib.Seq.{set-getD}
 use lib.Dec.{eqb}
 use borrow.Author.Tests.{ltb-true, eqb-true, eqb-false, eq-eqb}
@@ -29,13 +29,13 @@ use Rattle.end.specs.declared.Says.the-variants.{Rqst}
 use Rattle.end.specs.declared.Decision.{Decision}
 use Rattle.end.specs.declared.Decision.the-variants.{Ignores, Opens, Takes, Repairs, Hushes, Replies, Learns, BacksOff, Clashes}
 use Rattle.end.specs.State.{distanceTo, momentOf, withClock, noSource, sourceAt, isMember, withSources}
-use Rattle.end.specs.Records.{isHeld, within, recordAt}
-use Rattle.end.specs.Round.{Drawn, factor, share, requestAt, nextRound}
+use Rattle.end.specs.Records.{isHeld, isBelow, within, place, recordAt}
+use Rattle.end.specs.Round.{Drawn, drawAt, factor, share, requestAt, nextRound}
 use Rattle.end.specs.Answer.{Result, Ignored, Step, give, done}
 use Rattle.end.specs.Sound.{soundOf, allOf, paramsTests}
 use Rattle.end.specs.Decide.{decide, apply, effectOf, stepBy, stepAt}
 use Rattle.end.specs.Arrival.{messageName, wordOf, messageStep, arrivalOf}
-use Rattle.end.specs.Event.{Action, eventOf, Arrival, actOf, stepOf, questionOf, Fire}
+use Rattle.end.specs.Event.{Action, eventOf, Arrival, actOf, stepOf, questionOf}
 use Rattle.end.specs.Opening.{openingOf, constrainedTests, openRefusal, endFor}
 use Rattle.end.proofs.Bounds.{share-most, factor-least}
 use Rattle.end.proofs.Facts.{facts, unheard-at}
@@ -48,27 +48,37 @@ use Rattle.invariants.proofs.Questions.{Passed, passes}
 use Rattle.invariants.proofs.Stays.{opens-sound, stays-sound}
 use Rattle.guarantees.specs.Calls.{momentAt, OneCall, after, afterAll}
 use Rattle.guarantees.specs.Waits.{waitIn, waitAt}
-use Rattle.guarantees.specs.Records.{slotOf, clearing, MayBecome, HeardAs}
+use Rattle.guarantees.specs.Records.{slotOf, clearing, retired, MayBecome, HeardAs}
 use Rattle.guarantees.specs.Arrivals.{hear}
 use Rattle.guarantees.specs.Fires.{OpenedFiringEnds, OpenedC3BelowC1}
 use Rattle.guarantees.specs.BackOff.{RoundsRise, SetNow, SetOrKept, Hearing, heardAll, OncePerQuiet, AlwaysDue, QuietIgnores, RoundsThrough, SetIn, DrawsFit, CuesAreArrays, AlwaysSet, QuietBeforeDue, OneRoundPerQuiet}
 use Rattle.guarantees.proofs.Names.{sound-waits, waits-inside, inside-not-above, waiting-not, far}
-use Rattle.guarantees.proofs.Arrivals.{call-cases, member-not-crashed, held-stays, slots-as-heard}
+use Rattle.guarantees.proofs.Calls.{call-cases, member-not-crashed}
+use Rattle.guarantees.proofs.Arrivals.{held-stays, slots-as-heard, spans-as-heard}
+use Rattle.guarantees.proofs.Retired.{retired-below, inside-unretired, below-stays}
+use Rattle.guarantees.proofs.Messages.{span-may}
 use Rattle.guarantees.proofs.Slots.{acts-may, slots-may-become, host-and-params-stay}
 use Rattle.guarantees.proofs.Fires.{due-means-out, firing-ends}
+
+-- what waits afterwards is not retired
+waits-kept : (e left : End) (h n : ℕ) (p : Request) → slotOf left h n ≡ Waiting p → retired e left h n ≡ false
+waits-kept e left h n p now =
+    inside-unretired (sourceAt e (asHost h) .span) (sourceAt left (asHost h) .span) n (waits-inside (sourceAt left (asHost h)) n p now)
 
 -- one call, from a round up to 16
 pub round-step : (e : End) (a : Action) (clock room : ℕ) (draws : List ℕ) (h n : ℕ) (q p : Request) → q .round ≤ 16 → h < 8
     → slotOf e h n ≡ Waiting q → slotOf (eventOf e a clock room draws .left) h n ≡ Waiting p → (q .round ≤ p .round) × (p .round ≤ q .round + 1) × (p .round ≤ 16)
-round-step e a clock room draws h n q p most hh before after =
-    let step : MayBecome (clearing a) (momentAt e clock) draws (distanceTo e (asHost h)) n (Waiting q) (Waiting p) = rw (before, after) at (slots-may-become e a clock room draws h n hh) in
+round-step e a clock room draws h n q p most hh before now =
+    let kept = waits-kept e (eventOf e a clock room draws .left) h n p now in
+    let step : MayBecome (clearing a) (momentAt e clock) draws (distanceTo e (asHost h)) n (Waiting q) (Waiting p) =
+    rw (before, now) at (slots-may-become e a clock room draws h n hh kept) in
     ⊎-elim (λ same. let k = ap (λ (r : Request). r .round) same in (omega arith, omega arith, omega arith))
     (λ next. let k : p .round ≡ nextRound (q .round) = ap (λ (r : Request). r .round) (next .1) in (omega arith, omega arith, omega arith))
     step
 
 pub rounds-rise : RoundsRise
-rounds-rise e a clock room draws h n q p sound hh before after =
-    round-step e a clock room draws h n q p (sound-waits e sound h n hh q before .most) hh before after
+rounds-rise e a clock room draws h n q p sound hh before now =
+    round-step e a clock room draws h n q p (sound-waits e sound h n hh q before .most) hh before now
 
 -- ---- a request that is set
 
@@ -79,7 +89,8 @@ set-now e clock draws h n p k sound bytes least most is =
     let d = distanceTo e (asHost h) in
     let round : p .round ≡ k = ap (λ (r : Request). r .round) is in
     let due = ap (λ (r : Request). r .due) is in
-    let most-drawn : share (factor k * e .params .c2 * d) (getD draws n 0) ≤ factor k * e .params .c2 * d = share-most (factor k * e .params .c2 * d) (getD draws n 0) (bytes n) in
+    let most-drawn : share (factor k * e .params .c2 * d) (drawAt draws n) ≤ factor k * e .params .c2 * d =
+    share-most (factor k * e .params .c2 * d) (drawAt draws n) (bytes (place n)) in
     let both : factor k * (e .params .c1 + e .params .c2) * d ≡ factor k * e .params .c1 * d + factor k * e .params .c2 * d = omega arith in
     record {
       sound = sound;
@@ -101,17 +112,39 @@ pub set-or-kept : SetOrKept
 set-or-kept e a clock room draws h n p bytes hh =
     call-cases (λ (r : Result). slotOf (r .left) h n ≡ Waiting p → (slotOf e h n ≡ Waiting p) ⊎ SetNow e clock draws h n p) e a clock room draws
     (λ k now. inl now)
-    (λ z now. inl now)
+    (λ z c now. inl now)
     (λ z c now. set-step e (clearing a) clock draws h n p (z .sound) bytes (slotOf e h n)
-    (subst (MayBecome (clearing a) (momentAt e clock) draws (distanceTo e (asHost h)) n (slotOf e h n)) now (acts-may e a clock draws z .1 h hh n .slot)))
+    (subst (MayBecome (clearing a) (momentAt e clock) draws (distanceTo e (asHost h)) n (slotOf e h n)) now
+    (acts-may e a clock draws z .1 h hh .each n (waits-kept e (actOf draws a (withClock e clock) .left) h n p now) .slot)))
 
 -- ---- a quiet time
 
+-- below first stays below first through all that arrives
+below-through : (xs : List Hearing) (e : End) (h n : ℕ) → h < 8 → isBelow (sourceAt e (asHost h) .span) n ≡ true
+    → isBelow (sourceAt (heardAll e xs) (asHost h) .span) n ≡ true
+below-through [] e h n hh p = p
+below-through (x ∷ xs) e h n hh p =
+    let now = hear e (x .bytes) (x .clock) (x .room) (x .draws) .left in
+    let moves = spans-as-heard e (x .bytes) (x .clock) (x .room) (x .draws) h hh in
+    let was = sourceAt e (asHost h) .span in
+    below-through xs now h n hh (below-stays was (sourceAt now (asHost h) .span) n (span-may false _ was (sourceAt now (asHost h) .span) moves) p)
+
+-- so what is not below first in the end is not retired by the first of them
+first-kept : (x : Hearing) (xs : List Hearing) (e : End) (h n : ℕ) → h < 8 → isBelow (sourceAt (heardAll e (x ∷ xs)) (asHost h) .span) n ≡ false
+    → retired e (hear e (x .bytes) (x .clock) (x .room) (x .draws) .left) h n ≡ false
+first-kept x xs e h n hh above =
+    let now = hear e (x .bytes) (x .clock) (x .room) (x .draws) .left in
+    byTest (retired e now h n)
+    (λ gone. clash (sym (below-through xs now h n hh (retired-below (sourceAt e (asHost h) .span) (sourceAt now (asHost h) .span) n gone)) ∙ above))
+    (λ kept. kept)
+
 -- a held cue stays through all that arrives
-held-through : (xs : List Hearing) (e : End) (h n : ℕ) → h < 8 → isHeld (slotOf e h n) ≡ true → isHeld (slotOf (heardAll e xs) h n) ≡ true
-held-through [] e h n hh p = p
-held-through (x ∷ xs) e h n hh p =
-    held-through xs (hear e (x .bytes) (x .clock) (x .room) (x .draws) .left) h n hh (held-stays e (x .bytes) (x .clock) (x .room) (x .draws) h n hh p .0)
+held-through : (xs : List Hearing) (e : End) (h n : ℕ) → h < 8 → isHeld (slotOf e h n) ≡ true → isBelow (sourceAt (heardAll e xs) (asHost h) .span) n ≡ false
+    → isHeld (slotOf (heardAll e xs) h n) ≡ true
+held-through [] e h n hh p above = p
+held-through (x ∷ xs) e h n hh p above =
+    let now = hear e (x .bytes) (x .clock) (x .room) (x .draws) .left in
+    held-through xs now h n hh (held-stays e (x .bytes) (x .clock) (x .room) (x .draws) h n hh p (first-kept x xs e h n hh above) .0) above
 
 -- one arrival up to quiet-until
 quiet-one : (t : Moment) (us : List ℕ) (d n : ℕ) (a b : Bool) (q : Request) (y : Slot) → t .clock ≤ q .quiet → HeardAs t us d n a b (Waiting q) y → (y ≡ Waiting q) ⊎ (isHeld y ≡ true)
@@ -121,14 +154,15 @@ quiet-one t us d n a b q (Waiting p) l (inl same) = inl (ap Waiting same)
 quiet-one t us d n a b q (Waiting p) l (inr next) = let late = next .1 in absurd (omega arith)
 
 pub once-per-quiet : OncePerQuiet
-once-per-quiet e h n q hh p [] by = inl p
-once-per-quiet e h n q hh p (x ∷ xs) by =
+once-per-quiet e h n q hh p [] by above = inl p
+once-per-quiet e h n q hh p (x ∷ xs) by above =
     let now = hear e (x .bytes) (x .clock) (x .room) (x .draws) .left in
     let t = momentAt e (x .clock) in
     let d = distanceTo e (asHost h) in
-    ⊎-elim (λ same. once-per-quiet now h n q hh same xs (by .1))
-    (λ held. inr (held-through xs now h n hh held))
-    (quiet-one t (x .draws) d n _ _ q (slotOf now h n) (by .0) (rw p at (slots-as-heard e (x .bytes) (x .clock) (x .room) (x .draws) h n hh)))
+    let kept = first-kept x xs e h n hh above in
+    ⊎-elim (λ same. once-per-quiet now h n q hh same xs (by .1) above)
+    (λ held. inr (held-through xs now h n hh held above))
+    (quiet-one t (x .draws) d n _ _ q (slotOf now h n) (by .0) (rw p at (slots-as-heard e (x .bytes) (x .clock) (x .room) (x .draws) h n hh kept)))
 
 -- ---- always a due time
 pub always-due : AlwaysDue
@@ -293,8 +327,9 @@ quiet-before-due me params cs h n q bytes cues hh now =
 -- one call up to quiet-until
 quiet-call : (e : End) (c : OneCall) (h n : ℕ) (q p : Request) → h < 8 → slotOf e h n ≡ Waiting q → q .quiet < q .due → c .clock ≤ q .quiet → slotOf (after e c) h n ≡ Waiting p → p ≡ q
 quiet-call e c h n q p hh before l by now =
+    let kept = waits-kept e (after e c) h n p now in
     let step : MayBecome (clearing (c .action)) (momentAt e (c .clock)) (c .draws) (distanceTo e (asHost h)) n (Waiting q) (Waiting p) =
-    rw (before, now) at (slots-may-become e (c .action) (c .clock) (c .room) (c .draws) h n hh) in
+    rw (before, now) at (slots-may-become e (c .action) (c .clock) (c .room) (c .draws) h n hh kept) in
     ⊎-elim (λ same. same) (λ next. ⊎-elim (λ late. absurd (omega arith)) (λ due. absurd (omega arith)) (next .0)) step
 
 pub one-round-per-quiet : OneRoundPerQuiet

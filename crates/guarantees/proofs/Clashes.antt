@@ -32,7 +32,7 @@ use Rattle.end.proofs.Grounds.{isData, isRequest, Grounds, grounds}
 use Rattle.end.proofs.Tools.{byCond, clash, clash′, or-alone}
 use Rattle.guarantees.specs.Clashes.{OtherBytesClash, WasClash, ClashMeans}
 use Rattle.guarantees.proofs.Names.{held-inside, inside-not-above}
-use Rattle.guarantees.proofs.Arrivals.{member-not-crashed}
+use Rattle.guarantees.proofs.Calls.{member-not-crashed}
 
 -- ---- what is held is neither closed off nor below first
 inside-open : (x : Span) (n : ℕ) → within x n ≡ true → isClosed x ≡ true → ⊥

@@ -4,7 +4,7 @@ use mathlib.Core.Path.{_≡_, refl, sym, ap, _∙_, subst}
 use mathlib.Core.Bool.{Bool, true, false, cond}
 use mathlib.Core.List.{List, [], _∷_}
 use mathlib.Core.Option.{some, Option, none}
-use Prim.Native.Nat.{ℕ, _+_, _*_, _≤_, _<_, zero, suc}
+use Prim.Native.Nat.{ℕ, _+_, _-_, _*_, _≤_, _<_, zero, suc}
 use native.Mathlib.Nat.{mul-le-mul}
 use native.Mathlib.Omega.{arith}
 use lib.ListN.{length}
@@ -16,7 +16,6 @@ use Rattle.message.specs.declared.Host.{Host}
 use Rattle.message.specs.declared.Name.{Name}
 use Rattle.message.specs.Entry.{asHost, asNumber}
 use Rattle.message.specs.Message.{RQST, REPL, Meaning, bytesOf}
-use Rattle.message.specs.Question.{sameHost}
 use Rattle.end.specs.declared.Request.{Request}
 use Rattle.end.specs.declared.Reply.the-variants.{No, Due}
 use Rattle.end.specs.declared.Slot.{Slot}
@@ -29,7 +28,8 @@ use Rattle.end.specs.declared.Wait.{Wait}
 use Rattle.end.specs.declared.Earliest.{Earliest}
 use Rattle.end.specs.declared.Earliest.the-variants.{NoWait, First}
 use Rattle.end.specs.State.{sourceAt, isMember, momentOf, withClock, noSource, distanceTo, withSource}
-use Rattle.end.specs.Records.{recordAt, withRecord}
+use Rattle.end.specs.Records.{within, start, recordAt, withRecord}
+use Rattle.end.specs.Ready.{SpanIn}
 use Rattle.end.specs.Round.{factor, requestAt, nextRound}
 use Rattle.end.specs.Answer.{Effect, Out, Ignored, Nothing, Step, give, Refused, Did, Result, done}
 use Rattle.end.specs.Messages.{requestMessage, repairMessage}
@@ -38,17 +38,17 @@ use Rattle.end.specs.Arrival.{messageName, messageHost}
 use Rattle.end.specs.Fire.{earliest, fireAt, fired, fireOf}
 use Rattle.end.specs.Event.{Else, Fire, actOf, stepOf, questionOf, eventOf}
 use Rattle.end.proofs.Bounds.{factor-least}
-use Rattle.end.proofs.Facts.{within-small}
+use Rattle.end.proofs.Facts.{among-64, narrow}
 use Rattle.end.proofs.RecordLaws.{read-same, store-elim}
 use Rattle.end.proofs.Tools.{byCond, clash, set-elim}
 use Rattle.invariants.proofs.Ends.{clock-kept}
-use Rattle.invariants.proofs.Facts.{last-in, SoundState, facts}
+use Rattle.invariants.proofs.Facts.{SoundState, facts, span-in}
 use Rattle.invariants.proofs.Outputs.{Written, request-written, repair-written}
 use Rattle.invariants.proofs.Questions.{Passed}
-use Rattle.guarantees.specs.Waits.{waitIn, waitAt, IsDue, IsEarliest, dueCount, dueWaits, sumBelow}
+use Rattle.guarantees.specs.Waits.{waitIn, waitAt, IsDue, IsEarliest, dueCount, firstNumber, dueWaits, sumBelow}
 use Rattle.guarantees.specs.Fires.{fire, FireTaken, TellsOf, OutIsEarliest, NothingMeansNone, NoneMeansNothing, DueMeansOut, OneLessDue, AllOut, FiringEnds}
 use Rattle.guarantees.proofs.Names.{sound-waits, far}
-use Rattle.guarantees.proofs.Arrivals.{call-cases, member-not-crashed}
+use Rattle.guarantees.proofs.Calls.{call-cases, member-not-crashed}
 use Rattle.guarantees.proofs.Choice.{choice-is-earliest, no-choice-none-due, due-inside}
 use Rattle.guarantees.proofs.Slots.{host-and-params-stay}
 
@@ -130,7 +130,7 @@ fire-call : (P : Result → Type 0) (e : End) (clock room : ℕ) (draws : List �
     → (Passed e (Else Fire) clock → P (done (fireOf draws (withClock e clock))))
     → P (fire e clock room draws)
 unfolding actOf
-fire-call P e clock room draws refused ignored acts = call-cases P e (Else Fire) clock room draws refused (λ z. ignored e)
+fire-call P e clock room draws refused ignored acts = call-cases P e (Else Fire) clock room draws refused (λ z c. ignored e)
     (λ z c. byCond (λ s. P (done s)) (isMember (e .status)) (λ m. acts z) (λ m. ignored (withClock e clock)))
 
 -- a step's effect, of what the call did
@@ -238,44 +238,69 @@ nameAt h n = record { source = asHost h; number = asNumber n }
 abbrev withNamed : End → Name → Record → End
 withNamed e name r = withSource e (name .source) (withRecord (sourceAt e (name .source)) (name .number .0) r)
 
--- what is due under the names of an end that waits under one
-module _ (e : End) (f : SoundState e) (w : Wait) (due : IsDue e w) where
-  pub number-small : w .name .number .0 < 64
-  number-small =
-      let x = sourceAt e (w .name .source) .span in
-      within-small x (w .name .number .0) (last-in (sameHost (w .name .source) (e .host)) (e .next) x (f .each (w .name .source .0) (due .source) .span)) (due-inside e w due)
+-- where a name's wait is due, its source has 64 records and its number lies in first..last
+module _ (e : End) (f : SoundState e) (name : Name) (hs : name .source .0 < 8)
+    (inside : within (sourceAt e (name .source) .span) (name .number .0) ≡ true) (r : Record) where
+  abbrev s₀ : Source
+  s₀ = sourceAt e (name .source)
 
-  waits-there : (r : Record) → waitAt (withNamed e (w .name) r) (w .name) ≡ waitIn (w .name) (r .slot)
+  abbrev n₀ : ℕ
+  n₀ = name .number .0
+
+  sized : length (s₀ .names) ≡ 64
+  sized = f .each (name .source .0) hs .names
+
+  span-is : SpanIn (s₀ .span)
+  span-is = span-in _ _ _ _ _ s₀ (f .each (name .source .0) hs)
+
+  waits-there : waitAt (withNamed e name r) name ≡ waitIn name (r .slot)
   unfolding waitAt
-  waits-there r =
-      let name = w .name in
-      let s = sourceAt e (name .source) in
-      ap (λ (y : Source). waitIn name (recordAt y (name .number .0) .slot))
-      (getD-set-same (e .sources) (name .source .0) (withRecord s (name .number .0) r) noSource (omega (arith, f .sources, due .source)))
-      ∙ ap (λ (y : Record). waitIn name (y .slot))
-      (read-same s (name .number .0) r (due-inside e w due) (omega (arith, f .each (name .source .0) (due .source) .names, number-small)))
+  waits-there =
+      ap (λ (y : Source). waitIn name (recordAt y n₀ .slot))
+      (getD-set-same (e .sources) (name .source .0) (withRecord s₀ n₀ r) noSource (omega (arith, f .sources)))
+      ∙ ap (λ (y : Record). waitIn name (y .slot)) (read-same s₀ n₀ r inside sized)
 
-waits-elsewhere : (e : End) (name : Name) (r : Record) (h n : ℕ) → (h ≡ name .source .0 → n ≡ name .number .0 → ⊥) → waitAt (withNamed e name r) (nameAt h n) ≡ waitAt e (nameAt h n)
-unfolding waitAt
-waits-elsewhere e name r h n apart =
-    let s = sourceAt e (name .source) in
-    set-elim (λ (y : Source). waitIn (nameAt h n) (recordAt y n .slot) ≡ waitAt e (nameAt h n)) (e .sources) (name .source .0) h (withRecord s (name .number .0) r) noSource
-    (λ i. store-elim (λ (y : Record). waitIn (nameAt h n) (y .slot) ≡ waitAt e (nameAt h n)) s (name .number .0) r n
-    (λ j. absurd (apart i j))
-    (ap (λ k. waitIn (nameAt h n) (recordAt (sourceAt e (asHost k)) n .slot)) (sym i)))
-    refl
+  waits-elsewhere : (h n : ℕ) → (h ≡ name .source .0 → n ≡ n₀ → ⊥) → waitAt (withNamed e name r) (nameAt h n) ≡ waitAt e (nameAt h n)
+  unfolding waitAt
+  waits-elsewhere h n apart =
+      set-elim (λ (y : Source). waitIn (nameAt h n) (recordAt y n .slot) ≡ waitAt e (nameAt h n)) (e .sources) (name .source .0) h (withRecord s₀ n₀ r) noSource
+      (λ i. store-elim (λ (y : Record). waitIn (nameAt h n) (y .slot) ≡ waitAt e (nameAt h n)) s₀ n₀ r n (narrow (s₀ .span) span-is) inside sized
+      (λ j. absurd (apart i j))
+      (ap (λ k. waitIn (nameAt h n) (recordAt (sourceAt e (asHost k)) n .slot)) (sym i)))
+      refl
+
+  -- first of every source is as it was
+  first-same : (h : ℕ) → firstNumber (withNamed e name r) h ≡ firstNumber e h
+  first-same h = set-elim (λ (y : Source). start (y .span) ≡ firstNumber e h) (e .sources) (name .source .0) h (withRecord s₀ n₀ r) noSource
+      (λ i. ap (λ (k : ℕ). firstNumber e k) (sym i)) refl
+
+  count-elsewhere : (h i : ℕ) → (h ≡ name .source .0 → firstNumber e h + i ≡ n₀ → ⊥)
+      → dueCount (e .clock) (waitAt (withNamed e name r) (nameAt h (firstNumber (withNamed e name r) h + i)))
+      ≡ dueCount (e .clock) (waitAt e (nameAt h (firstNumber e h + i)))
+  count-elsewhere h i apart =
+      ap (λ (k : ℕ). dueCount (e .clock) (waitAt (withNamed e name r) (nameAt h (k + i)))) (first-same h)
+      ∙ ap (dueCount (e .clock)) (waits-elsewhere h (firstNumber e h + i) apart)
 
 -- where a wait was due and now none is, one less is due
 one-less : (e : End) → SoundState e → (w : Wait) → IsDue e w → (r : Record) → dueCount (e .clock) (waitIn (w .name) (r .slot)) ≡ 0 → dueWaits (withNamed e (w .name) r) + 1 ≡ dueWaits e
 unfolding dueWaits dueCount
 one-less e f w due r is =
     let name = w .name in
-    let was : dueCount (e .clock) (waitAt e name) ≡ 1 = rw (due .waits, le-leb (w .due) (e .clock) (due .due)) in
-    let now : dueCount (e .clock) (waitAt (withNamed e name r) name) ≡ 0 = ap (dueCount (e .clock)) (waits-there e f w due r) ∙ is in
-    sum-less _ _ 8 (name .source .0) (due .source)
-    (λ h hh d. sum-same _ _ 64 (λ n l. ap (dueCount (e .clock)) (waits-elsewhere e name r h n (λ p q. d p))))
-    (sum-less _ _ 64 (name .number .0) (number-small e f w due)
-    (λ n l d. ap (dueCount (e .clock)) (waits-elsewhere e name r (name .source .0) n (λ p q. d q)))
+    let inside = due-inside e w due in
+    let h = name .source .0 in
+    let n = name .number .0 in
+    let low = firstNumber e h in
+    let among = among-64 (sourceAt e (name .source) .span) n (span-is e f name (due .source) inside r) inside in
+    let there : low + (n - low) ≡ n = omega (arith, among .0) in
+    let was : dueCount (e .clock) (waitAt e (nameAt h (low + (n - low)))) ≡ 1 = rw (there, due .waits, le-leb (w .due) (e .clock) (due .due)) in
+    let now : dueCount (e .clock) (waitAt (withNamed e name r) (nameAt h (firstNumber (withNamed e name r) h + (n - low)))) ≡ 0 =
+    ap (λ (k : ℕ). dueCount (e .clock) (waitAt (withNamed e name r) (nameAt h (k + (n - low))))) (first-same e f name (due .source) inside r h)
+    ∙ ap (λ (k : ℕ). dueCount (e .clock) (waitAt (withNamed e name r) (nameAt h k))) there
+    ∙ ap (dueCount (e .clock)) (waits-there e f name (due .source) inside r) ∙ is in
+    sum-less _ _ 8 h (due .source)
+    (λ k hk d. sum-same _ _ 64 (λ i l. count-elsewhere e f name (due .source) inside r k i (λ p q. d p)))
+    (sum-less _ _ 64 (n - low) (omega (arith, among .1))
+    (λ i l d. count-elsewhere e f name (due .source) inside r h i (λ p q. d (omega arith)))
     (omega (arith, was, now)))
 
 -- ---- what Fire leaves under the name

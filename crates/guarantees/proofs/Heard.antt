@@ -49,7 +49,7 @@ pub record Heard (t : Moment) (us : List ℕ) (m : Meaning) (to : Host → ℕ) 
   pub quiet : (p .hush ≡ r .hush) ⊎ ((repairs m h j r ≡ true) × (p .hush ≡ quietAfterReply t (to (messageHost m))))
 
 -- a held cue with another reply is a held cue
-replied-held : (reply : Reply) (x : Slot) → isHeld (withReply reply x) ≡ isHeld x
+pub replied-held : (reply : Reply) (x : Slot) → isHeld (withReply reply x) ≡ isHeld x
 replied-held reply Empty = refl
 replied-held reply (Held was) = refl
 replied-held reply (Waiting q) = refl

@@ -1,4 +1,6 @@
+pub mod Calls
 pub mod Names
+pub mod Retired
 pub mod Heard
 pub mod Messages
 pub mod Arrivals
@@ -8,3 +10,9 @@ pub mod Slots
 pub mod Fires
 pub mod BackOff
 pub mod Reasons
+pub mod HistoryKept
+pub mod HistoryWords
+pub mod HistoryMessages
+pub mod History
+pub mod HistoryRows
+pub mod Rises

@@ -1,14 +1,15 @@
 -- What a sound state says of one name: where a request waits, the source is another, its distance is 1 or more, and the number is in
 -- first..last; the own next number lies outside.
-use mathlib.Core.Path.{_≡_, refl, sym, ap, _∙_}
-use mathlib.Core.Bool.{Bool, true, false, not, _&&_}
+use mathlib.Core.Path.{_≡_, refl, sym, ap, _∙_, subst}
+use mathlib.Core.Bool.{Bool, true, false, not}
 use Prim.Native.Nat.{ℕ, _+_, _≤_, _<_}
 use native.Mathlib.Omega.{arith}
-use lib.ListN.{getD}
+use mathlib.Core.List.{List}
+use lib.ListN.{length, getD}
 use lib.Dec.{leb, eqb}
-use borrow.Author.Tests.{leb-true, ltb-true, eqb-true, eqb-false, eq-eqb, not-true, le-leb, lt-leb}
+use borrow.Author.Tests.{leb-true, ltb-true, eqb-true, eqb-false, eq-eqb, not-true}
 use Rattle.numbers.proofs.Cases.{by-order}
-use Rattle.message.specs.Entry.{asHost}
+use Rattle.message.specs.Entry.{asHost, asNumber}
 use Rattle.message.specs.Question.{sameHost}
 use Rattle.message.proofs.QuestionLaws.{and-both}
 use Rattle.end.specs.declared.Request.{Request}
@@ -19,11 +20,15 @@ use Rattle.end.specs.declared.Span.{Span}
 use Rattle.end.specs.declared.Span.the-variants.{Closed, Open}
 use Rattle.end.specs.declared.Source.{Source}
 use Rattle.end.specs.declared.End.{End}
+use Rattle.end.specs.declared.Moment.{Moment}
 use Rattle.end.specs.State.{noSource, blankRecord, sourceAt, distanceTo}
 use Rattle.end.specs.Records.{within, isAbove, recordAt, isHeld}
 use Rattle.end.specs.Sound.{timeLimit, allOf, spanTests, requestTests, insideSound, distanceSound, soundOf}
+use Rattle.end.specs.Names.{asked, openAt}
 use Rattle.end.specs.Event.{extended}
-use Rattle.end.proofs.RecordLaws.{Ordered, within-in, within-below, within-above, above-outside, at-outside}
+use Rattle.end.proofs.RecordLaws.{Narrow, within-in, within-below, within-above, above-outside, at-outside}
+use Rattle.end.proofs.RiseLaws.{rise-elim, rise-length, rise-narrow, rise-reaches}
+use Rattle.end.proofs.Facts.{narrow, last-in}
 use Rattle.end.proofs.SoundLaws.{nth}
 use Rattle.end.proofs.Tools.{byTest, clash′}
 use Rattle.invariants.proofs.Facts.{facts}
@@ -85,31 +90,49 @@ abbrev pub Ends : ℕ → Span → Type 0
 Ends next Closed = Unit {0}
 Ends next (Open first last) = last .0 + 1 ≡ next
 
-pub own-ends : (e : End) → soundOf e ≡ true → Ends (e .next) (sourceAt e (e .host) .span) × Ordered (sourceAt e (e .host) .span)
+pub own-ends : (e : End) → soundOf e ≡ true → Ends (e .next) (sourceAt e (e .host) .span) × Narrow (sourceAt e (e .host) .span)
 own-ends e sound =
     let me = e .host in
-    let x = sourceAt e me .span in
+    let s = sourceAt e me in
     let f = facts e sound in
-    go x (sym (ap (λ (t : Bool). allOf (spanTests t (e .next) x)) (eq-eqb (me .0) (me .0) refl)) ∙ f .each (me .0) (f .host) .span)
+    let tests = sym (ap (λ (t : Bool). allOf (spanTests t (e .next) (s .missed) (s .span))) (eq-eqb (me .0) (me .0) refl)) ∙ f .each (me .0) (f .host) .span in
+    (go (s .missed) (s .span) tests, narrow (s .span) (last-in true (e .next) (s .missed) (s .span) tests))
   where
-    go : (x : Span) → allOf (spanTests true (e .next) x) ≡ true → Ends (e .next) x × Ordered x
-    go Closed t = (tt, tt)
-    go (Open first last) t =
-        let tests = spanTests true (e .next) (Open first last) in
-        (eqb-true (last .0 + 1) (e .next) (nth tests 2 t), leb-true (first .0) (last .0) (nth tests 0 t))
+    go : (missed : ℕ) (x : Span) → allOf (spanTests true (e .next) missed x) ≡ true → Ends (e .next) x
+    go missed Closed t = tt
+    go missed (Open first last) t = eqb-true (last .0 + 1) (e .next) (nth (spanTests true (e .next) missed (Open first last)) 2 t)
 
 pub next-outside : (next : ℕ) (x : Span) → Ends next x → within x next ≡ false
 next-outside next Closed t = refl
 next-outside next (Open first last) t = within-above (first .0) (last .0) next (omega arith)
 
-pub next-inside : (next : ℕ) (x : Span) → Ends next x → Ordered x → within (extended next x) next ≡ true
-next-inside next Closed t o = within-in next next next (omega arith) (omega arith)
-next-inside next (Open first last) t o = within-in (first .0) next next (omega arith) (omega arith)
+-- only n lies in n..n
+pub one-within : (n j : ℕ) → eqb j n ≡ false → within (Open (asNumber n) (asNumber n)) j ≡ false
+one-within n j d = by-order j n (λ l. within-below n n j l) (λ l. let apart : j ≡ n → ⊥ = eqb-false j n d in within-above n n j (omega (arith, apart)))
 
--- a span extended to the next number, or opened at a number, has one number more
-pub extended-within : (next : ℕ) (x : Span) → Ends next x → (j : ℕ) → eqb j next ≡ false → within (extended next x) j ≡ within x j
-extended-within next Closed t j d = by-order j next (λ l. within-below next next j l)
-    (λ l. let apart : j ≡ next → ⊥ = eqb-false j next d in within-above next next j (omega (arith, apart)))
-extended-within next (Open first last) t j d = ap (λ (b : Bool). leb (first .0) j && b) (by-order j next
-    (λ l. le-leb j next (omega arith) ∙ sym (le-leb j (last .0) (omega arith)))
-    (λ l. let apart : j ≡ next → ⊥ = eqb-false j next d in lt-leb j next (omega (arith, apart)) ∙ sym (lt-leb j (last .0) (omega arith))))
+-- a source extended to the next number: that number lies inside, every other is as it was, or is retired
+module _ (t : Moment) (us : List ℕ) (next : ℕ) (s : Source) (sized : length (s .names) ≡ 64) where
+  abbrev new : ℕ → Record
+  new = asked t us (s .distance)
+
+  pub next-inside : (x : Span) → Ends next x → Narrow x → within (extended t us next s x .span) next ≡ true
+  next-inside Closed ends o = within-in next next next (omega arith) (omega arith)
+  next-inside (Open first last) ends o = rise-reaches new next s first last o (omega (arith, o .0))
+
+  pub extended-narrow : (x : Span) → s .span ≡ x → Narrow x → Narrow (extended t us next s x .span)
+  extended-narrow Closed p o = (omega arith, omega arith)
+  extended-narrow (Open first last) p o = rise-narrow new next s (Open first last) p o
+
+  pub extended-length : (x : Span) → length (extended t us next s x .names) ≡ length (s .names)
+  extended-length Closed = refl
+  extended-length (Open first last) = rise-length new next s (Open first last)
+
+  pub extended-elim : (P : Record → Type 0) (x : Span) → s .span ≡ x → Ends next x → (j : ℕ) → eqb j next ≡ false
+      → (within (extended t us next s x .span) j ≡ true → P (recordAt s j)) → (within (extended t us next s x .span) j ≡ false → P blankRecord)
+      → P (recordAt (extended t us next s x) j)
+  extended-elim P Closed p ends j d kept gone =
+      let out = one-within next j d in
+      subst P (sym (at-outside (openAt next s) j out)) (gone out)
+  extended-elim P (Open first last) p ends j d kept gone = rise-elim P new next s (Open first last) p sized j
+      (λ above most. let apart : j ≡ next → ⊥ = eqb-false j next d in absurd (apart (omega (arith, ltb-true (last .0) j above))))
+      kept gone

@@ -5,7 +5,7 @@ use mathlib.Core.Option.{Option, none, some}
 use Prim.Native.Nat.{ℕ, _≤_, _<_}
 use native.Mathlib.Omega.{arith}
 use lib.ListN.{length, getD, List·getD-eq-default}
-use lib.Dec.{eqb, leb}
+use lib.Dec.{eqb}
 use borrow.Author.Tests.{eqb-true, leb-true, ltb-false, not-true}
 use Rattle.numbers.proofs.Cases.{by-order}
 use Rattle.message.specs.Entry.{asHost}
@@ -25,16 +25,15 @@ use Rattle.end.specs.declared.Why.{Why}
 use Rattle.end.specs.declared.Why.the-variants as why
 use Rattle.end.specs.declared.End.{End}
 use Rattle.end.specs.State.{noSource, sourceAt, withClock}
-use Rattle.end.specs.Records.{isClosed, within, rawAt, isBelow, isAbove, isHeld}
-use Rattle.end.specs.Ready.{SpanIn}
+use Rattle.end.specs.Records.{isClosed, within, isBelow, isAbove, isHeld}
 use Rattle.end.specs.Sound.{soundOf, insideSound, outsideSound, recordSound}
 use Rattle.end.specs.Decide.{number, known}
 use Rattle.end.specs.Reasons.{isData, isRequest, isQuiet}
 use Rattle.end.specs.Event.{Action, questionOf}
-use Rattle.end.specs.Why.{namedBy, holdsOf, refusedAs, because, whyOf}
+use Rattle.end.specs.Why.{namedBy, holdsOf, refusedAs, whyOf}
 use Rattle.end.proofs.Tools.{byCond, clash, clash′}
 use Rattle.end.proofs.RecordLaws.{within-in, at-inside}
-use Rattle.end.proofs.Facts.{Facts, facts}
+use Rattle.end.proofs.Facts.{facts}
 use Rattle.end.proofs.ReasonLaws.{reason-is-first}
 use Rattle.invariants.proofs.Questions.{Passed, passes}
 use Rattle.guarantees.specs.Reasons.{RequestQuietWaits}
@@ -63,13 +62,6 @@ waits me s n x r clock sound i lacks quiet = go (r .slot) refl (sym (ap (λ (t :
 there : (e : End) (s n : ℕ) → length (e .sources) ≡ 8 → within (getD (e .sources) s noSource .span) n ≡ true → s < 8
 there e s n k i = by-order s 8 (λ l. l) (λ l. clash′ (sym (ap (λ (x : Source). within (x .span) n) (List·getD-eq-default (e .sources) noSource {n = s} (omega (arith, k, l)))) ∙ i))
 
-short : (x : Span) (n : ℕ) → SpanIn x → within x n ≡ true → n < 64
-short Closed n f i = clash′ i
-short (Open first last) n f i =
-    let k : n ≤ last .0 = leb-true n (last .0) (and-both (leb (first .0) n) (leb n (last .0)) i .1) in
-    let l : last .0 < 64 = f .1 in
-    omega arith
-
 module _ (e : End) (clock : ℕ) (sound : soundOf e ≡ true) where
   named : (o : Option Word) → holdsOf (withClock e clock) RequestQuiet o ≡ true → holdsOf (withClock e clock) NotOpen o ≡ false → holdsOf (withClock e clock) BelowFirst o ≡ false
       → (w : Word) × (q : Request) × (o ≡ some w) × (known w (sourceAt e (w .name .source)) .slot ≡ Waiting q) × (clock ≤ q .quiet)
@@ -84,8 +76,7 @@ module _ (e : End) (clock : ℕ) (sound : soundOf e ≡ true) where
       let open-is : isClosed (s .span) ≡ false = sym (ap (λ (d : Bool). not d && isClosed (s .span)) (not-data (w .says) (a1 .0))) ∙ c in
       let i : within (s .span) n ≡ true = inside (s .span) n open-is b (not-true _ (a3 .0)) in
       let hs = there e (w .name .source .0) n (f .sources) i in
-      let hn = short (s .span) n (f .spans (w .name .source .0) hs) i in
-      let r = rw (sym (at-inside s n i)) at (f .records (w .name .source .0) n hs hn) in
+      let r = rw (sym (at-inside s n i)) at (f .records (w .name .source .0) n hs i) in
       let k = waits e (w .name .source .0) n (s .span) (known w s) clock r i (not-true _ (a2 .0)) (a3 .1) in
       (w, k .0, refl, k .1, k .2)
 

@@ -1,13 +1,13 @@
--- Every event, refused or not, changes each slot only as `MayBecome` says, none but Leave and Crash changes a held cue, and none
--- changes host or parameters.
+-- Every event, refused or not, changes first and last only as `SpanMayBecome` says and each slot that is not retired only as `MayBecome` says;
+-- none but Leave and Crash changes a held cue that is not retired, and none changes host or parameters.
 use mathlib.Core.Path.{_≡_, refl, sym, ap, _∙_, subst}
 use mathlib.Core.Bool.{Bool, true, false, cond}
-use mathlib.Core.List.{List}
+use mathlib.Core.List.{List, [], _∷_}
 use mathlib.Core.Option.{some}
 use mathlib.Core.Logic.{_⊎_, inl, inr, ⊎-elim}
 use Prim.Native.Nat.{ℕ, _≤_, _<_}
 use native.Mathlib.Omega.{arith}
-use lib.ListN.{getD}
+use lib.ListN.{length, getD}
 use lib.Dec.{eqb}
 use borrow.Author.Tests.{eqb-true}
 use Rattle.message.specs.declared.Host.{Host}
@@ -20,6 +20,8 @@ use Rattle.end.specs.declared.Reply.the-variants.{No, Due}
 use Rattle.end.specs.declared.Slot.{Slot}
 use Rattle.end.specs.declared.Slot.the-variants.{Empty, Held, Waiting}
 use Rattle.end.specs.declared.Record.{Record}
+use Rattle.end.specs.declared.Span.{Span}
+use Rattle.end.specs.declared.Span.the-variants.{Closed, Open}
 use Rattle.end.specs.declared.Source.{Source}
 use Rattle.end.specs.declared.End.{End}
 use Rattle.end.specs.declared.Move.{Move}
@@ -27,29 +29,33 @@ use Rattle.end.specs.declared.Moment.{Moment}
 use Rattle.end.specs.declared.Wait.{Wait}
 use Rattle.end.specs.declared.Earliest.{Earliest}
 use Rattle.end.specs.declared.Earliest.the-variants.{NoWait, First}
-use Rattle.end.specs.State.{noSource, blankRecord, unheardSources, sourceAt, distanceTo, isMember, momentOf, withClock, withStatus, withSpan, withSource}
-use Rattle.end.specs.Records.{recordAt, withRecord, isHeld, withReply}
+use Rattle.end.specs.State.{noSource, blankRecord, unheardSources, sourceAt, distanceTo, isMember, momentOf, withClock, withStatus, withSource}
+use Rattle.end.specs.Records.{within, isBelow, recordAt, withRecord, isHeld, withReply}
 use Rattle.end.specs.Round.{requestAt, nextRound, quietAfterReply}
 use Rattle.end.specs.Names.{asking, holding, quieted}
 use Rattle.end.specs.Answer.{Step, Result}
 use Rattle.end.specs.Sound.{soundOf}
 use Rattle.end.specs.Fire.{earliest, fireAt, fired}
 use Rattle.end.specs.Event.{Action, Moves, Send, Arrival, Else, Other, Fire, Report, moves, movesTo, clears, cleared, movedEnd, moveOf, extended, sentSource, otherOf, actOf, eventOf}
-use Rattle.end.proofs.Facts.{unheard-at}
-use Rattle.end.proofs.RecordLaws.{at-outside, same-within, read-same, read-other, store-elim}
+use Rattle.end.proofs.Facts.{unheard-at, narrow}
+use Rattle.end.proofs.RecordLaws.{Narrow, at-outside, read-same, read-other, store-elim}
+use Rattle.end.proofs.RiseLaws.{rise-span}
 use Rattle.end.proofs.Tools.{byCond, byTest, set-elim, clash, clash′}
-use Rattle.invariants.proofs.Facts.{facts}
-use Rattle.invariants.proofs.Questions.{Passed, send-asked}
-use Rattle.guarantees.specs.Calls.{momentAt}
+use Rattle.invariants.proofs.Ends.{clock-kept}
+use Rattle.invariants.proofs.Facts.{SoundState, facts, span-in}
+use Rattle.invariants.proofs.Questions.{Passed}
+use Rattle.guarantees.specs.Calls.{momentAt, OneCall, after, afterAll}
 use Rattle.guarantees.specs.Waits.{waitIn, waitAt, IsDue}
-use Rattle.guarantees.specs.Records.{slotOf, clearing, MayBecome, HeardAs}
-use Rattle.guarantees.specs.Arrivals.{isAbout}
+use Rattle.guarantees.specs.Records.{slotOf, clearing, SpanMayBecome, retires, retired, MayBecome, HeardAs}
+use Rattle.guarantees.specs.Arrivals.{isAbout, isDataOf}
 use Rattle.guarantees.specs.Fires.{HostAndParamsStay}
-use Rattle.guarantees.specs.BackOff.{SlotsMayBecome, WaitsUntilHeld, HeldUntilCleared}
-use Rattle.guarantees.proofs.Names.{source-of, own-ends, next-outside, next-inside, extended-within}
+use Rattle.guarantees.specs.BackOff.{SpansMayBecome, RetiredAreGone, SlotsMayBecome, WaitsUntilHeld, HeldUntilCleared, NoneClears, WaitsOrHeldThrough, HeldThrough}
+use Rattle.guarantees.proofs.Names.{waits-inside, held-inside, source-of, Ends, own-ends, next-outside, next-inside, extended-narrow, extended-length, extended-elim}
+use Rattle.guarantees.proofs.Retired.{span-stay, rise-moves, retired-outside, retired-below, outside-before, below-stays}
 use Rattle.guarantees.proofs.Heard.{carriedBy}
-use Rattle.guarantees.proofs.Messages.{HeardEnd}
-use Rattle.guarantees.proofs.Arrivals.{call-cases, passed-heard}
+use Rattle.guarantees.proofs.Messages.{span-may, HeardEnd}
+use Rattle.guarantees.proofs.Calls.{call-cases}
+use Rattle.guarantees.proofs.Arrivals.{passed-heard}
 use Rattle.guarantees.proofs.Choice.{choice-is-earliest}
 
 -- ---- one slot
@@ -91,10 +97,12 @@ pub record May (emptied : Bool) (t : Moment) (us : List ℕ) (d j : ℕ) (r p : 
   pub slot : MayBecome emptied t us d j (r .slot) (p .slot)
   pub cue : emptied ≡ false → isHeld (r .slot) ≡ true → p .cue ≡ r .cue
 
--- every record of a source, and of an end whose host and parameters stay
-abbrev MaySource : Bool → Moment → List ℕ → Source → Source → Type 0
-MaySource emptied t us s p = (j : ℕ) → May emptied t us (s .distance) j (recordAt s j) (recordAt p j)
+-- a source: first and last, and every record that is not retired
+pub record MaySource (emptied : Bool) (t : Moment) (us : List ℕ) (s p : Source) : Type 0 where
+  pub span : SpanMayBecome emptied (s .span) (p .span)
+  pub each : (j : ℕ) → retires (s .span) (p .span) j ≡ false → May emptied t us (s .distance) j (recordAt s j) (recordAt p j)
 
+-- an end, whose host and parameters stay
 abbrev pub MayEnd : Bool → Moment → List ℕ → End → End → Type 0
 MayEnd emptied t us e p = ((p .host ≡ e .host) × (p .params ≡ e .params)) × ((h : ℕ) → h < 8 → MaySource emptied t us (source-of e h) (source-of p h))
 
@@ -102,7 +110,12 @@ may-same : (emptied : Bool) (t : Moment) (us : List ℕ) (d j : ℕ) (r : Record
 may-same emptied t us d j r = record { slot = stays emptied t us d j (r .slot); cue = λ _ _. refl }
 
 may-stay : (emptied : Bool) (t : Moment) (us : List ℕ) (e : End) → MayEnd emptied t us e e
-may-stay emptied t us e = ((refl, refl), λ h hh j. may-same emptied t us (source-of e h .distance) j (recordAt (source-of e h) j))
+may-stay emptied t us e = (
+  (refl, refl),
+  λ h hh.
+      let s = source-of e h in
+      record { span = span-stay emptied (s .span); each = λ j _. may-same emptied t us (s .distance) j (recordAt s j) },
+)
 
 module _ (t : Moment) (us : List ℕ) (e : End) where
   -- one source is another
@@ -113,20 +126,37 @@ module _ (t : Moment) (us : List ℕ) (e : End) where
         (λ i. subst (λ l. MaySource false t us (source-of e l) x) (sym i) q) (may-stay false t us e .1 h hh),
   )
 
-  -- one record of one source is another
-  may-record : (name : Name) (r : Record) → May false t us (distanceTo e (name .source)) (name .number .0) (recordAt (sourceAt e (name .source)) (name .number .0)) r
+  -- one record of one source, in first..last, is another
+  may-record : (f : SoundState e) (name : Name) → name .source .0 < 8 → within (sourceAt e (name .source) .span) (name .number .0) ≡ true → (r : Record)
+      → May false t us (distanceTo e (name .source)) (name .number .0) (recordAt (sourceAt e (name .source)) (name .number .0)) r
       → MayEnd false t us e (withSource e (name .source) (withRecord (sourceAt e (name .source)) (name .number .0) r))
-  may-record name r q =
+  may-record f name hs w r q =
       let s = sourceAt e (name .source) in
-      may-source (name .source) (withRecord s (name .number .0) r)
-      (λ j. store-elim (May false t us (s .distance) j (recordAt s j)) s (name .number .0) r j (λ i. subst (λ k. May false t us (s .distance) k (recordAt s k) r) (sym i) q)
-      (may-same false t us (s .distance) j (recordAt s j)))
+      let here = f .each (name .source .0) hs in
+      may-source (name .source) (withRecord s (name .number .0) r) (record {
+        span = span-stay false (s .span);
+        each = λ j _. store-elim (May false t us (s .distance) j (recordAt s j)) s (name .number .0) r j (narrow (s .span) (span-in _ _ _ _ _ s here))
+            w (here .names)
+            (λ i. subst (λ k. May false t us (s .distance) k (recordAt s k) r) (sym i) q)
+            (may-same false t us (s .distance) j (recordAt s j));
+      })
 
   -- ---- the events
   cleared-may : (me h : ℕ) → h < 8 → MaySource true t us (source-of e h) (getD (unheardSources me) h noSource)
-  cleared-may me h hh j =
+  cleared-may me h hh =
       let now = getD (unheardSources me) h noSource in
-      record { slot = rw (at-outside now j (rw (unheard-at me h hh .0))) (empties t us (source-of e h .distance) j (recordAt (source-of e h) j .slot)); cue = λ k _. clash k }
+      let shut = unheard-at me h hh .0 in
+      record {
+        span = rw shut (closes (source-of e h .span));
+        each = λ j _. record {
+          slot = rw (at-outside now j (rw shut)) (empties t us (source-of e h .distance) j (recordAt (source-of e h) j .slot));
+          cue = λ k _. clash k;
+        };
+      }
+    where
+      closes : (x : Span) → SpanMayBecome true x Closed
+      closes Closed = tt
+      closes (Open first last) = refl
 
   moved-may : (x : Status) (b : Bool) → MayEnd b t us e (cond b (cleared e x) (withStatus e x))
   moved-may x true = ((refl, refl), cleared-may (e .host .0))
@@ -139,32 +169,72 @@ module _ (t : Moment) (us : List ℕ) (e : End) where
   heard-end-may : (m : Meaning) (p : End) → HeardEnd t us m e p → MayEnd false t us e p
   heard-end-may m p q = (
     (q .same .host, q .same .params),
-    λ h hh j.
-        let each = q .sources h hh .each j in
+    λ h hh.
+        let now = q .sources h hh in
+        let was = source-of e h in
         record {
-          slot = heard-may false t us (source-of e h .distance) j (carriedBy m h j) (isAbout RQST m h j) (recordAt (source-of e h) j .slot) (recordAt (source-of p h) j .slot) (each .slots);
-          cue = λ _ held. each .held held .1;
+          span = span-may false (isDataOf m h) (was .span) (source-of p h .span) (now .rest .0);
+          each = λ j kept.
+              let each = now .each j kept in
+              record {
+                slot = heard-may false t us (was .distance) j (carriedBy m h j) (isAbout RQST m h j) (recordAt was j .slot) (recordAt (source-of p h) j .slot)
+                    (each .slots);
+                cue = λ _ held. each .held held .1;
+              };
         },
   )
 
--- the own next number was outside; every other lies where it lay
-sent-may : (t : Moment) (us : List ℕ) (e : End) → soundOf e ≡ true → (cue : List ℕ) → e .next < 64 → MaySource false t us (sourceAt e (e .host)) (sentSource (e .next) cue (sourceAt e (e .host)))
-sent-may t us e sound cue l j =
-    let s = sourceAt e (e .host) in
-    let n = e .next in
-    let f = facts e sound in
-    let ends = own-ends e sound in
-    let x = withSpan s (extended n (s .span)) in
-    let r = holding (recordAt x n) cue in
-    byTest (eqb j n)
-    (λ b.
-    let now = read-same x n r (next-inside n (s .span) (ends .0) (ends .1)) (omega (arith, f .each (e .host .0) (f .host) .names)) in
-    let was = at-outside s n (next-outside n (s .span) (ends .0)) in
-    let held : May false t us (s .distance) n blankRecord r = record { slot = refl; cue = λ _ h. clash′ h } in
-    subst (λ k. May false t us (s .distance) k (recordAt s k) (recordAt (withRecord x n r) k)) (sym (eqb-true j n b))
-    (subst (λ y. May false t us (s .distance) n y (recordAt (withRecord x n r) n)) (sym was) (subst (May false t us (s .distance) n blankRecord) (sym now) held)))
-    (λ b. subst (May false t us (s .distance) j (recordAt s j)) (sym (read-other x n r j b ∙ same-within s (x .span) j (extended-within n (s .span) (ends .0) j b)))
-    (may-same false t us (s .distance) j (recordAt s j)))
+-- the own next number was outside; every other is as it was, or is retired
+sent-may : (t : Moment) (us : List ℕ) (e : End) → soundOf e ≡ true → (cue : List ℕ)
+    → MaySource false t us (sourceAt e (e .host)) (sentSource t us (e .next) cue (sourceAt e (e .host)))
+sent-may t us e sound cue = record { span = span-now (s .span) thin; each = each }
+  where
+    s : Source
+    s = sourceAt e (e .host)
+
+    n : ℕ
+    n = e .next
+
+    sized : length (s .names) ≡ 64
+    sized = facts e sound .each (e .host .0) (facts e sound .host) .names
+
+    thin : Narrow (s .span)
+    thin = own-ends e sound .1
+
+    ends : Ends n (s .span)
+    ends = own-ends e sound .0
+
+    span-now : (x : Span) → Narrow x → SpanMayBecome false x (extended t us n s x .span)
+    span-now Closed o = tt
+    span-now (Open first last) o = subst (SpanMayBecome false (Open first last)) (sym (rise-span _ n s first last)) (rise-moves n first last o)
+
+    x : Source
+    x = extended t us n s (s .span)
+
+    r : Record
+    r = holding (recordAt x n) cue
+
+    narrow-now : Narrow (x .span)
+    narrow-now = extended-narrow t us n s sized (s .span) refl thin
+
+    here : within (x .span) n ≡ true
+    here = next-inside t us n s sized (s .span) ends thin
+
+    each : (j : ℕ) → retires (s .span) (x .span) j ≡ false → May false t us (s .distance) j (recordAt s j) (recordAt (withRecord x n r) j)
+    each j kept = byTest (eqb j n)
+        (λ b.
+        let now = read-same x n r here (extended-length t us n s sized (s .span) ∙ sized) in
+        let was = at-outside s n (next-outside n (s .span) ends) in
+        let held : May false t us (s .distance) n blankRecord r = record { slot = refl; cue = λ _ h. clash′ h } in
+        subst (λ k. May false t us (s .distance) k (recordAt s k) (recordAt (withRecord x n r) k)) (sym (eqb-true j n b))
+        (subst (λ y. May false t us (s .distance) n y (recordAt (withRecord x n r) n)) (sym was)
+        (subst (May false t us (s .distance) n blankRecord) (sym now) held)))
+        (λ b.
+        let same = may-same false t us (s .distance) j (recordAt s j) in
+        subst (May false t us (s .distance) j (recordAt s j)) (sym (read-other x n r j narrow-now here b))
+        (extended-elim t us n s sized (May false t us (s .distance) j (recordAt s j)) (s .span) refl ends j b (λ _. same)
+        (λ out. subst (May false t us (s .distance) j (recordAt s j))
+        (at-outside s j (outside-before (s .span) (x .span) j (span-now (s .span) thin) thin kept out)) same)))
 
 -- the request that is chosen is due
 chosen-due : (e : End) (w : Wait) → IsDue e w → (q : Request) → recordAt (sourceAt e (w .name .source)) (w .name .number .0) .slot ≡ Waiting q → q .due ≤ e .clock
@@ -176,30 +246,34 @@ chosen-due e w d q p =
     let in-time = d .due in
     omega arith
 
-fire-may : (us : List ℕ) (e : End) (name : Name) (x : Slot) → recordAt (sourceAt e (name .source)) (name .number .0) .slot ≡ x
+fire-may : (us : List ℕ) (e : End) → SoundState e → (name : Name) → name .source .0 < 8 → (x : Slot)
+    → recordAt (sourceAt e (name .source)) (name .number .0) .slot ≡ x
     → ((q : Request) → x ≡ Waiting q → q .due ≤ e .clock) → MayEnd false (momentOf e) us e (fireAt us name e x .left)
 unfolding fireAt
-fire-may us e name Empty p due = may-stay false (momentOf e) us e
-fire-may us e name (Waiting q) p due =
-    let asked = requestAt (momentOf e) us (distanceTo e (name .source)) (name .number .0) (nextRound (q .round)) in
-    may-record (momentOf e) us e name (asking (recordAt (sourceAt e (name .source)) (name .number .0)) asked) (record {
-      slot = subst (λ z. MayBecome false (momentOf e) us (distanceTo e (name .source)) (name .number .0) z (Waiting asked)) (sym p) (inr (inr (due q refl), refl));
+fire-may us e f name hs Empty p due = may-stay false (momentOf e) us e
+fire-may us e f name hs (Waiting q) p due =
+    let s = sourceAt e (name .source) in
+    let n = name .number .0 in
+    let asked = requestAt (momentOf e) us (s .distance) n (nextRound (q .round)) in
+    may-record (momentOf e) us e f name hs (waits-inside s n q p) (asking (recordAt s n) asked) (record {
+      slot = subst (λ z. MayBecome false (momentOf e) us (s .distance) n z (Waiting asked)) (sym p) (inr (inr (due q refl), refl));
       cue = λ _ _. refl;
     })
-fire-may us e name (Held No) p due = may-stay false (momentOf e) us e
-fire-may us e name (Held (Due time k)) p due =
-    let here = recordAt (sourceAt e (name .source)) (name .number .0) in
-    may-record (momentOf e) us e name (quieted here (quietAfterReply (momentOf e) (distanceTo e k)))
-    (record { slot = quiets false (momentOf e) us (distanceTo e (name .source)) (name .number .0) (here .slot); cue = λ _ _. refl })
+fire-may us e f name hs (Held No) p due = may-stay false (momentOf e) us e
+fire-may us e f name hs (Held (Due time k)) p due =
+    let s = sourceAt e (name .source) in
+    let n = name .number .0 in
+    may-record (momentOf e) us e f name hs (held-inside s n (ap isHeld p)) (quieted (recordAt s n) (quietAfterReply (momentOf e) (distanceTo e k)))
+    (record { slot = quiets false (momentOf e) us (s .distance) n (recordAt s n .slot); cue = λ _ _. refl })
 
-fired-may : (us : List ℕ) (e : End) (x : Earliest) → earliest e 8 ≡ x → MayEnd false (momentOf e) us e (fired us e x .left)
+fired-may : (us : List ℕ) (e : End) → SoundState e → (x : Earliest) → earliest e 8 ≡ x → MayEnd false (momentOf e) us e (fired us e x .left)
 unfolding fired
-fired-may us e NoWait p = may-stay false (momentOf e) us e
-fired-may us e (First w) p = fire-may us e (w .name) _ refl (chosen-due e w (choice-is-earliest e w p .due))
+fired-may us e f NoWait p = may-stay false (momentOf e) us e
+fired-may us e f (First w) p = let due = choice-is-earliest e w p .due in fire-may us e f (w .name) (due .source) _ refl (chosen-due e w due)
 
-other-may : (us : List ℕ) (o : Other) (e : End) → MayEnd false (momentOf e) us e (otherOf us o e .left)
-other-may us Fire e = fired-may us e (earliest e 8) refl
-other-may us Report e = may-stay false (momentOf e) us e
+other-may : (us : List ℕ) (o : Other) (e : End) → SoundState e → MayEnd false (momentOf e) us e (otherOf us o e .left)
+other-may us Fire e f = fired-may us e f (earliest e 8) refl
+other-may us Report e f = may-stay false (momentOf e) us e
 
 pub acts-may : (e : End) (a : Action) (clock : ℕ) (us : List ℕ) → Passed e a clock → MayEnd (clearing a) (momentAt e clock) us e (actOf us a (withClock e clock) .left)
 unfolding actOf
@@ -207,22 +281,32 @@ acts-may e (Moves m) clock us z = move-may (momentAt e clock) us (withClock e cl
 acts-may e (Send cue) clock us z =
     let t = momentAt e clock in
     byCond (λ (s : Step). MayEnd false t us e (s .left)) (isMember (e .status))
-    (λ member. may-source t us e (e .host) _ (sent-may t us e (z .sound) cue (send-asked cue e (z .own) .1 member))) (λ _. may-stay false t us e)
+    (λ member. may-source t us e (e .host) _ (sent-may t us e (z .sound) cue)) (λ _. may-stay false t us e)
 acts-may e (Arrival bytes) clock us z = heard-end-may (momentAt e clock) us e (meaningFrom bytes) _ (passed-heard e bytes clock us z)
 acts-may e (Else o) clock us z =
     let t = momentAt e clock in
-    byCond (λ (s : Step). MayEnd false t us e (s .left)) (isMember (e .status)) (λ _. other-may us o (withClock e clock)) (λ _. may-stay false t us e)
+    byCond (λ (s : Step). MayEnd false t us e (s .left)) (isMember (e .status))
+    (λ _. other-may us o (withClock e clock) (clock-kept e clock (facts e (z .sound)) (z .later) (z .ticks))) (λ _. may-stay false t us e)
 
 may-become : (e : End) (a : Action) (clock room : ℕ) (us : List ℕ) → MayEnd (clearing a) (momentAt e clock) us e (eventOf e a clock room us .left)
 may-become e a clock room us =
     let stay = may-stay (clearing a) (momentAt e clock) us e in
-    call-cases (λ (r : Result). MayEnd (clearing a) (momentAt e clock) us e (r .left)) e a clock room us (λ k. stay) (λ z. stay) (λ z c. acts-may e a clock us z)
+    call-cases (λ (r : Result). MayEnd (clearing a) (momentAt e clock) us e (r .left)) e a clock room us (λ k. stay) (λ z c. stay)
+    (λ z c. acts-may e a clock us z)
 
 pub host-and-params-stay : HostAndParamsStay
 host-and-params-stay e a clock room us = may-become e a clock room us .0
 
+pub spans-may-become : SpansMayBecome
+spans-may-become e a clock room us h hh = may-become e a clock room us .1 h hh .span
+
+pub retired-are-gone : RetiredAreGone
+retired-are-gone e a clock room us h n gone =
+    let left = eventOf e a clock room us .left in
+    at-outside (sourceAt left (asHost h)) n (retired-outside (sourceAt e (asHost h) .span) (sourceAt left (asHost h) .span) n gone)
+
 pub slots-may-become : SlotsMayBecome
-slots-may-become e a clock room us h n hh = may-become e a clock room us .1 h hh n .slot
+slots-may-become e a clock room us h n hh kept = may-become e a clock room us .1 h hh .each n kept .slot
 
 -- ---- with every call but Leave and Crash
 module _ (emptied : Bool) (kept : emptied ≡ false) (t : Moment) (us : List ℕ) (d n : ℕ) where
@@ -239,13 +323,50 @@ module _ (emptied : Bool) (kept : emptied ≡ false) (t : Moment) (us : List ℕ
   held-on (Waiting q) y p h = clash′ p
 
 pub waits-until-held : WaitsUntilHeld
-waits-until-held e a clock room us h n q hh kept before =
+waits-until-held e a clock room us h n q hh kept before stays =
     let t = momentAt e clock in
     let d = distanceTo e (asHost h) in
     let now = slotOf (eventOf e a clock room us .left) h n in
-    waits-on (clearing a) kept t us d n q now (subst (λ (x : Slot). MayBecome (clearing a) t us d n x now) before (slots-may-become e a clock room us h n hh))
+    waits-on (clearing a) kept t us d n q now
+    (subst (λ (x : Slot). MayBecome (clearing a) t us d n x now) before (slots-may-become e a clock room us h n hh stays))
 
 pub held-until-cleared : HeldUntilCleared
-held-until-cleared e a clock room us h n hh kept before =
-    let may = may-become e a clock room us .1 h hh n in
+held-until-cleared e a clock room us h n hh kept before stays =
+    let may = may-become e a clock room us .1 h hh .each n stays in
     (held-on (clearing a) kept (momentAt e clock) us (distanceTo e (asHost h)) n (slotOf e h n) (slotOf (eventOf e a clock room us .left) h n) before (may .slot), may .cue kept before)
+
+-- ---- through any calls but these, as long as first has not passed the number
+below-through : (cs : List OneCall) (e : End) (h n : ℕ) → h < 8 → NoneClears cs → isBelow (sourceAt e (asHost h) .span) n ≡ true
+    → isBelow (sourceAt (afterAll e cs) (asHost h) .span) n ≡ true
+below-through [] e h n hh kept p = p
+below-through (c ∷ cs) e h n hh kept p =
+    let was = sourceAt e (asHost h) .span in
+    let now = sourceAt (after e c) (asHost h) .span in
+    let moved = subst (λ (b : Bool). SpanMayBecome b was now) (kept .0) (spans-may-become e (c .action) (c .clock) (c .room) (c .draws) h hh) in
+    below-through cs (after e c) h n hh (kept .1) (below-stays was now n moved p)
+
+-- so the first of them does not retire it
+first-keeps : (c : OneCall) (cs : List OneCall) (e : End) (h n : ℕ) → h < 8 → NoneClears cs
+    → isBelow (sourceAt (afterAll (after e c) cs) (asHost h) .span) n ≡ false
+    → retired e (after e c) h n ≡ false
+first-keeps c cs e h n hh kept above = byTest (retired e (after e c) h n)
+    (λ gone.
+    let passed = retired-below (sourceAt e (asHost h) .span) (sourceAt (after e c) (asHost h) .span) n gone in
+    clash (sym (below-through cs (after e c) h n hh kept passed) ∙ above))
+    (λ stays. stays)
+
+pub held-through : HeldThrough
+held-through [] e h n hh kept p above = (p, refl)
+held-through (c ∷ cs) e h n hh kept p above =
+    let stays = first-keeps c cs e h n hh (kept .1) above in
+    let one = held-until-cleared e (c .action) (c .clock) (c .room) (c .draws) h n hh (kept .0) p stays in
+    let rest = held-through cs (after e c) h n hh (kept .1) (one .0) above in
+    (rest .0, rest .1 ∙ one .1)
+
+pub waits-or-held-through : WaitsOrHeldThrough
+waits-or-held-through [] e h n q hh kept p above = inl (q, p)
+waits-or-held-through (c ∷ cs) e h n q hh kept p above =
+    let stays = first-keeps c cs e h n hh (kept .1) above in
+    ⊎-elim (λ waits. waits-or-held-through cs (after e c) h n (waits .0) hh (kept .1) (waits .1) above)
+    (λ held. inr (held-through cs (after e c) h n hh (kept .1) held above .0))
+    (waits-until-held e (c .action) (c .clock) (c .room) (c .draws) h n q hh (kept .0) p stays)

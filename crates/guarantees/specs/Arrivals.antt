@@ -4,9 +4,9 @@ use mathlib.Core.Path.{_≡_}
 use mathlib.Core.Bool.{Bool, true, false, cond, not, _&&_, _||_}
 use mathlib.Core.List.{List, [], _∷_}
 use mathlib.Core.Logic.{_⊎_}
-use Prim.Native.Nat.{ℕ, _≤_, _<_}
+use Prim.Native.Nat.{ℕ, _+_, _<_}
 use lib.ListN.{length}
-use lib.Dec.{leb, eqb}
+use lib.Dec.{ltb, leb, eqb}
 use Rattle.message.specs.declared.Report.{Report}
 use Rattle.message.specs.Entry.{asHost}
 use Rattle.message.specs.Message.{DATA, RQST, REPL, Meaning, meaningFrom, bytesOf}
@@ -15,7 +15,7 @@ use Rattle.end.specs.declared.Span.{Span}
 use Rattle.end.specs.declared.Span.the-variants.{Closed, Open}
 use Rattle.end.specs.declared.End.{End}
 use Rattle.end.specs.State.{sourceAt, distanceTo, isMember, isCrashed, withClock}
-use Rattle.end.specs.Records.{isAbove, isHeld, replyIn}
+use Rattle.end.specs.Records.{within, isAbove, isHeld, replyIn}
 use Rattle.end.specs.Round.{quietAfterReply}
 use Rattle.end.specs.Messages.{sessionMessage}
 use Rattle.end.specs.Answer.{Out, Ignored, Refused, Did, Result, bufferOf}
@@ -23,7 +23,7 @@ use Rattle.end.specs.Decide.{sameCue}
 use Rattle.end.specs.Arrival.{messageName, messageHost, messageCue}
 use Rattle.end.specs.Event.{Action, Arrival, Else, Report as Reporting, questionOf, eventOf}
 use Rattle.guarantees.specs.Calls.{momentAt}
-use Rattle.guarantees.specs.Records.{recordOf, slotOf, HeardAs, ReplyAs}
+use Rattle.guarantees.specs.Records.{recordOf, slotOf, StayOrRise, retired, HeardAs, ReplyAs}
 
 -- a call with bytes that arrive
 abbrev pub hear : End → List ℕ → ℕ → ℕ → List ℕ → Result
@@ -61,9 +61,10 @@ pub record SameEnd (e left : End) : Type 0 where
 abbrev pub ArrivalKeepsStatusAndNext : Type 0
 ArrivalKeepsStatusAndNext = (e : End) (bytes : List ℕ) (clock room : ℕ) (draws : List ℕ) → SameEnd e (hear e bytes clock room draws .left)
 
--- Whatever arrives, a held cue stays held, and stays the same.
+-- Whatever arrives, a held cue stays held, and stays the same, until it is retired: and it is retired only by a rise (`SpansAsHeard`).
 abbrev pub HeldStays : Type 0
 HeldStays = (e : End) (bytes : List ℕ) (clock room : ℕ) (draws : List ℕ) (h n : ℕ) → h < 8 → isHeld (slotOf e h n) ≡ true
+    → retired e (hear e bytes clock room draws .left) h n ≡ false
     → (isHeld (slotOf (hear e bytes clock room draws .left) h n) ≡ true) × (recordOf (hear e bytes clock room draws .left) h n .cue ≡ recordOf e h n .cue)
 
 -- ---- which names a message can change
@@ -76,11 +77,12 @@ isAbout kind m h n = eqb (m .kind) kind && (eqb (messageName m .source .0) h && 
 unfoldable pub repairs : Meaning → ℕ → ℕ → Record → Bool
 repairs m h n r = isAbout REPL m h n && (not (isHeld (r .slot)) || sameCue (messageCue m) (r .cue))
 
--- j lies above the last of a source, and is at most n: one of the numbers that a rise to n asks for
+-- j lies above the last of a source, and is at most n: one of the numbers that a rise to n asks for. Or it lies in first..last, and below
+-- n − 63: one of those that a rise to n retires
 abbrev pub risen : Span → ℕ → ℕ → Bool
-risen span n j = isAbove span j && leb j n
+risen span n j = (isAbove span j && leb j n) || (within span j && ltb (j + 63) n)
 
--- a report of source h asks for j
+-- a report of source h asks for j, or retires it
 unfoldable pub reportedUp : List Report → ℕ → Span → ℕ → Bool
 reportedUp [] h span j = false
 reportedUp (r ∷ rs) h span j = (eqb (r .source .0) h && risen span (r .last .0) j) || reportedUp rs h span j
@@ -90,7 +92,8 @@ abbrev pub hasName : Meaning → Bool
 hasName m = eqb (m .kind) DATA || (eqb (m .kind) RQST || eqb (m .kind) REPL)
 
 -- Which names of a source h, whose first and last are `span`, a message may at most change. DATA, RQST and REPL: of the source that they
--- name, the named number and those from last + 1 up to it. SESS: of each source that is reported, those from last + 1 up to the reported.
+-- name, the named number, those from last + 1 up to it and those more than 63 below it. SESS: of each source that is reported, those from
+-- last + 1 up to the reported and those more than 63 below it.
 unfoldable pub touches : Meaning → ℕ → Span → ℕ → Bool
 touches m h span j =
     cond (hasName m)
@@ -110,9 +113,10 @@ OtherSourcesStay = (e : End) (bytes : List ℕ) (clock room : ℕ) (draws : List
 
 -- ---- what becomes of requests and replies
 
--- A slot changes only as `HeardAs` says.
+-- A slot changes only as `HeardAs` says, unless its number is retired: then nothing is left of it.
 abbrev pub SlotsAsHeard : Type 0
 SlotsAsHeard = (e : End) (bytes : List ℕ) (clock room : ℕ) (draws : List ℕ) (h n : ℕ) → h < 8
+    → retired e (hear e bytes clock room draws .left) h n ≡ false
     → HeardAs (momentAt e clock) draws (distanceTo e (asHost h)) n
     (isAbout DATA (meaningFrom bytes) h n || isAbout REPL (meaningFrom bytes) h n) (isAbout RQST (meaningFrom bytes) h n)
     (slotOf e h n) (slotOf (hear e bytes clock room draws .left) h n)
@@ -123,17 +127,19 @@ HeldIsCarried = (e : End) (bytes : List ℕ) (clock room : ℕ) (draws : List �
     → isHeld (slotOf (hear e bytes clock room draws .left) h n) ≡ true
     → recordOf (hear e bytes clock room draws .left) h n .cue ≡ messageCue (meaningFrom bytes)
 
--- A waiting reply changes only as `ReplyAs` says.
+-- A waiting reply changes only as `ReplyAs` says, unless its number is retired.
 abbrev pub RepliesAsHeard : Type 0
 RepliesAsHeard = (e : End) (bytes : List ℕ) (clock room : ℕ) (draws : List ℕ) (h n : ℕ) → h < 8
+    → retired e (hear e bytes clock room draws .left) h n ≡ false
     → ReplyAs (momentAt e clock) draws (distanceTo e (meaningFrom bytes .sender)) (meaningFrom bytes .sender) n
     (isAbout RQST (meaningFrom bytes) h n) (repairs (meaningFrom bytes) h n (recordOf e h n)) (slotOf e h n) (recordOf e h n .hush)
     (replyIn (slotOf e h n)) (replyIn (slotOf (hear e bytes clock room draws .left) h n))
 
 -- A reply-quiet time stays or, by a REPL of its name that carries the held cue if one is held, is D3×d after the clock, where d is the
--- distance to the host that the REPL names, the requester.
+-- distance to the host that the REPL names, the requester; unless its number is retired.
 abbrev pub ReplyQuietStays : Type 0
 ReplyQuietStays = (e : End) (bytes : List ℕ) (clock room : ℕ) (draws : List ℕ) (h n : ℕ) → h < 8
+    → retired e (hear e bytes clock room draws .left) h n ≡ false
     → (recordOf (hear e bytes clock room draws .left) h n .hush ≡ recordOf e h n .hush)
     ⊎ ((repairs (meaningFrom bytes) h n (recordOf e h n) ≡ true)
     × (recordOf (hear e bytes clock room draws .left) h n .hush ≡ quietAfterReply (momentAt e clock) (distanceTo e (messageHost (meaningFrom bytes)))))
@@ -145,13 +151,14 @@ abbrev pub SpanAs : Bool → Span → Span → Type 0
 SpanAs opens Closed Closed = Unit {0}
 SpanAs opens Closed (Open first last) = opens ≡ true
 SpanAs opens (Open first last) Closed = ⊥
-SpanAs opens (Open first last) (Open first′ last′) = (first′ ≡ first) × (last .0 ≤ last′ .0)
+SpanAs opens (Open first last) (Open first′ last′) = StayOrRise first last first′ last′
 
 -- a DATA of source h
 unfoldable pub isDataOf : Meaning → ℕ → Bool
 isDataOf m h = eqb (m .kind) DATA && eqb (messageName m .source .0) h
 
--- Whatever arrives, a DATA of a source alone gives it a first. First then stays, and last never falls.
+-- Whatever arrives, a DATA of a source alone gives it a first. First and last then stay, or last rises and first is the greater of itself and
+-- last − 63.
 abbrev pub SpansAsHeard : Type 0
 SpansAsHeard = (e : End) (bytes : List ℕ) (clock room : ℕ) (draws : List ℕ) (h : ℕ) → h < 8
     → SpanAs (isDataOf (meaningFrom bytes) h) (sourceAt e (asHost h) .span) (sourceAt (hear e bytes clock room draws .left) (asHost h) .span)

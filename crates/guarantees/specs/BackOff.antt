@@ -13,8 +13,8 @@ use Rattle.end.specs.declared.Params.{Params}
 use Rattle.end.specs.declared.Request.{Request}
 use Rattle.end.specs.declared.Slot.the-variants.{Waiting}
 use Rattle.end.specs.declared.End.{End}
-use Rattle.end.specs.State.{distanceTo, withClock}
-use Rattle.end.specs.Records.{isHeld}
+use Rattle.end.specs.State.{blankRecord, sourceAt, distanceTo, withClock}
+use Rattle.end.specs.Records.{isBelow, isHeld}
 use Rattle.end.specs.Sound.{timeLimit, soundOf}
 use Rattle.end.specs.Round.{Drawn, factor, requestAt}
 use Rattle.end.specs.Answer.{Out, Ignored, Did}
@@ -23,24 +23,53 @@ use Rattle.end.specs.Event.{Action, Arrival, questionOf, eventOf}
 use Rattle.end.specs.Opening.{openingOf}
 use Rattle.end.specs.Run.{CueArray}
 use Rattle.guarantees.specs.Calls.{momentAt, OneCall, after, afterAll}
-use Rattle.guarantees.specs.Records.{recordOf, slotOf, clearing, MayBecome}
+use Rattle.guarantees.specs.Records.{recordOf, slotOf, clearing, SpanMayBecome, retired, MayBecome}
 use Rattle.guarantees.specs.Arrivals.{hear}
 use Rattle.guarantees.specs.Fires.{fire, FireTaken}
 
--- Every call of every event changes a slot only as `MayBecome` says.
+-- Every call of every event changes first and last of a source only as `SpanMayBecome` says.
+abbrev pub SpansMayBecome : Type 0
+SpansMayBecome = (e : End) (a : Action) (clock room : ℕ) (draws : List ℕ) (h : ℕ) → h < 8
+    → SpanMayBecome (clearing a) (sourceAt e (asHost h) .span) (sourceAt (eventOf e a clock room draws .left) (asHost h) .span)
+
+-- Of a number that it retires nothing is left: no cue, no request, no reply, no reply-quiet time.
+abbrev pub RetiredAreGone : Type 0
+RetiredAreGone = (e : End) (a : Action) (clock room : ℕ) (draws : List ℕ) (h n : ℕ)
+    → retired e (eventOf e a clock room draws .left) h n ≡ true → recordOf (eventOf e a clock room draws .left) h n ≡ blankRecord
+
+-- Every other slot it changes only as `MayBecome` says.
 abbrev pub SlotsMayBecome : Type 0
 SlotsMayBecome = (e : End) (a : Action) (clock room : ℕ) (draws : List ℕ) (h n : ℕ) → h < 8
+    → retired e (eventOf e a clock room draws .left) h n ≡ false
     → MayBecome (clearing a) (momentAt e clock) draws (distanceTo e (asHost h)) n (slotOf e h n) (slotOf (eventOf e a clock room draws .left) h n)
 
--- So a name that waits goes on waiting or gets its cue, with every call but Leave and Crash.
+-- So a name that waits goes on waiting or gets its cue, with every call but Leave and Crash, until it is retired.
 abbrev pub WaitsUntilHeld : Type 0
 WaitsUntilHeld = (e : End) (a : Action) (clock room : ℕ) (draws : List ℕ) (h n : ℕ) (q : Request) → h < 8 → clearing a ≡ false → slotOf e h n ≡ Waiting q
+    → retired e (eventOf e a clock room draws .left) h n ≡ false
     → ((p : Request) × (slotOf (eventOf e a clock room draws .left) h n ≡ Waiting p)) ⊎ (isHeld (slotOf (eventOf e a clock room draws .left) h n) ≡ true)
 
--- And a held cue stays held, and stays the same, with every call but Leave and Crash.
+-- And a held cue stays held, and stays the same, with every call but Leave and Crash, until it is retired: and it is retired only by a rise.
 abbrev pub HeldUntilCleared : Type 0
 HeldUntilCleared = (e : End) (a : Action) (clock room : ℕ) (draws : List ℕ) (h n : ℕ) → h < 8 → clearing a ≡ false → isHeld (slotOf e h n) ≡ true
+    → retired e (eventOf e a clock room draws .left) h n ≡ false
     → (isHeld (slotOf (eventOf e a clock room draws .left) h n) ≡ true) × (recordOf (eventOf e a clock room draws .left) h n .cue ≡ recordOf e h n .cue)
+
+-- none of the calls is Leave or Crash
+abbrev pub NoneClears : List OneCall → Type 0
+NoneClears [] = Unit {0}
+NoneClears (c ∷ cs) = (clearing (c .action) ≡ false) × NoneClears cs
+
+-- Both through any such calls, as long as first has not passed the number.
+abbrev pub WaitsOrHeldThrough : Type 0
+WaitsOrHeldThrough = (cs : List OneCall) (e : End) (h n : ℕ) (q : Request) → h < 8 → NoneClears cs → slotOf e h n ≡ Waiting q
+    → isBelow (sourceAt (afterAll e cs) (asHost h) .span) n ≡ false
+    → ((p : Request) × (slotOf (afterAll e cs) h n ≡ Waiting p)) ⊎ (isHeld (slotOf (afterAll e cs) h n) ≡ true)
+
+abbrev pub HeldThrough : Type 0
+HeldThrough = (cs : List OneCall) (e : End) (h n : ℕ) → h < 8 → NoneClears cs → isHeld (slotOf e h n) ≡ true
+    → isBelow (sourceAt (afterAll e cs) (asHost h) .span) n ≡ false
+    → (isHeld (slotOf (afterAll e cs) h n) ≡ true) × (recordOf (afterAll e cs) h n .cue ≡ recordOf e h n .cue)
 
 -- On a sound end, while a name waits, its round never falls, and rises by at most one with a call, up to 16.
 abbrev pub RoundsRise : Type 0
@@ -88,10 +117,11 @@ abbrev pub AllBy : ℕ → List Hearing → Type 0
 AllBy t [] = Unit {0}
 AllBy t (x ∷ xs) = (x .clock ≤ t) × AllBy t xs
 
--- However many requests and other bytes arrive up to its quiet-until, a request that waits stays the very same, or gives way to its cue:
--- once it has backed off, it does not back off again in its quiet time.
+-- However many requests and other bytes arrive up to its quiet-until, a request that waits stays the very same, or gives way to its cue, as
+-- long as first has not passed its number: once it has backed off, it does not back off again in its quiet time.
 abbrev pub OncePerQuiet : Type 0
 OncePerQuiet = (e : End) (h n : ℕ) (q : Request) → h < 8 → slotOf e h n ≡ Waiting q → (xs : List Hearing) → AllBy (q .quiet) xs
+    → isBelow (sourceAt (heardAll e xs) (asHost h) .span) n ≡ false
     → (slotOf (heardAll e xs) h n ≡ Waiting q) ⊎ (isHeld (slotOf (heardAll e xs) h n) ≡ true)
 
 -- A request that waits always has a due time, below 2^48+2^32; and from then on Fire of the member puts something out. A due time from

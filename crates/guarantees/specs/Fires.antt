@@ -94,8 +94,8 @@ AllOut clock room e (draws ∷ more) =
     ((bytes : List ℕ) × (fire e clock room draws .outcome ≡ Did (Out bytes))) × AllOut clock room (fire e clock room draws .left) more
 
 -- Repeated Fire at one clock ends: at most as many calls put something out as waits were due before the first, and these are at most
--- one for each of the 512 names. (A sound state may have C1 = 0; only an opening asks for C3 < C1. Then a request could be due again at
--- once.)
+-- one for each of the latest 64 numbers of 8 sources. (A sound state may have C1 = 0; only an opening asks for C3 < C1. Then a request
+-- could be due again at once.)
 abbrev pub FiringEnds : Type 0
 FiringEnds = (e : End) (clock room : ℕ) (calls : List (List ℕ)) → 1 ≤ e .params .c1 → AllOut clock room e calls
     → (length calls ≤ dueWaits (withClock e clock)) × (dueWaits (withClock e clock) ≤ 512)

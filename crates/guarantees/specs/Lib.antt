@@ -6,3 +6,6 @@ pub mod Arrivals
 pub mod BackOff
 pub mod Clashes
 pub mod Reasons
+pub mod History
+pub mod Rises
+pub mod HistoryRows

@@ -1,21 +1,26 @@
 -- What an end has of a name before and after a call, and what a call may make of it.
 use mathlib.Core.Path.{_≡_}
-use mathlib.Core.Bool.{Bool, true, false, cond}
+use mathlib.Core.Bool.{Bool, true, false, cond, _&&_}
 use mathlib.Core.List.{List}
 use mathlib.Core.Logic.{_⊎_}
 use Prim.Native.Nat.{ℕ, _≤_, _<_}
+use lib.Dec.{ltb, leb}
 use Rattle.message.specs.declared.Host.{Host}
+use Rattle.message.specs.declared.CueNumber.{CueNumber}
 use Rattle.message.specs.Entry.{asHost}
 use Rattle.end.specs.declared.Slot.{Slot}
 use Rattle.end.specs.declared.Slot.the-variants.{Empty, Held, Waiting}
 use Rattle.end.specs.declared.Reply.{Reply}
 use Rattle.end.specs.declared.Reply.the-variants.{No, Due}
 use Rattle.end.specs.declared.Record.{Record}
+use Rattle.end.specs.declared.Span.{Span}
+use Rattle.end.specs.declared.Span.the-variants.{Closed, Open}
 use Rattle.end.specs.declared.End.{End}
 use Rattle.end.specs.declared.Moment.{Moment}
 use Rattle.end.specs.State.{sourceAt}
 use Rattle.end.specs.Records.{recordAt, isHeld}
 use Rattle.end.specs.Round.{requestAt, nextRound, replyDue}
+use Rattle.end.specs.Names.{firstAfter}
 use Rattle.end.specs.Event.{Action, Moves, Send, Arrival, Else, clears}
 
 -- the record under source h and number n, any number: outside first..last it is blank
@@ -32,10 +37,37 @@ clearing (Send cue) = false
 clearing (Arrival bytes) = false
 clearing (Else o) = false
 
--- From the slot before to the slot after, by any call, with its moment, its draws and the distance d to the source before it; `emptied` is
--- whether the event is Leave or Crash. These alone empty a slot; Send, DATA and REPL may hold a cue in it, and then no reply waits. A
--- request is new in round 1 or 2, and one that waits stays as it is or, once its quiet-until is past or it is due, gets its next round,
--- timed by this call. A held cue never gives way to a request.
+-- ---- first, last, and what is retired. Document 02, P7: "when last rises to L, numbers below L−63 are retired with their waits, first becomes
+-- the greater of itself and L−63"
+
+-- first and last stay, or last rises and first with it
+abbrev pub StayOrRise : CueNumber → CueNumber → CueNumber → CueNumber → Type 0
+StayOrRise first last first′ last′ =
+    ((first′ ≡ first) × (last′ ≡ last)) ⊎ ((last .0 < last′ .0) × (first′ .0 ≡ firstAfter (first .0) (last′ .0)))
+
+-- From first and last of a source before to those after, by any call. Leave and Crash alone close it; first moves with last, by a rise, and
+-- in no other way, and last never falls.
+abbrev pub SpanMayBecome : Bool → Span → Span → Type 0
+SpanMayBecome emptied Closed y = Unit {0}
+SpanMayBecome emptied (Open first last) Closed = emptied ≡ true
+SpanMayBecome emptied (Open first last) (Open first′ last′) = StayOrRise first last first′ last′
+
+-- from first and last before to those after: n lay in first..last, last rose, and first passed n
+abbrev pub retires : Span → Span → ℕ → Bool
+retires Closed y n = false
+retires (Open first last) Closed n = false
+retires (Open first last) (Open first′ last′) n = (leb (first .0) n && leb n (last .0)) && (ltb (last .0) (last′ .0) && ltb n (first′ .0))
+
+-- number n of source h is retired, from an end to the one that a call leaves
+abbrev pub retired : End → End → ℕ → ℕ → Bool
+retired e left h n = retires (sourceAt e (asHost h) .span) (sourceAt left (asHost h) .span) n
+
+-- ---- what becomes of a slot
+
+-- From the slot before to the slot after, by any call, with its moment, its draws and the distance d to the source before it, of a number that
+-- is not retired; `emptied` is whether the event is Leave or Crash. These alone empty such a slot; Send, DATA and REPL may hold a cue in it,
+-- and then no reply waits. A request is new in round 1 or 2, and one that waits stays as it is or, once its quiet-until is past or it is due,
+-- gets its next round, timed by this call. A held cue never gives way to a request.
 abbrev pub MayBecome : Bool → Moment → List ℕ → ℕ → ℕ → Slot → Slot → Type 0
 MayBecome emptied t us d n Empty Empty = Unit {0}
 MayBecome emptied t us d n Empty (Held reply) = reply ≡ No

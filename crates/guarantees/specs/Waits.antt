@@ -13,7 +13,7 @@ use Rattle.end.specs.declared.Reply.the-variants.{No, Due}
 use Rattle.end.specs.declared.Wait.{Wait}
 use Rattle.end.specs.declared.End.{End}
 use Rattle.end.specs.State.{sourceAt}
-use Rattle.end.specs.Records.{recordAt}
+use Rattle.end.specs.Records.{start, recordAt}
 
 -- what a record has waiting under its name: its request, or the reply beside its held cue
 unfoldable pub waitIn : Name → Slot → Option Wait
@@ -65,6 +65,11 @@ unfoldable pub dueCount : ℕ → Option Wait → ℕ
 dueCount clock none = 0
 dueCount clock (some w) = cond (leb (w .due) clock) 1 0
 
--- the waits of an end that are due, over its 8 times 64 names; a sound end has no others
+-- the first number of a source, 0 where there is none
+abbrev pub firstNumber : End → ℕ → ℕ
+firstNumber e h = start (sourceAt e (asHost h) .span)
+
+-- the waits of an end that are due, over the 64 numbers from first on of each of its 8 sources; a sound end has no others
 unfoldable pub dueWaits : End → ℕ
-dueWaits e = sumBelow (λ h. sumBelow (λ n. dueCount (e .clock) (waitAt e (record { source = asHost h; number = asNumber n }))) 64) 8
+dueWaits e =
+    sumBelow (λ h. sumBelow (λ i. dueCount (e .clock) (waitAt e (record { source = asHost h; number = asNumber (firstNumber e h + i) }))) 64) 8

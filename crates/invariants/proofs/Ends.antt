@@ -21,19 +21,20 @@ use Rattle.end.specs.declared.Heard.the-variants.{Never, At}
 use Rattle.end.specs.declared.Source.{Source}
 use Rattle.end.specs.declared.End.{End}
 use Rattle.end.specs.State.{noRecord, noSource, blankRecord, firstDistance, unheard, unheardSources, sourceAt, isMember, withSource, withStatus, withClock}
-use Rattle.end.specs.Records.{recordAt}
+use Rattle.end.specs.Records.{place, recordAt}
 use Rattle.end.specs.Sound.{allOf, insideSound, outsideSound, distanceSound, heardTests, nonMemberTests, paramsTests}
 use Rattle.end.proofs.SoundLaws.{nth}
+use Rattle.end.proofs.RecordLaws.{place-in}
 use Rattle.end.proofs.Facts.{within-small}
 use Rattle.end.proofs.Tools.{byTest, clash′, set-elim}
 use Rattle.invariants.specs.Outputs.{keptUnder}
-use Rattle.invariants.proofs.Facts.{SoundSource, SoundState, last-in}
+use Rattle.invariants.proofs.Facts.{SoundSource, SoundState, span-in}
 use Rattle.invariants.proofs.Sources.{stands}
 
 -- where a name stands under which there is something, and what soundness says of it
 pub record Stands (e : End) (name : Name) : Type 0 where
   pub source : name .source .0 < 8
-  pub number : name .number .0 < 64
+  pub number : name .number .0 < 65536
   pub sound : insideSound (e .host) (name .source) (keptUnder e name) (keptUnder e name .slot) ≡ true
 
 pub there : (e : End) → SoundState e → (name : Name) → (keptUnder e name .slot ≡ Empty → ⊥) → Stands e name
@@ -45,7 +46,8 @@ there e f name h =
     (λ l.
     let q = f .each (name .source .0) l in
     let w = stands s q n h in
-    record { source = l; number = within-small (s .span) n (last-in (sameHost (name .source) (e .host)) (e .next) (s .span) (q .span)) w; sound = q .inside n w })
+    let spans = span-in (e .host) (e .next) (e .clock) (isMember (e .status)) (name .source) s q in
+    record { source = l; number = within-small (s .span) n spans w; sound = q .inside n w })
     (λ l.
     let past : length (e .sources) ≤ name .source .0 = omega (arith, f .sources) in
     absurd (h (ap (λ (x : Source). recordAt x n .slot) (List·getD-eq-default (e .sources) noSource past))))
@@ -92,11 +94,12 @@ unheard-sound me next clock member h d near first = record {
   heard = refl;
   aside = λ _. first;
   inside = λ n w. clash′ w;
-  outside = λ n l w. ap (λ (r : Record). outsideSound r (r .slot)) (getD-replicate 64 n blankRecord noRecord l);
+  outside = λ n a b w. ap (λ (r : Record). outsideSound r (r .slot)) (getD-replicate 64 (place n) blankRecord noRecord (place-in n));
 }
 
 -- a state of which nothing is kept, whatever its status
-pub unheard-kept : (e : End) → e .host .0 < 8 → allOf (paramsTests (e .params)) ≡ true → e .clock < 281474976710656 → e .next ≤ 64 → e .sources ≡ unheardSources (e .host .0) → SoundState e
+pub unheard-kept : (e : End) → e .host .0 < 8 → allOf (paramsTests (e .params)) ≡ true → e .clock < 281474976710656 → e .next ≤ 65536
+    → e .sources ≡ unheardSources (e .host .0) → SoundState e
 unheard-kept e host params clock next p =
     let me = e .host .0 in
     let others : List Source = replicate 8 (unheard firstDistance) in

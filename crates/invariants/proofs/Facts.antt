@@ -1,26 +1,24 @@
 -- A sound state as a record of facts: from the test to the facts, and back.
-use mathlib.Core.Path.{_≡_, refl}
-use Prim.Native.Nat.{ℕ, zero, suc, _≤_, _<_}
+use mathlib.Core.Path.{_≡_, refl, subst}
+use Prim.Native.Nat.{ℕ, zero, suc, _+_, _-_, _≤_, _<_}
 use native.Mathlib.Omega.{arith}
 use mathlib.Core.Bool.{Bool, true, false, _&&_, _||_}
 use mathlib.Core.List.{[], _∷_}
 use lib.ListN.{length, getD}
-use borrow.Author.Tests.{eqb-true, leb-true, ltb-true, eq-eqb, lt-ltb, le-leb}
+use borrow.Author.Tests.{eqb-true, eq-eqb, lt-ltb, le-leb}
 use Rattle.message.specs.declared.Host.{Host}
 use Rattle.message.specs.Entry.{asHost}
 use Rattle.message.specs.Question.{sameHost}
-use Rattle.end.specs.declared.Span.{Span}
-use Rattle.end.specs.declared.Span.the-variants.{Closed, Open}
 use Rattle.end.specs.declared.Source.{Source}
 use Rattle.end.specs.declared.End.{End}
 use Rattle.end.specs.State.{noSource, isMember, distanceTo, momentOf}
-use Rattle.end.specs.Records.{within, rawAt, recordAt}
+use Rattle.end.specs.Records.{within, start, rawAt, recordAt}
 use Rattle.end.specs.Sound.{allOf, allBelow, insideSound, outsideSound, recordSound, spanTests, distanceSound, heardTests, nonMemberTests, sourceTests, sourceSound, paramsTests, soundTests, soundOf}
 use Rattle.end.specs.Ready.{SpanIn, Ranges}
 use Rattle.end.proofs.Tools.{byTest, or-alone}
 use Rattle.end.proofs.RecordLaws.{at-inside}
 use Rattle.end.proofs.SoundLaws.{nth, all-at, sound-end}
-use Rattle.end.proofs.Facts.{within-small}
+use Rattle.end.proofs.Facts.{last-in, among-64}
 use Rattle.end.proofs.Ready.{ready, ranges}
 
 -- a test that holds of each number below n
@@ -33,46 +31,51 @@ or-else : (a b : Bool) → (a ≡ false → b ≡ true) → (a || b) ≡ true
 or-else true b h = refl
 or-else false b h = h refl
 
-pub last-in : (own : Bool) (next : ℕ) (x : Span) → allOf (spanTests own next x) ≡ true → SpanIn x
-last-in own next Closed h = tt
-last-in own next (Open first last) h =
-    let tests = spanTests own next (Open first last) in
-    (leb-true (first .0) (last .0) (nth tests 0 h), ltb-true (last .0) 64 (nth tests 1 h))
-
 -- ---- one source, of host h, of an end with this host, next number and clock. The records inside first..last are known by their
--- numbers; outside, a place holds nothing
+-- numbers; outside, the place of a number of the 64 from first on holds nothing
 pub record SoundSource (me : Host) (next clock : ℕ) (member : Bool) (h : Host) (s : Source) : Type 0 where
   pub names : length (s .names) ≡ 64
-  pub span : allOf (spanTests (sameHost h me) next (s .span)) ≡ true
+  pub span : allOf (spanTests (sameHost h me) next (s .missed) (s .span)) ≡ true
   pub distance : distanceSound (sameHost h me) (s .distance) ≡ true
   pub heard : allOf (heardTests (sameHost h me) clock (s .heard)) ≡ true
   pub aside : member ≡ false → allOf (nonMemberTests (sameHost h me) s) ≡ true
   pub inside : (n : ℕ) → within (s .span) n ≡ true → insideSound me h (recordAt s n) (recordAt s n .slot) ≡ true
-  pub outside : (n : ℕ) → n < 64 → within (s .span) n ≡ false → outsideSound (rawAt (s .names) n) (rawAt (s .names) n .slot) ≡ true
+  pub outside : (n : ℕ) → start (s .span) ≤ n → n < start (s .span) + 64 → within (s .span) n ≡ false
+      → outsideSound (rawAt (s .names) n) (rawAt (s .names) n .slot) ≡ true
 
 module _ (me : Host) (next clock : ℕ) (member : Bool) (h : Host) (s : Source) where
   pub source-facts : sourceSound me next clock member h s ≡ true → SoundSource me next clock member h s
   source-facts t =
       let tests = sourceTests me next clock member h s in
-      let records : (n : ℕ) → n < 64 → recordSound me h (s .span) n (rawAt (s .names) n) ≡ true =
-      λ n l. all-at (λ n. recordSound me h (s .span) n (rawAt (s .names) n)) 64 n (nth tests 5 t) l in
-      let small = within-small (s .span) in
+      let low = start (s .span) in
+      let records : (n : ℕ) → low ≤ n → n < low + 64 → recordSound me h (s .span) n (rawAt (s .names) n) ≡ true =
+      λ n a b.
+      let i : low + (n - low) ≡ n = omega arith in
+      subst (λ (m : ℕ). recordSound me h (s .span) m (rawAt (s .names) m) ≡ true) i
+      (all-at (λ i. recordSound me h (s .span) (low + i) (rawAt (s .names) (low + i))) 64 (n - low) (nth tests 5 t) (omega arith)) in
+      let ends = last-in (sameHost h me) next (s .missed) (s .span) (nth tests 1 t) in
       record {
         names = eqb-true (length (s .names)) 64 (nth tests 0 t);
         span = nth tests 1 t;
         distance = nth tests 2 t;
         heard = nth tests 3 t;
         aside = or-alone member (allOf (nonMemberTests (sameHost h me) s)) (nth tests 4 t);
-        inside = λ n w. rw (at-inside s n w) (rw w at (records n (small n (last-in (sameHost h me) next (s .span) (nth tests 1 t)) w)));
-        outside = λ n l w. rw w at (records n l);
+        inside = λ n w. let i = among-64 (s .span) n ends w in rw (at-inside s n w) (rw w at (records n (i .0) (i .1)));
+        outside = λ n a b w. rw w at (records n a b);
       }
+
+  -- first..last of a sound source
+  pub span-in : SoundSource me next clock member h s → SpanIn (s .span)
+  span-in q = last-in (sameHost h me) next (s .missed) (s .span) (q .span)
 
   pub source-sound : SoundSource me next clock member h s → sourceSound me next clock member h s ≡ true
   source-sound q =
       let names = eq-eqb (length (s .names)) 64 (q .names) in
       let aside = or-else member (allOf (nonMemberTests (sameHost h me) s)) (q .aside) in
-      let records = all-intro (λ n. recordSound me h (s .span) n (rawAt (s .names) n)) 64
-      (λ n l. byTest (within (s .span) n) (λ w. rw w (rw (at-inside s n w) at (q .inside n w))) (λ w. rw w (q .outside n l w))) in
+      let low = start (s .span) in
+      let records = all-intro (λ i. recordSound me h (s .span) (low + i) (rawAt (s .names) (low + i))) 64
+      (λ i l. let n = low + i in
+      byTest (within (s .span) n) (λ w. rw w (rw (at-inside s n w) at (q .inside n w))) (λ w. rw w (q .outside n (omega arith) (omega arith) w))) in
       λ i. allOf (names i ∷ q .span i ∷ q .distance i ∷ q .heard i ∷ aside i ∷ records i ∷ [])
 
 -- ---- the end
@@ -81,7 +84,7 @@ pub record SoundState (e : End) : Type 0 where
   pub host : e .host .0 < 8
   pub params : allOf (paramsTests (e .params)) ≡ true
   pub clock : e .clock < 281474976710656
-  pub next : e .next ≤ 64
+  pub next : e .next ≤ 65536
   pub each : (h : ℕ) → h < 8 → SoundSource (e .host) (e .next) (e .clock) (isMember (e .status)) (asHost h) (getD (e .sources) h noSource)
 
 pub facts : (e : End) → soundOf e ≡ true → SoundState e
@@ -105,7 +108,7 @@ sound e f =
     let long = eq-eqb (length (e .sources)) 8 (f .sources) in
     let host = lt-ltb (e .host .0) 8 (f .host) in
     let clock = lt-ltb (e .clock) 281474976710656 (f .clock) in
-    let next = le-leb (e .next) 64 (f .next) in
+    let next = le-leb (e .next) 65536 (f .next) in
     λ i. allOf (long i ∷ host i ∷ f .params i ∷ clock i ∷ next i ∷ sources i ∷ [])
 
 -- so the ranges of every wait follow

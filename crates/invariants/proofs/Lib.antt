@@ -2,6 +2,7 @@ pub mod Questions
 pub mod Facts
 pub mod Records
 pub mod Sources
+pub mod Rises
 pub mod Ends
 pub mod Readings
 pub mod Members

@@ -32,20 +32,22 @@ use Rattle.end.specs.declared.Earliest.the-variants.{NoWait, First}
 use Rattle.end.specs.State.{sourceAt, isMember, momentOf, onSource, distanceTo}
 use Rattle.end.specs.Records.{within, recordAt, isHeld, isAbove}
 use Rattle.end.specs.Round.{Drawn}
-use Rattle.end.specs.Names.{holding, hold}
+use Rattle.end.specs.Names.{asked, holding, hold}
 use Rattle.end.specs.Decide.{number, known, decide, risen, apply, stepAt}
 use Rattle.end.specs.Sound.{insideSound, allOf, distanceSound}
 use Rattle.end.specs.Ready.{Ranges}
 use Rattle.end.specs.Session.{reportedSource, allReported, measured, heardFrom, sessionOf}
 use Rattle.end.specs.Fire.{fireAt, fired}
-use Rattle.end.proofs.RecordLaws.{read-same, rise-distance}
+use Rattle.end.proofs.RecordLaws.{read-same}
+use Rattle.end.proofs.RiseLaws.{rise-distance}
 use Rattle.end.proofs.Grounds.{Missing, Wanted, isRequest, Grounds, grounds, wanted-other}
 use Rattle.end.proofs.Bounds.{half-trip-in}
 use Rattle.end.proofs.Tools.{byCond, clash}
 use Rattle.invariants.specs.Outputs.{keptUnder}
 use Rattle.invariants.proofs.Facts.{SoundSource, SoundState, ranges-of}
 use Rattle.invariants.proofs.Records.{held-in, reply-from}
-use Rattle.invariants.proofs.Sources.{open-kept, rise-kept, risen-within, hold-kept, round-kept, next-round-kept, reply-kept, quiet-kept}
+use Rattle.invariants.proofs.Rises.{open-kept, rise-kept, risen-within}
+use Rattle.invariants.proofs.Sources.{hold-kept, round-kept, next-round-kept, reply-kept, quiet-kept}
 use Rattle.invariants.proofs.Ends.{there, source-kept}
 
 -- ---- DATA, RQST, REPL
@@ -53,7 +55,7 @@ use Rattle.invariants.proofs.Ends.{there, source-kept}
 -- what the reader's questions give of a word
 pub record WordIn (t : Moment) (w : Word) : Type 0 where
   pub source : w .name .source .0 < 8
-  pub number : number w < 64
+  pub number : number w < 65536
   pub distance : Ranges t (w .distance)
   pub long : length (w .cue) ≡ 24
   pub cue : cueIn (w .cue) ≡ true
@@ -76,7 +78,7 @@ module _ (t : Moment) (us : List ℕ) (drawn : Drawn us) (w : Word) (v : WordIn 
     up = rise-kept joined other t us drawn s (number w) (v .number) far q
 
     inside : within (risen t us w s .span) (number w) ≡ true
-    inside = risen-within t us (number w) s (k .first) (k .last) (k .span) (k .least)
+    inside = risen-within joined other t us drawn s (number w) (v .number) far q (k .first) (k .last) (k .span) (k .least)
 
     takes : Sounds (apply t us w Takes s)
     unfolding Sounds apply
@@ -88,17 +90,20 @@ module _ (t : Moment) (us : List ℕ) (drawn : Drawn us) (w : Word) (v : WordIn 
         let x = risen t us w s in
         let n = number w in
         let held : isHeld (recordAt (hold n (w .cue) x) n .slot) ≡ true =
-        ap (λ (r : Record). isHeld (r .slot)) (read-same x n (holding (recordAt x n) (w .cue)) inside (omega (arith, v .number, up .names))) in
+        ap (λ (r : Record). isHeld (r .slot)) (read-same x n (holding (recordAt x n) (w .cue)) inside (up .names)) in
         quiet-kept (hold n (w .cue) x) takes joined n t us drawn (w .distance) (v .distance) held
 
     learns : Sounds (apply t us w Learns s)
     unfolding Sounds apply
-    learns = round-kept (risen t us w s) up joined (number w) t us drawn 2 (rw (rise-distance t us (number w) s (s .span)) far) (omega arith) (omega arith) other inside
+    learns =
+        let near = rise-distance (asked t us (s .distance)) (number w) s (s .span) in
+        round-kept (risen t us w s) up joined (number w) t us drawn 2 (rw near far) (omega arith) (omega arith) other inside
 
   kept : (d : Decision) → Grounds t w (known w s) (s .span) d → SoundSource (t .me) next (t .clock) member (w .name .source) (apply t us w d s)
   unfolding Grounds apply Sounds
   kept (Ignores why) g = q
-  kept Opens g = open-kept joined s (number w) (w .cue) q (v .number) (v .long) (v .cue) (λ i. not (v .original (g .0) i) || eqb (number w + 1) next) (g .1)
+  kept Opens g =
+      open-kept s q (g .1) (number w) (w .cue) (v .long) (v .cue) next joined (v .number) (λ i. not (v .original (g .0) i) || eqb (number w + 1) next)
   kept Takes g = takes (v .original (g .0)) (g .1)
   kept Repairs g = repairs (wanted (g .1)) (g .1 .missing)
   kept Hushes g = quiet-kept s q joined (number w) t us drawn (w .distance) (v .distance) (g .1)
@@ -130,18 +135,18 @@ measured-in me clock (x ∷ xs) d a b =
 
 module _ (us : List ℕ) (drawn : Drawn us) (m : Meaning) (hs : m .sender .0 < 8) (stamp : ticksIn (m .stamp) ≡ true) where
   -- one report
-  reported-kept : (r : Report) (e : End) → SoundState e → isMember (e .status) ≡ true → reportIn r ≡ true
+  reported-kept : (r : Report) (e : End) → SoundState e → isMember (e .status) ≡ true → reportIn 65535 r ≡ true
       → SoundState (onSource e (r .source) (reportedSource (momentOf e) us r))
   reported-kept r e f joined h =
       let s = sourceAt e (r .source) in
       let own = sameHost (r .source) (e .host) in
-      let both = and-both (hostIn (r .source)) (numberIn (r .last)) h in
+      let both = and-both (hostIn (r .source)) (numberIn 65535 (r .last)) h in
       let hr = ltb-true (r .source .0) 8 (both .0) in
       let q = f .each (r .source .0) hr in
       source-kept e (r .source) (reportedSource (momentOf e) us r s) f
       (byCond (SoundSource (e .host) (e .next) (e .clock) (isMember (e .status)) (r .source)) (not own && isAbove (s .span) (r .last .0))
       (λ t. rise-kept joined (not-true own (and-both (not own) (isAbove (s .span) (r .last .0)) t .0)) (momentOf e) us drawn s (r .last .0)
-      (ltb-true (r .last .0) 64 (both .1)) (ranges-of e f (r .source) hr) q)
+      (omega (arith, leb-true (r .last .0) 65535 (both .1))) (ranges-of e f (r .source) hr) q)
       (λ _. q))
 
   -- the sender's source
@@ -165,15 +170,15 @@ module _ (us : List ℕ) (drawn : Drawn us) (m : Meaning) (hs : m .sender .0 < 8
       })
 
   -- the reports one by one, and then the sender's source
-  all-kept : (rs : List Report) (e : End) → SoundState e → isMember (e .status) ≡ true → sameHost (m .sender) (e .host) ≡ false → all reportIn rs ≡ true
+  all-kept : (rs : List Report) (e : End) → SoundState e → isMember (e .status) ≡ true → sameHost (m .sender) (e .host) ≡ false → all (reportIn 65535) rs ≡ true
       → SoundState (onSource (allReported (momentOf e) us rs e) (m .sender) (heardFrom (momentOf e) m))
   unfolding allReported all
   all-kept [] e f joined other h = heard-kept e f joined other
   all-kept (r ∷ rs) e f joined other h =
-      let both = and-both (reportIn r) (all reportIn rs) h in
+      let both = and-both (reportIn 65535 r) (all (reportIn 65535) rs) h in
       all-kept rs (onSource e (r .source) (reportedSource (momentOf e) us r)) (reported-kept r e f joined (both .0)) joined other (both .1)
 
-  pub session-kept : (e : End) → SoundState e → isMember (e .status) ≡ true → sameHost (m .sender) (e .host) ≡ false → all reportIn (m .reports) ≡ true
+  pub session-kept : (e : End) → SoundState e → isMember (e .status) ≡ true → sameHost (m .sender) (e .host) ≡ false → all (reportIn 65535) (m .reports) ≡ true
       → SoundState (sessionOf (momentOf e) us m e .left)
   unfolding sessionOf
   session-kept = all-kept (m .reports)

@@ -14,6 +14,7 @@ use Rattle.message.specs.Message.{DATA, RQST, REPL, SESS, Meaning, meaningFrom,
 use Rattle.message.specs.Question.{firstNo, meaningQuestions, kindHasCounts, sameHost, readOf}
 use Rattle.message.specs.declared.Reading.{Reading}
 use Rattle.message.specs.declared.Verdict.the-variants.{Accepted}
+use Rattle.message.proofs.QuestionLaws.{counts-new}
 use Rattle.message.proofs.SectionLaws.{All, none, some}
 use Rattle.message.proofs.EntryLaws.{CueFits}
 use Rattle.roundtrip.proofs.RoundTrip.{accepts, fits-of, meaning-accepted, read-back, read-message}
@@ -52,11 +53,11 @@ pub record Written (y : Meaning) : Type 0 where
   pub accepted : readOf (bytesOf y) .verdict ≡ Accepted
   pub back : meaningFrom (bytesOf y) ≡ y
 
-written : (y : Meaning) → kindHasCounts (y .kind) (countsOf y) ≡ true → firstNo (meaningQuestions y) ≡ 0 → All CueFits (y .cues) → Written y
+written : (y : Meaning) → kindHasCounts (y .kind) (countsOf y) ≡ true → firstNo (meaningQuestions (y .kind) y) ≡ 0 → All CueFits (y .cues) → Written y
 written y counts passes cues =
-    let fits = fits-of y passes cues in
+    let fits = fits-of (y .kind) y passes cues in
     let passed = accepts (bytesOf y) (meaning-accepted y fits counts passes) in
-    record { accepted = ap (λ (r : Reading). r .verdict) (read-message (bytesOf y) passed); back = read-back y fits }
+    record { accepted = ap (λ (r : Reading). r .verdict) (read-message (bytesOf y) passed); back = read-back y (counts-new (y .kind) (countsOf y) counts) fits }
 
 -- ---- what a step puts out is right
 Right : End → Action → Step → Type 0
@@ -145,8 +146,8 @@ module _ (e : End) (f : SoundState e) where
       written (repairMessage (momentOf e) name k (r .cue)) refl
       (repair-passes e f name k (r .cue) (at .source) (at .number) (a .host) (v .cue) (a .other) (a .apart)) (some (v .long) none)
 
-  send-right : (cue : List ℕ) → length cue ≡ 24 → cueIn cue ≡ true → e .next < 64 → Right e (Send cue) (sendOf cue e)
-  send-right cue long fits l =
+  send-right : (us cue : List ℕ) → length cue ≡ 24 → cueIn cue ≡ true → e .next < 65536 → Right e (Send cue) (sendOf us cue e)
+  send-right us cue long fits l =
       let y = dataMessage (momentOf e) (ownName e) cue in
       out-right e (Send cue) y _ (written y refl (data-passes e f cue l fits) (some long none)) refl refl
       (λ c p. let same : cue ≡ c = cc in (refl, refl, same)) (λ x p. let z : _≡_ {A = ℕ} 0 1 = cc in absurd (omega arith))
@@ -195,7 +196,7 @@ module _ (us : List ℕ) (e : End) (t : ℕ) (f : SoundState (withClock e t)) wh
   act-right : (a : Action) → CueArray a → firstNo (ownQuestions a e) ≡ 0 → Right (withClock e t) a (actOf us a (withClock e t))
   unfolding actOf now
   act-right (Moves m) array own = silent-right now (Moves m) _ (move-silent m now)
-  act-right (Send cue) array own = let asked = send-asked cue e own in joined (Send cue) _ (λ m. send-right now f cue array (asked .0) (asked .1 m))
+  act-right (Send cue) array own = let asked = send-asked cue e own in joined (Send cue) _ (λ m. send-right now f us cue array (asked .0) (asked .1 m))
   act-right (Arrival []) array own = joined (Arrival []) _ (λ _. probe-right now f us)
   act-right (Arrival (b ∷ s)) array own =
       joined (Arrival (b ∷ s)) _ (λ _. silent-right now (Arrival (b ∷ s)) _ (arrival-silent us (meaningFrom (b ∷ s)) now))

@@ -37,8 +37,8 @@ passes e a clock room draws h =
     record { sound = b3 .0; ticks = ltb-true clock 281474976710656 (b4 .0); later = leb-true (e .clock) clock (b5 .0); own = b5 .1 }
 
 -- a cue that is sent is in range, and a member has a number for it
-pub send-asked : (cue : List ℕ) (e : End) → firstNo (ownQuestions (Send cue) e) ≡ 0 → (cueIn cue ≡ true) × (isMember (e .status) ≡ true → e .next < 64)
+pub send-asked : (cue : List ℕ) (e : End) → firstNo (ownQuestions (Send cue) e) ≡ 0 → (cueIn cue ≡ true) × (isMember (e .status) ≡ true → e .next < 65536)
 send-asked cue e h =
-    let six = all-passed (cueIn cue) 6 (ask (not (isMember (e .status)) || ltb (e .next) 64) 7 ∷ []) (omega arith) h in
-    let seven = all-passed (not (isMember (e .status)) || ltb (e .next) 64) 7 [] (omega arith) (six .1) .0 in
-    (six .0, λ m. ltb-true (e .next) 64 (sym (ap (λ (t : Bool). not t || ltb (e .next) 64) m) ∙ seven))
+    let six = all-passed (cueIn cue) 6 (ask (not (isMember (e .status)) || ltb (e .next) 65536) 7 ∷ []) (omega arith) h in
+    let seven = all-passed (not (isMember (e .status)) || ltb (e .next) 65536) 7 [] (omega arith) (six .1) .0 in
+    (six .0, λ m. ltb-true (e .next) 65536 (sym (ap (λ (t : Bool). not t || ltb (e .next) 65536) m) ∙ seven))

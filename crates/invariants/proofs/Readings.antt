@@ -1,12 +1,10 @@
 -- What is known of a message that was read: its numbers are in range, its cue has 24 bytes, and its hosts fit its kind.
 use mathlib.Core.Path.{_≡_, refl, sym, ap, _∙_}
-use Prim.Native.Nat.{ℕ, zero, suc, _*_, _≤_, _<_}
+use Prim.Native.Nat.{ℕ, _<_}
 use native.Mathlib.Omega.{arith}
-use mathlib.Core.Bool.{true, false, not, _&&_, _||_}
+use mathlib.Core.Bool.{true, false, not, _&&_}
 use mathlib.Core.List.{List, [], _∷_}
-use mathlib.Core.Logic.{⊎-elim}
-use lib.ListN.{length, getD, drop, length-drop}
-use lib.Seq.{length-take-le}
+use lib.ListN.{length, getD}
 use lib.Dec.{eqb}
 use borrow.Author.Tests.{eqb-true, ltb-true, not-true}
 use Rattle.numbers.specs.Number.{valueAfter}
@@ -14,15 +12,15 @@ use Rattle.message.specs.declared.Host.{Host}
 use Rattle.message.specs.declared.NameEntry.{NameEntry}
 use Rattle.message.specs.declared.Counts.{Counts}
 use Rattle.message.specs.Cue.{cueIn}
-use Rattle.message.specs.Section.{all, entries, sectionFrom}
-use Rattle.message.specs.Entry.{cueOf, blankName, blankCue}
-use Rattle.message.specs.Message.{DATA, RQST, numberWidth, Meaning, meaningFrom, meaningWith, countsOf, fromCues}
+use Rattle.message.specs.Section.{all}
+use Rattle.message.specs.Entry.{blankName, blankCue}
+use Rattle.message.specs.Message.{DATA, RQST, mostNumber, Meaning, meaningFrom, countsOf}
 use Rattle.message.specs.Question.{ask, firstNo, messageQuestions, kindHasCounts, inRange, hostsFit, hostIn, numberIn, ticksIn, nameIn, reportIn, hostFits, sameHost}
 use Rattle.message.proofs.QuestionLaws.{and-both, all-passed, counted}
-use Rattle.message.proofs.LayoutLaws.{atCues, cues-at, cues-count}
-use Rattle.roundtrip.proofs.RoundTrip.{accepted}
+use Rattle.message.proofs.SectionLaws.{All, none, some}
+use Rattle.message.proofs.EntryLaws.{CueFits}
+use Rattle.roundtrip.proofs.RoundTrip.{accepted, counts-read, rest-read, range-read, cues-read}
 use Rattle.end.specs.Arrival.{messageName, messageHost, messageCue}
-use Rattle.end.proofs.Tools.{clash′}
 use Rattle.end.proofs.Readings.{reads, in-range, reports-in, original-source}
 
 -- numbers in range
@@ -30,11 +28,11 @@ pub record MessageIn (m : Meaning) : Type 0 where
   pub sender : m .sender .0 < 8
   pub stamp : ticksIn (m .stamp) ≡ true
   pub source : messageName m .source .0 < 8
-  pub number : messageName m .number .0 < 64
+  pub number : messageName m .number .0 < 65536
   pub host : messageHost m .0 < 8
   pub cue : cueIn (messageCue m) ≡ true
   pub long : length (messageCue m) ≡ 24
-  pub reports : all reportIn (m .reports) ≡ true
+  pub reports : all (reportIn 65535) (m .reports) ≡ true
 
 -- the first of cues in range is in range, and so is the blank one
 first-in : (l : List (List ℕ)) → all cueIn l ≡ true → cueIn (getD l 0 blankCue) ≡ true
@@ -42,16 +40,17 @@ unfolding all cueIn valueAfter
 first-in [] h = refl
 first-in (a ∷ l) h = and-both (cueIn a) (all cueIn l) h .0
 
-first-host : (l : List NameEntry) → all nameIn l ≡ true → getD l 0 blankName .host .0 < 8
+first-host : (most : ℕ) (l : List NameEntry) → all (nameIn most) l ≡ true → getD l 0 blankName .host .0 < 8
 unfolding all
-first-host [] h = omega arith
-first-host (a ∷ l) h = ltb-true (a .host .0) 8 (and-both (numberIn (a .name .number)) _ (and-both (hostIn (a .name .source)) _ (and-both (nameIn a) (all nameIn l) h .0) .1) .1)
+first-host most [] h = omega arith
+first-host most (a ∷ l) h =
+    let name = and-both (nameIn most a) (all (nameIn most) l) h .0 in
+    ltb-true (a .host .0) 8 (and-both (numberIn most (a .name .number)) _ (and-both (hostIn (a .name .source)) _ name .1) .1)
 
--- the first of the cues that were read has 24 bytes, or there is none
-first-cue : (c : ℕ) (t : List ℕ) → c * 24 ≤ length t → length (getD (entries cueOf 24 c t) 0 blankCue) ≡ 24
-unfolding entries
-first-cue zero t h = refl
-first-cue (suc c) t h = length-take-le 24 t (omega arith)
+-- the first of cues of 24 bytes has 24 bytes, and so has the blank one
+first-cue : (l : List (List ℕ)) → All CueFits l → length (getD l 0 blankCue) ≡ 24
+first-cue [] none = refl
+first-cue (a ∷ l) (some p q) = p
 
 -- a RQST has one name, whose host is its sender and not the source
 asked-counts : (c : Counts) → kindHasCounts RQST c ≡ true → c .names ≡ 1
@@ -67,28 +66,22 @@ asker sender (a ∷ l) n h =
 
 module _ (x : List ℕ) (h : firstNo (messageQuestions x) ≡ 0) where
   long : length (messageCue (meaningFrom x)) ≡ 24
-  unfolding meaningWith sectionFrom
-  long =
-      let w : ℕ = numberWidth (getD x 0 0) in
-      let c = cues-count w x in
-      let at = ap length (cues-at w x) ∙ length-drop (atCues w x) x in
-      first-cue (getD (fromCues w x) 0 0) (drop 1 (fromCues w x)) (omega (arith, c, at, accepted x h .size, length-drop 1 (fromCues w x)))
+  long = first-cue (meaningFrom x .cues) (cues-read x (accepted x h))
 
   pub message-in : MessageIn (meaningFrom x)
   unfolding inRange
   message-in =
       let m = meaningFrom x in
       let v = in-range x m (reads x h) in
-      let a = all-passed (inRange m) 10 (ask (hostsFit m) 11 ∷ []) (omega arith) (accepted x h .rest) .0 in
-      let b = and-both (hostIn (m .sender)) _ a in
+      let b = and-both (hostIn (m .sender)) _ (range-read x (accepted x h)) in
       let c = and-both (ticksIn (m .stamp)) _ (b .1) in
-      let d = and-both (all nameIn (m .names)) _ (c .1) in
+      let d = and-both (all (nameIn 65535) (m .names)) _ (c .1) in
       record {
         sender = ltb-true (m .sender .0) 8 (b .0);
         stamp = c .0;
         source = v .source;
         number = v .number;
-        host = first-host (m .names) (d .0);
+        host = first-host 65535 (m .names) (d .0);
         cue = first-in (m .cues) (and-both (all cueIn (m .cues)) _ (d .1) .0);
         long = long;
         reports = reports-in x m (reads x h);
@@ -100,12 +93,13 @@ module _ (x : List ℕ) (h : firstNo (messageQuestions x) ≡ 0) where
 
   -- the source of a RQST is not
   pub asked-source : eqb (meaningFrom x .kind) RQST ≡ true → sameHost (meaningFrom x .sender) (messageName (meaningFrom x) .source) ≡ false
-  unfolding meaningWith hostsFit
+  unfolding hostsFit
   asked-source k =
       let y = meaningFrom x in
       let kind : y .kind ≡ RQST = eqb-true (y .kind) RQST k in
-      let one : length (y .names) ≡ 1 = asked-counts (countsOf y) (ap (λ (k : ℕ). kindHasCounts k (countsOf y)) (sym kind) ∙ accepted x h .counts) in
-      let hosts = all-passed (hostsFit y) 11 [] (omega arith) (all-passed (inRange y) 10 (ask (hostsFit y) 11 ∷ []) (omega arith) (accepted x h .rest) .1) .0 in
+      let one : length (y .names) ≡ 1 = asked-counts (countsOf y) (ap (λ (k : ℕ). kindHasCounts k (countsOf y)) (sym kind) ∙ counts-read x (accepted x h)) in
+      let hosts = all-passed (hostsFit y) 11 [] (omega arith)
+      (all-passed (inRange (mostNumber (y .kind)) y) 10 (ask (hostsFit y) 11 ∷ []) (omega arith) (rest-read x (accepted x h)) .1) .0 in
       let fits = and-both (all (hostFits (y .kind) (y .sender)) (y .names)) _ hosts .0 in
       asker (y .sender) (y .names) one
       (ap (λ (k : ℕ). all (hostFits k (y .sender)) (y .names)) (sym kind) ∙ fits)

@@ -16,7 +16,7 @@ use Rattle.end.specs.declared.Reply.{Reply}
 use Rattle.end.specs.declared.Reply.the-variants.{No, Due}
 use Rattle.end.specs.declared.Record.{Record}
 use Rattle.end.specs.declared.Moment.{Moment}
-use Rattle.end.specs.Records.{isHeld, replyIn, withReply}
+use Rattle.end.specs.Records.{place, isHeld, replyIn, withReply}
 use Rattle.end.specs.Sound.{allOf, timeLimit, timeIn, requestTests, replyTests, heldTests, insideSound, outsideSound}
 use Rattle.end.specs.Names.{asking, holding}
 use Rattle.end.specs.Round.{Drawn, requestAt, replyDue, quietAfterReply}
@@ -113,10 +113,10 @@ module _ (me source : Host) where
 -- ---- times that are in range
 module _ (t : Moment) (us : List ℕ) (drawn : Drawn us) (d : ℕ) (r : Ranges t d) (n : ℕ) where
   pub round-in : (k : ℕ) → 1 ≤ k → k ≤ 16 → RequestIn (requestAt t us d n k)
-  round-in k a b = let v = request-in t us d r n (drawn n) k b in record { least = a; most = b; due = v .0; quiet = v .1 }
+  round-in k a b = let v = request-in t us d r n (drawn (place n)) k b in record { least = a; most = b; due = v .0; quiet = v .1 }
 
   pub due-in : replyDue t us d n < timeLimit
-  due-in = reply-in t us d r n (drawn n) .0
+  due-in = reply-in t us d r n (drawn (place n)) .0
 
   pub quiet-in : quietAfterReply t d < timeLimit
-  quiet-in = reply-in t us d r n (drawn n) .1
+  quiet-in = reply-in t us d r n (drawn (place n)) .1

@@ -125,7 +125,7 @@ unfolding actOf
 act-kept us drawn (Moves m) e t f array own = move-kept m (withClock e t) f
 act-kept us drawn (Send cue) e t f array own =
     let asked = send-asked cue e own in
-    byCond Leaves (isMember (e .status)) (λ m. send-kept cue (withClock e t) array (asked .0) f m (asked .1 m)) (λ _. f)
+    byCond Leaves (isMember (e .status)) (λ m. send-kept us cue (withClock e t) array (asked .0) f m (asked .1 m)) (λ _. f)
 act-kept us drawn (Arrival []) e t f array own = byCond Leaves (isMember (e .status)) (λ m. other-kept (withClock e t) f us drawn m Report) (λ _. f)
 act-kept us drawn (Arrival (b ∷ s)) e t f array own =
     byCond Leaves (isMember (e .status)) (λ m. arrival-kept (withClock e t) f us drawn m (b ∷ s) own) (λ _. f)

@@ -5,7 +5,7 @@ use native.Mathlib.Omega.{arith}
 use mathlib.Core.Bool.{Bool, true, false, not, _&&_}
 use mathlib.Core.List.{List, []}
 use lib.ListN.{length, getD, length-append}
-use borrow.Author.Tests.{eq-eqb, lt-ltb, le-leb}
+use borrow.Author.Tests.{eq-eqb, lt-ltb, le-leb, ltb-true}
 use Rattle.numbers.proofs.Cases.{by-order}
 use Rattle.message.specs.declared.Host.{Host}
 use Rattle.message.specs.declared.Name.{Name}
@@ -13,7 +13,7 @@ use Rattle.message.specs.declared.Echo.{Echo}
 use Rattle.message.specs.Cue.{cueIn}
 use Rattle.message.specs.Section.{all, rises}
 use Rattle.message.specs.Entry.{asHost}
-use Rattle.message.specs.Message.{countsOf}
+use Rattle.message.specs.Message.{DATA, RQST, REPL, SESS, countsOf}
 use Rattle.message.specs.Question.{firstNo, meaningQuestions, kindHasCounts, inRange, hostsFit, hostIn, reportIn, echoIn, notFrom, reportSource, echoHost, sameHost, ticksIn}
 use Rattle.message.proofs.QuestionLaws.{and-both}
 use Rattle.end.specs.declared.Span.{Span}
@@ -38,32 +38,36 @@ module _ (e : End) (f : SoundState e) where
   clock-in : ticksIn (e .clock) ≡ true
   clock-in = lt-ltb (e .clock) 281474976710656 (f .clock)
 
-  pub data-passes : (cue : List ℕ) → e .next < 64 → cueIn cue ≡ true → firstNo (meaningQuestions (dataMessage (momentOf e) (ownName e) cue)) ≡ 0
+  pub data-passes : (cue : List ℕ) → e .next < 65536 → cueIn cue ≡ true → firstNo (meaningQuestions DATA (dataMessage (momentOf e) (ownName e) cue)) ≡ 0
   unfolding inRange hostsFit all rises
-  data-passes cue l fits = rw (host-in, clock-in, lt-ltb (e .next) 64 l, fits, eq-eqb (e .host .0) (e .host .0) refl)
+  data-passes cue l fits = rw (host-in, clock-in, le-leb (e .next) 65535 (omega arith), fits, eq-eqb (e .host .0) (e .host .0) refl)
 
-  pub request-passes : (name : Name) → name .source .0 < 8 → name .number .0 < 64 → sameHost (e .host) (name .source) ≡ false
-      → firstNo (meaningQuestions (requestMessage (momentOf e) name)) ≡ 0
+  pub request-passes : (name : Name) → name .source .0 < 8 → name .number .0 < 65536 → sameHost (e .host) (name .source) ≡ false
+      → firstNo (meaningQuestions RQST (requestMessage (momentOf e) name)) ≡ 0
   unfolding inRange hostsFit all rises
   request-passes name hs hn other =
-      rw (host-in, clock-in, lt-ltb (name .source .0) 8 hs, lt-ltb (name .number .0) 64 hn, eq-eqb (e .host .0) (e .host .0) refl, other)
+      rw (host-in, clock-in, lt-ltb (name .source .0) 8 hs, le-leb (name .number .0) 65535 (omega arith), eq-eqb (e .host .0) (e .host .0) refl, other)
 
-  pub repair-passes : (name : Name) (k : Host) (cue : List ℕ) → name .source .0 < 8 → name .number .0 < 64 → k .0 < 8 → cueIn cue ≡ true
-      → sameHost k (e .host) ≡ false → sameHost k (name .source) ≡ false → firstNo (meaningQuestions (repairMessage (momentOf e) name k cue)) ≡ 0
+  pub repair-passes : (name : Name) (k : Host) (cue : List ℕ) → name .source .0 < 8 → name .number .0 < 65536 → k .0 < 8 → cueIn cue ≡ true
+      → sameHost k (e .host) ≡ false → sameHost k (name .source) ≡ false → firstNo (meaningQuestions REPL (repairMessage (momentOf e) name k cue)) ≡ 0
   unfolding inRange hostsFit all rises
   repair-passes name k cue hs hn hk fits a b =
-      rw (host-in, clock-in, lt-ltb (name .source .0) 8 hs, lt-ltb (name .number .0) 64 hn, lt-ltb (k .0) 8 hk, fits, a, b)
+      rw (host-in, clock-in, lt-ltb (name .source .0) 8 hs, le-leb (name .number .0) 65535 (omega arith), lt-ltb (k .0) 8 hk, fits, a, b)
 
   -- ---- SESS: the reports
-  report-one : (k : ℕ) → k < 8 → (own : Bool) (next : ℕ) (x : Span) → allOf (spanTests own next x) ≡ true → One reportIn reportSource k (reportOn (asHost k) x)
-  report-one k hk own next Closed h = nothing
-  report-one k hk own next (Open first last) h = single refl (λ i. lt-ltb k 8 hk i && nth (spanTests own next (Open first last)) 1 h i)
+  report-one : (k : ℕ) → k < 8 → (own : Bool) (next missed : ℕ) (x : Span) → allOf (spanTests own next missed x) ≡ true
+      → One (reportIn 65535) reportSource k (reportOn (asHost k) x)
+  report-one k hk own next missed Closed h = nothing
+  report-one k hk own next missed (Open first last) h =
+      let most = le-leb (last .0) 65535 (omega (arith, ltb-true (last .0) 65536 (nth (spanTests own next missed (Open first last)) 1 h))) in
+      single refl (λ i. lt-ltb k 8 hk i && most i)
 
-  reports : (k : ℕ) → k ≤ 8 → Gathered reportIn reportSource k (reportsBelow e k)
+  reports : (k : ℕ) → k ≤ 8 → Gathered (reportIn 65535) reportSource k (reportsBelow e k)
   unfolding reportsBelow
-  reports zero h = gathered-none reportIn reportSource
-  reports (suc k) h = gathered-more reportIn reportSource k (reportsBelow e k) (reports k (omega arith))
-      (report-one k (omega arith) (sameHost (asHost k) (e .host)) (e .next) (getD (e .sources) k noSource .span) (f .each k (omega arith) .span))
+  reports zero h = gathered-none (reportIn 65535) reportSource
+  reports (suc k) h = gathered-more (reportIn 65535) reportSource k (reportsBelow e k) (reports k (omega arith))
+      (let s = getD (e .sources) k noSource in
+      report-one k (omega arith) (sameHost (asHost k) (e .host)) (e .next) (s .missed) (s .span) (f .each k (omega arith) .span))
 
   -- ---- the echoes: no stamp is heard from oneself
   heardAt : ℕ → Heard
@@ -114,7 +118,7 @@ module _ (e : End) (f : SoundState e) where
       let less : length (echoesBelow e 8) ≤ 7 = omega (arith, echoes-less 8 (omega arith) (f .host)) in
       λ i. le-leb (length (reportsBelow e 8)) 8 (reports 8 (omega arith) .short) i && le-leb (length (echoesBelow e 8)) 7 less i
 
-  pub session-passes : firstNo (meaningQuestions (sessionMessage e)) ≡ 0
+  pub session-passes : firstNo (meaningQuestions SESS (sessionMessage e)) ≡ 0
   unfolding inRange hostsFit all rises isEcho
   session-passes =
       let r = reports 8 (omega arith) in

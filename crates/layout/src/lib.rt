@@ -159,7 +159,7 @@ fn put_with(out: &mut [u8], w: usize, m: Message) -> usize
     requires { ⌜ w ≤ widestNumber ⌝ }
     requires { ⌜ Small w (m .counts) ⌝ }
     requires { ⌜ roomNeeded ≤ length (now out) ⌝ }
-    ensures { λ r. ⌜ Puts 0 r (bytesWith w (meaningOf m)) (now (out .entry)) (now (out .exit)) ⌝ }
+    ensures { λ r. ⌜ Puts 0 r (bytesWith w (m .kind) (meaningOf m)) (now (out .entry)) (now (out .exit)) ⌝ }
 {
     let c = m.counts;
     let at = 10 + c.names * (NAME_HOSTS + w) + c.cues * CUE_WIDTH;

@@ -4,14 +4,15 @@ use Prim.Native.Nat.{ℕ, zero, suc, _≤_}
 use native.Mathlib.Omega.{arith}
 use mathlib.Core.Bool.{Bool, true, false, cond, not, _&&_, _||_}
 use mathlib.Core.List.{List, [], _∷_}
-use lib.ListN.{length, getD}
+use lib.ListN.{length}
 use lib.Dec.{leb, eqb, ltb}
 use borrow.Author.Tests.{eqb-true, leb-true, ltb-true}
 use Rattle.message.specs.declared.Message.{Message}
+use Rattle.message.specs.Limit.{numberLimit}
 use Rattle.message.specs.Cue.{cueIn}
-use Rattle.message.specs.Message.{Meaning, meaningOf, heldAs, meaningWith, meaningFrom, countsOf, sizeFrom}
+use Rattle.message.specs.Message.{Meaning, meaningOf, heldAs, meaningWith, kindByte, kindOf, mostNumber, meaningFrom, countsOf, sizeFrom}
 use Rattle.message.specs.Question.{ask, firstNo, verdictFor, refusalOf, ticksIn, kindHasCounts, inRange, hostsFit, messageQuestions, meaningQuestions, readQuestions, readRefusal, messageFor, readOf}
-use Rattle.message.proofs.QuestionLaws.{all-passed, counts-small, number-of-verdict}
+use Rattle.message.proofs.QuestionLaws.{all-passed, most-below, range-rises, counts-fit, number-of-verdict}
 use Rattle.message.proofs.LayoutLaws.{held-back}
 use Rattle.end.specs.declared.Event.{Event}
 use Rattle.end.specs.declared.Event.the-variants.{Moves, Send, Arrival, Fire, Report}
@@ -49,11 +50,14 @@ held-as : (s : List ℕ) → firstNo (messageQuestions s) ≡ 0 → Heard s (hel
 unfolding meaningWith
 held-as s h =
     let M : Meaning = meaningFrom s in
-    let a8 = all-passed (leb 12 (length s) && eqb (sizeFrom s) (length s)) 8 (ask (kindHasCounts (getD s 0 0) (countsOf M)) 9 ∷ meaningQuestions M) (omega arith) h in
-    let a9 = all-passed (kindHasCounts (getD s 0 0) (countsOf M)) 9 (meaningQuestions M) (omega arith) (a8 .1) in
-    let a10 = all-passed (inRange M) 10 (ask (hostsFit M) 11 ∷ []) (omega arith) (a9 .1) in
-    let back : meaningOf (heldAs M) ≡ M = held-back M (counts-small (getD s 0 0) (countsOf M) (a9 .0) .cues) in
-    record { passing = record { counts-in = a9 .0; ranges-in = ap inRange back ∙ a10 .0 }; means = back }
+    let byte = kindByte s in
+    let rest = meaningQuestions byte M in
+    let a8 = all-passed (leb 12 (length s) && eqb (sizeFrom s) (length s)) 8 (ask (kindHasCounts (kindOf byte) (countsOf M)) 9 ∷ rest) (omega arith) h in
+    let a9 = all-passed (kindHasCounts (kindOf byte) (countsOf M)) 9 rest (omega arith) (a8 .1) in
+    let a10 = all-passed (inRange (mostNumber byte) M) 10 (ask (hostsFit M) 11 ∷ []) (omega arith) (a9 .1) in
+    let most : mostNumber byte ≤ 65535 = omega (arith, most-below byte) in
+    let back : meaningOf (heldAs M) ≡ M = held-back M (counts-fit byte (kindOf byte) (countsOf M) (a9 .0) .cues) in
+    record { passing = record { counts-in = a9 .0; ranges-in = ap (inRange 65535) back ∙ range-rises (mostNumber byte) 65535 most M (a10 .0) }; means = back }
 
 pub heard : (b : ℕ) (s : List ℕ) (m : Message) → m ≡ readOf (b ∷ s) .message → firstNo (messageQuestions (b ∷ s)) ≡ 0 → Heard (b ∷ s) m
 unfolding readOf readRefusal
@@ -106,9 +110,9 @@ module _ (e : End) (clock : ℕ) (cue bytes : List ℕ) (message : Message) wher
       → takes (countsAs what bytes) (e .status) ≡ true → OwnGiven (countsAs what bytes) (withClock e clock) message
   own-given (Moves m) p h t = tt
   own-given Send p h t =
-      let a6 = all-passed (cueIn cue) 6 (ask (not (isMember (e .status)) || ltb (e .next) 64) 7 ∷ []) (omega arith) h in
-      let a7 = all-passed (not (isMember (e .status)) || ltb (e .next) 64) 7 [] (omega arith) (a6 .1) in
-      ltb-true (e .next) 64 (sym (ap (λ (b : Bool). not b || ltb (e .next) 64) t) ∙ a7 .0)
+      let a6 = all-passed (cueIn cue) 6 (ask (not (isMember (e .status)) || ltb (e .next) numberLimit) 7 ∷ []) (omega arith) h in
+      let a7 = all-passed (not (isMember (e .status)) || ltb (e .next) numberLimit) 7 [] (omega arith) (a6 .1) in
+      ltb-true (e .next) numberLimit (sym (ap (λ (b : Bool). not b || ltb (e .next) numberLimit) t) ∙ a7 .0)
   own-given Arrival p h t = arrival-given (withClock e clock) bytes p h
   own-given Fire p h t = tt
   own-given Report p h t = tt

@@ -1,6 +1,6 @@
 -- The frame of a call: the reading that goes with an event, which ends take it, and what it does then.
 use mathlib.Core.Path.{_≡_}
-use Prim.Native.Nat.{ℕ, _≤_, _<_}
+use Prim.Native.Nat.{ℕ, _-_, _≤_, _<_}
 use mathlib.Core.Bool.{Bool, true, false, cond}
 use mathlib.Core.List.{List}
 use lib.Dec.{eqb}
@@ -60,7 +60,7 @@ takes Report status = isMember status
 -- what an event that is taken does, with the meaning of an arrival's bytes
 abbrev pub acted : List ℕ → Event → List ℕ → Meaning → End → Step
 acted us (Moves m) cue M e = moveOf m e
-acted us Send cue M e = sendOf cue e
+acted us Send cue M e = sendOf us cue e
 acted us Arrival cue M e = arrivalOf us M e
 acted us Fire cue M e = fireOf us e
 acted us Report cue M e = otherOf us rules.Report e
@@ -74,7 +74,7 @@ untakenFor q = cond (eqb q 0) (Did Ignored) (Refused q)
 -- a message that passed questions 9 and 10
 pub record Passing (m : Message) : Type 0 where
   pub counts-in : kindHasCounts (m .kind) (m .counts) ≡ true
-  pub ranges-in : inRange (meaningOf m) ≡ true
+  pub ranges-in : inRange (numberLimit - 1) (meaningOf m) ≡ true
 
 -- by the event's own questions: Send's number, and the message of an arrival
 abbrev pub OwnGiven : Event → End → Message → Type 0

@@ -1,8 +1,10 @@
 -- Why an event that is not refused is ignored, as the code finds it: crashed, wrong status, and of an arrival what the message's reason is.
 use mathlib.Core.Path.{_≡_}
+use Prim.Native.Nat.{_-_}
 use mathlib.Core.Bool.{Bool, true, cond}
 use mathlib.Core.Option.{Option, none, some}
 use Rattle.message.specs.declared.Message.{Message}
+use Rattle.message.specs.Limit.{numberLimit}
 use Rattle.message.specs.Message.{Meaning, meaningOf}
 use Rattle.message.specs.Question.{inRange}
 use Rattle.end.specs.declared.Status.{Status}
@@ -27,7 +29,7 @@ suits Report status = isMember status
 abbrev pub Heard : Event → Message → Type 0
 Heard (Moves m) message = Unit {0}
 Heard Send message = Unit {0}
-Heard Arrival message = inRange (meaningOf message) ≡ true
+Heard Arrival message = inRange (numberLimit - 1) (meaningOf message) ≡ true
 Heard Fire message = Unit {0}
 Heard Report message = Unit {0}
 

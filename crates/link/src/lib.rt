@@ -132,7 +132,7 @@ fn act(
 {
     match what {
         Event::Moves(m) => membership::moved(end, m),
-        Event::Send => transmit::send(end, cue, out),
+        Event::Send => transmit::send(end, draws, cue, out),
         Event::Arrival => receive::arrival(end, draws, message, out),
         Event::Fire => transmit::fire(end, draws, out),
         Event::Report => transmit::report(end, out),

@@ -40,6 +40,7 @@ fn unheard_source(distance: u64) -> Source
     };
     Source {
         span: Span::Closed,
+        missed: 0,
         distance,
         heard: Heard::Never,
         names: [blank; 64],

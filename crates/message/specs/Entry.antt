@@ -1,6 +1,6 @@
 -- The entries of the four sections as bytes. Document 01, "Messages": "names (source, cue number, host: 3 bytes), cues (24),
 -- reports (source, last: 2), echoes (host, stamp, held ticks: 1+6+6)".
--- The width w of a cue number is a parameter: one byte in document 01's kinds (`numberWidth` of Message.antt).
+-- The width w of a cue number is a parameter: one byte in document 01's kinds, two in those of document 02, P7 (`numberWidth` of Kind.antt).
 use Prim.Native.Nat.{ℕ, _+_}
 use mathlib.Core.List.{List, [], _∷_, _++_}
 use lib.ListN.{getD, take, drop, replicate}

@@ -1,48 +1,47 @@
--- The table of kinds, a row each. Document 01, "Messages":
---   | Kind   | counts        | host in the name                         |
---   | 1 DATA | 1,1,0,0       | the source, also the sender              |
---   | 2 RQST | 1,0,0,0       | the sender, not the source               |
---   | 3 REPL | 1,1,0,0       | the requester, neither sender nor source |
---   | 4 SESS | 0,0,0..8,0..7 | none                                     |
--- and of the sections "names (source, cue number, host: 3 bytes) .., reports (source, last: 2)": one byte for a cue number.
--- Questions 8 (the width), 9 (the counts) and 11 (the host) go by a kind's row. A kind that comes later is a line of `table`, and one of
+-- The kinds of messages. Document 01, "Messages", with document 02, P7: "under kinds 17 to 20 for 1 to 4":
+--   | Kind    | counts        | host in the name                         |
+--   | 17 DATA | 1,1,0,0       | the source, also the sender              |
+--   | 18 RQST | 1,0,0,0       | the sender, not the source               |
+--   | 19 REPL | 1,1,0,0       | the requester, neither sender nor source |
+--   | 20 SESS | 0,0,0..8,0..7 | none                                     |
+-- Questions 9 (the counts) and 11 (the host) go by a kind's row. A kind that comes later is a line of `table`, and one of
 -- `message::row_of`.
-use Prim.Native.Nat.{ℕ}
-use mathlib.Core.Bool.{true, false, cond}
+use Prim.Native.Nat.{ℕ, _+_, _-_}
+use mathlib.Core.Bool.{Bool, true, false, cond, _&&_}
 use mathlib.Core.List.{List, [], _∷_}
-use lib.Dec.{eqb}
+use lib.Dec.{eqb, leb}
+use Rattle.message.specs.Limit.{numberLimit, oldNumberLimit}
 use Rattle.message.specs.declared.HostRule.{HostRule}
 use Rattle.message.specs.declared.HostRule.the-variants.{SourceAndSender, SenderNotSource, NeitherSenderNorSource, NoHost}
 use Rattle.message.specs.declared.Row.{Row}
 
 abbrev pub DATA : ℕ
-DATA = 1
+DATA = 17
 
 abbrev pub RQST : ℕ
-RQST = 2
+RQST = 18
 
 abbrev pub REPL : ℕ
-REPL = 3
+REPL = 19
 
 abbrev pub SESS : ℕ
-SESS = 4
+SESS = 20
 
--- a kind's row: so many names and cues, at most so many reports and echoes, the bytes of a cue number, the rule of the host
-abbrev pub row : ℕ → ℕ → ℕ → ℕ → ℕ → HostRule → Row
-row names cues reports echoes width host =
-    record { known = true; names = names; cues = cues; reports = reports; echoes = echoes; width = width; host = host }
+-- a kind's row: so many names and cues, at most so many reports and echoes, the rule of the host
+abbrev pub row : ℕ → ℕ → ℕ → ℕ → HostRule → Row
+row names cues reports echoes host = record { known = true; names = names; cues = cues; reports = reports; echoes = echoes; host = host }
 
 abbrev pub table : List (ℕ × Row)
 table =
-    (DATA, row 1 1 0 0 1 SourceAndSender)
-    ∷ (RQST, row 1 0 0 0 1 SenderNotSource)
-    ∷ (REPL, row 1 1 0 0 1 NeitherSenderNorSource)
-    ∷ (SESS, row 0 0 8 7 1 NoHost)
+    (DATA, row 1 1 0 0 SourceAndSender)
+    ∷ (RQST, row 1 0 0 0 SenderNotSource)
+    ∷ (REPL, row 1 1 0 0 NeitherSenderNorSource)
+    ∷ (SESS, row 0 0 8 7 NoHost)
     ∷ []
 
--- what a byte has that is no kind: question 8 is asked before question 9, with one byte for a cue number
+-- what a byte has that is no kind
 abbrev pub noKind : Row
-noKind = record { known = false; names = 0; cues = 0; reports = 0; echoes = 0; width = 1; host = NoHost }
+noKind = record { known = false; names = 0; cues = 0; reports = 0; echoes = 0; host = NoHost }
 
 abbrev pub rowIn : List (ℕ × Row) → ℕ → Row
 rowIn [] kind = noKind
@@ -51,10 +50,29 @@ rowIn (line ∷ lines) kind = cond (eqb kind (line .0)) (line .1) (rowIn lines k
 abbrev pub rowOf : ℕ → Row
 rowOf kind = rowIn table kind
 
--- how many bytes a cue number has in a message of this kind
-abbrev pub numberWidth : ℕ → ℕ
-numberWidth kind = rowOf kind .width
+-- ---- The kind byte that starts a message: a kind, or document 01's number of it.
 
--- how many bytes of a cue number a `CueNumber` can hold: no row asks for more
+-- P7: "the old kinds are still read": 1 to 4
+abbrev pub isOld : ℕ → Bool
+isOld byte = leb 1 byte && leb byte 4
+
+-- "under kinds 17 to 20 for 1 to 4": how much a kind is above its old number
+abbrev pub kindShift : ℕ
+kindShift = 16
+
+-- the kind of a message that starts with this byte: "the old kinds are still read .. as the same meanings"
+abbrev pub kindOf : ℕ → ℕ
+kindOf byte = cond (isOld byte) (byte + kindShift) byte
+
+-- how many bytes a cue number has after this byte: "two bytes in names and reports", and one in the old kinds. "Question 8 counts kinds 1 to
+-- 4 by the old sizes and every other kind byte by the new."
+abbrev pub numberWidth : ℕ → ℕ
+numberWidth byte = cond (isOld byte) 1 2
+
+-- how many bytes of a cue number a `CueNumber` can hold: no kind byte asks for more
 abbrev pub widestNumber : ℕ
-widestNumber = 1
+widestNumber = 2
+
+-- the greatest cue number after this byte: "Cue numbers become 0..65535"; "the old kinds are still read, numbers to 63"
+abbrev pub mostNumber : ℕ → ℕ
+mostNumber byte = cond (isOld byte) (oldNumberLimit - 1) (numberLimit - 1)

@@ -1,7 +1,7 @@
 -- What a message means, and its layout in bytes. Document 01, "Messages": "Kind (1 byte), sender (1), stamp (6, the sender's
 -- clock), then four sections, each after its one-byte count: names .., cues .., reports .., echoes ..".
 use mathlib.Core.Path.{_≡_}
-use Prim.Native.Nat.{ℕ, _+_, _*_, _≤_}
+use Prim.Native.Nat.{ℕ, _+_, _*_, _-_, _≤_}
 use mathlib.Core.List.{List, [], _∷_, _++_}
 use lib.ListN.{length, getD, take, drop}
 use Rattle.numbers.specs.Number.{value, digits}
@@ -13,7 +13,7 @@ use Rattle.message.specs.declared.Report.{Report}
 use Rattle.message.specs.declared.Echo.{Echo}
 use Rattle.message.specs.declared.Counts.{Counts}
 use Rattle.message.specs.declared.Message.{Message}
-pub use Rattle.message.specs.Kind.{DATA, RQST, REPL, SESS, numberWidth}
+pub use Rattle.message.specs.Kind.{DATA, RQST, REPL, SESS, isOld, kindOf, kindShift, numberWidth, mostNumber}
 
 -- What a message says.
 pub record Meaning : Type 0 where
@@ -68,22 +68,26 @@ heldAs M = record {
   echoes = padded echoPlaces blankEcho (M .echoes);
 }
 
--- ---- The layout, over the width w of a cue number.
+-- ---- The layout, over the width w of a cue number and the byte that says the kind.
 
 -- kind, sender, stamp
 abbrev pub headBytes : ℕ → Host → ℕ → List ℕ
-headBytes kind sender stamp = kind ∷ sender .0 ∷ digits 6 stamp
+headBytes byte sender stamp = byte ∷ sender .0 ∷ digits 6 stamp
 
 -- the head, the names and the cues
 abbrev pub frontBytes : ℕ → ℕ → Host → ℕ → List NameEntry → List (List ℕ) → List ℕ
-frontBytes w kind sender stamp names cues = headBytes kind sender stamp ++ (section (nameBytes w) names ++ section cueBytes cues)
+frontBytes w byte sender stamp names cues = headBytes byte sender stamp ++ (section (nameBytes w) names ++ section cueBytes cues)
 
 -- the reports and the echoes
 abbrev pub backBytes : ℕ → List Report → List Echo → List ℕ
 backBytes w reports echoes = section (reportBytes w) reports ++ section echoBytes echoes
 
-unfoldable pub bytesWith : ℕ → Meaning → List ℕ
-bytesWith w M = frontBytes w (M .kind) (M .sender) (M .stamp) (M .names) (M .cues) ++ backBytes w (M .reports) (M .echoes)
+unfoldable pub bytesWith : ℕ → ℕ → Meaning → List ℕ
+bytesWith w byte M = frontBytes w byte (M .sender) (M .stamp) (M .names) (M .cues) ++ backBytes w (M .reports) (M .echoes)
+
+-- the byte that a message starts with; 0, which is no kind, where there are no bytes
+abbrev pub kindByte : List ℕ → ℕ
+kindByte s = getD s 0 0
 
 -- where the sections start: names after the head, then cues, reports and echoes
 abbrev pub fromNames : List ℕ → List ℕ
@@ -100,7 +104,7 @@ fromEchoes w s = after (reportWidth w) (fromReports w s)
 
 unfoldable pub meaningWith : ℕ → List ℕ → Meaning
 meaningWith w s = record {
-  kind = getD s 0 0;
+  kind = kindOf (kindByte s);
   sender = asHost (getD s 1 0);
   stamp = value (take 6 (drop 2 s));
   names = sectionFrom (nameOf w) (nameWidth w) (fromNames s);
@@ -113,27 +117,35 @@ meaningWith w s = record {
 abbrev pub sizeWith : ℕ → Counts → ℕ
 sizeWith w c = 12 + c .names * nameWidth w + c .cues * cueWidth + c .reports * reportWidth w + c .echoes * echoWidth
 
--- what the kinds' counts allow: they fit the places of a message struct, and the message has at most 119 bytes
+-- what the kinds' counts allow: they fit the places of a message struct, and the message has at most 127 bytes
 pub record Small (w : ℕ) (c : Counts) : Type 0 where
   pub names : c .names ≤ namePlaces
   pub cues : c .cues ≤ 1
   pub reports : c .reports ≤ reportPlaces
   pub echoes : c .echoes ≤ echoPlaces
-  pub size : sizeWith w c ≤ 119
+  pub size : sizeWith w c ≤ 127
 
--- ---- The layout of a message, with the width that its first byte, the kind, asks for.
+-- ---- The layout of a message, with the width that its kind byte asks for.
 
--- the bytes that a meaning is written as
+-- the bytes of a meaning after a kind byte
+abbrev pub bytesAs : ℕ → Meaning → List ℕ
+bytesAs byte M = bytesWith (numberWidth byte) byte M
+
+-- the bytes that a meaning is written as: those of its kind
 abbrev pub bytesOf : Meaning → List ℕ
-bytesOf M = bytesWith (numberWidth (M .kind)) M
+bytesOf M = bytesAs (M .kind) M
+
+-- the bytes that a meaning of kinds 17 to 20 has in document 01, under kinds 1 to 4: document 02, P7: "no longer written"
+abbrev pub oldBytesOf : Meaning → List ℕ
+oldBytesOf M = bytesAs (M .kind - kindShift) M
 
 -- the meaning that bytes are read as
 abbrev pub meaningFrom : List ℕ → Meaning
-meaningFrom s = meaningWith (numberWidth (getD s 0 0)) s
+meaningFrom s = meaningWith (numberWidth (kindByte s)) s
 
 -- how long bytes with these counts must be
 abbrev pub sizeFrom : List ℕ → ℕ
-sizeFrom s = sizeWith (numberWidth (getD s 0 0)) (countsOf (meaningFrom s))
+sizeFrom s = sizeWith (numberWidth (kindByte s)) (countsOf (meaningFrom s))
 
 -- ---- A datagram. Document 02, P5: "A message of no bytes": it says "probe", and any other datagram is a message. `A` is what stands for a
 -- message: its meaning, or the struct that the writer is handed.

@@ -3,14 +3,14 @@ use Prim.Native.Nat.{ℕ, zero, suc}
 use mathlib.Core.Bool.{Bool, false, cond, not, _&&_}
 use mathlib.Core.List.{List, [], _∷_, _++_}
 use mathlib.Core.Option.{Option, none, some}
-use lib.ListN.{length, getD, drop}
+use lib.ListN.{length, drop}
 use lib.Dec.{ltb, leb, eqb}
 use Rattle.message.specs.Cue.{cueIn}
 use Rattle.message.specs.Section.{all, rises}
 use Rattle.message.specs.Entry.{asHost}
-use Rattle.message.specs.Limit.{hostLimit, numberLimit, ticksLimit, roomNeeded}
-use Rattle.message.specs.Kind.{rowOf}
-use Rattle.message.specs.Message.{Meaning, Datagram, Probe, Saying, meaningOf, heldAs, meaningFrom, datagramBytes, saidBy, countsOf, sizeFrom}
+use Rattle.message.specs.Limit.{hostLimit, ticksLimit, roomNeeded}
+use Rattle.message.specs.Kind.{rowOf, kindOf, mostNumber}
+use Rattle.message.specs.Message.{Meaning, Datagram, Probe, Saying, meaningOf, heldAs, kindByte, meaningFrom, datagramBytes, saidBy, countsOf, sizeFrom}
 use Rattle.message.specs.declared.Host.{Host}
 use Rattle.message.specs.declared.CueNumber.{CueNumber}
 use Rattle.message.specs.declared.NameEntry.{NameEntry}
@@ -52,7 +52,7 @@ refusalOf verdict.Accepted = 0
 refusalOf verdict.Probe = 0
 refusalOf (verdict.Refused k) = k
 
--- ---- 9: "Is the kind 1..4 with its counts?": the table's second column
+-- ---- 9: "Is the kind 1..4 with its counts?": the table's second column, of the kinds 17 to 20 that P7 has for 1 to 4
 
 abbrev pub hasCounts : Row → Counts → Bool
 hasCounts r c =
@@ -61,30 +61,31 @@ hasCounts r c =
 abbrev pub kindHasCounts : ℕ → Counts → Bool
 kindHasCounts kind c = hasCounts (rowOf kind) c
 
--- ---- 10: "Are hosts, cue numbers and cue fields in range, stamps and held ticks below 2^48?"
+-- ---- 10: "Are hosts, cue numbers and cue fields in range, stamps and held ticks below 2^48?": `most` is the greatest cue number
 
 abbrev pub hostIn : Host → Bool
 hostIn h = ltb (h .0) hostLimit
 
-abbrev pub numberIn : CueNumber → Bool
-numberIn n = ltb (n .0) numberLimit
+abbrev pub numberIn : ℕ → CueNumber → Bool
+numberIn most n = leb (n .0) most
 
 abbrev pub ticksIn : ℕ → Bool
 ticksIn t = ltb t ticksLimit
 
-abbrev pub nameIn : NameEntry → Bool
-nameIn n = hostIn (n .name .source) && (numberIn (n .name .number) && hostIn (n .host))
+abbrev pub nameIn : ℕ → NameEntry → Bool
+nameIn most n = hostIn (n .name .source) && (numberIn most (n .name .number) && hostIn (n .host))
 
-abbrev pub reportIn : Report → Bool
-reportIn r = hostIn (r .source) && numberIn (r .last)
+abbrev pub reportIn : ℕ → Report → Bool
+reportIn most r = hostIn (r .source) && numberIn most (r .last)
 
 abbrev pub echoIn : Echo → Bool
 echoIn e = hostIn (e .host) && (ticksIn (e .stamp) && ticksIn (e .held))
 
-unfoldable pub inRange : Meaning → Bool
-inRange M =
+unfoldable pub inRange : ℕ → Meaning → Bool
+inRange most M =
     hostIn (M .sender)
-    && (ticksIn (M .stamp) && (all nameIn (M .names) && (all cueIn (M .cues) && (all reportIn (M .reports) && all echoIn (M .echoes)))))
+    && (ticksIn (M .stamp)
+    && (all (nameIn most) (M .names) && (all cueIn (M .cues) && (all (reportIn most) (M .reports) && all echoIn (M .echoes)))))
 
 -- ---- 11: "Do the table's last column and the line under the table hold?"
 
@@ -119,16 +120,16 @@ hostsFit M =
 
 -- ---- The reader: questions 8, 9, 10, 11.
 
--- 10 and 11, which the reader and the writer ask last
-abbrev pub meaningQuestions : Meaning → List Question
-meaningQuestions M = ask (inRange M) 10 ∷ ask (hostsFit M) 11 ∷ []
+-- 10 and 11, which the reader and the writer ask last: of a meaning and the byte that said its kind
+abbrev pub meaningQuestions : ℕ → Meaning → List Question
+meaningQuestions byte M = ask (inRange (mostNumber byte) M) 10 ∷ ask (hostsFit M) 11 ∷ []
 
 -- 8: "Are there 12 bytes or more, and do the counts account for the length exactly?"
 abbrev pub messageQuestions : List ℕ → List Question
 messageQuestions s =
     ask (leb 12 (length s) && eqb (sizeFrom s) (length s)) 8
-    ∷ ask (kindHasCounts (getD s 0 0) (countsOf (meaningFrom s))) 9
-    ∷ meaningQuestions (meaningFrom s)
+    ∷ ask (kindHasCounts (kindOf (kindByte s)) (countsOf (meaningFrom s))) 9
+    ∷ meaningQuestions (kindByte s) (meaningFrom s)
 
 -- document 02, P5: "Number 8 is from then on for lengths 1 to 11 and counts that miss the length": of no bytes nothing is asked
 abbrev pub readQuestions : List ℕ → List Question
@@ -162,14 +163,15 @@ datagramBy (verdict.Refused k) m = none
 abbrev pub datagramIn : Reading → Option (Datagram Message)
 datagramIn r = datagramBy (r .verdict) (r .message)
 
--- ---- The writer: "The writer has questions 1, 9, 10, 11."
+-- ---- The writer: "The writer has questions 1, 9, 10, 11." The kind that it is handed is the byte that it writes, so it answers 9 to 1 to 4:
+-- document 02, P7: "no longer written".
 
 -- "Has the output at least 128 bytes? 1."
 abbrev pub roomQuestion : ℕ → Question
 roomQuestion room = ask (leb roomNeeded room) 1
 
 abbrev pub roomQuestions : Message → ℕ → List Question
-roomQuestions m room = roomQuestion room ∷ ask (kindHasCounts (m .kind) (m .counts)) 9 ∷ meaningQuestions (meaningOf m)
+roomQuestions m room = roomQuestion room ∷ ask (kindHasCounts (m .kind) (m .counts)) 9 ∷ meaningQuestions (m .kind) (meaningOf m)
 
 -- P5: "the writer writes it for "probe"": 9, 10 and 11 are about a message
 abbrev pub writeQuestions : Datagram Message → List ℕ → List Question

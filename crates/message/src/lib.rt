@@ -1,6 +1,6 @@
 // A message, its cue and the questions that the reader and the writer share. The definitions are in specs/: Cue.antt (a
-// cue's fields), Limit.antt and Kind.antt (the limits and the table of kinds), Entry.antt and Message.antt (the layout), Question.antt
-// (the questions).
+// cue's fields), Limit.antt and Kind.antt (the limits, the table of kinds and the kind byte), Entry.antt and Message.antt (the layout),
+// Question.antt (the questions).
 // A test joins its parts by `&` and `|`, in the order in which its definition does.
 ghost use mathlib.Core.Path.{_≡_};
 ghost use mathlib.Core.List.{_∷_, []};
@@ -9,14 +9,14 @@ ghost use lib.ListN.{length, take};
 ghost use Rattle.message.specs.Cue.{fieldsOf, stepsIn, stepsAt, cueIn, cueWith};
 ghost use Rattle.message.specs.Section.{all, rises};
 ghost use Rattle.message.specs.Message.{meaningOf};
-ghost use Rattle.message.specs.Kind.{rowOf, row, numberWidth, widestNumber};
+ghost use Rattle.message.specs.Kind.{rowOf, row, isOld, kindOf, numberWidth, widestNumber, mostNumber};
 ghost use Rattle.message.specs.Question.{hasCounts, kindHasCounts, nameIn, reportIn, echoIn, inRange, ruleHolds, hostFits, notFrom, reportSource, echoHost, hostsFit, meaningQuestions, firstNo, blankMessage};
 
 // A controller on the network, 0..7.
 pub struct Host(pub u8);
 
-// The number of a cue among those of its source, 0..63.
-pub struct CueNumber(pub u8);
+// The number of a cue among those of its source, 0..65535.
+pub struct CueNumber(pub u16);
 
 // A name: a source with a cue number.
 pub struct Name {
@@ -101,21 +101,20 @@ pub enum HostRule {
 }
 
 // A row of the table of kinds: whether it is a kind at all, how many names and cues its messages have, how many reports and echoes at
-// most, how many bytes a cue number has, and the rule of the host beside a name.
+// most, and the rule of the host beside a name.
 pub struct Row {
     pub known: bool,
     pub names: usize,
     pub cues: usize,
     pub reports: usize,
     pub echoes: usize,
-    pub width: usize,
     pub host: HostRule,
 }
 
 // Hosts, cue numbers and ticks (clocks, stamps, held ticks) are below these; an output has at least so many bytes.
 pub const HOST_LIMIT: u8 = 8;
 
-pub const NUMBER_LIMIT: u8 = 64;
+pub const NUMBER_LIMIT: u32 = 65536;
 
 pub const TICKS_LIMIT: u64 = 281474976710656;
 
@@ -129,13 +128,25 @@ pub const REPORT_PLACES: usize = 8;
 pub const ECHO_PLACES: usize = 7;
 
 // The kinds of messages.
-pub const DATA: u8 = 1;
+pub const DATA: u8 = 17;
 
-pub const RQST: u8 = 2;
+pub const RQST: u8 = 18;
 
-pub const REPL: u8 = 3;
+pub const REPL: u8 = 19;
 
-pub const SESS: u8 = 4;
+pub const SESS: u8 = 20;
+
+// The old kinds, which are still read: from the first to the last, each so much below the kind that it stands for.
+const OLD_FIRST: u8 = 1;
+
+const OLD_LAST: u8 = 4;
+
+const KIND_SHIFT: u8 = 16;
+
+// The greatest cue number in a message of an old kind, and in any other.
+const OLD_MOST: u16 = 63;
+
+const MOST: u16 = 65535;
 
 // How many bytes a name and a report have beside their cue number, and a cue and an echo in all.
 pub const NAME_HOSTS: usize = 2;
@@ -146,15 +157,8 @@ pub const CUE_WIDTH: usize = 24;
 
 pub const ECHO_WIDTH: usize = 13;
 
-fn known(
-    names: usize,
-    cues: usize,
-    reports: usize,
-    echoes: usize,
-    width: usize,
-    host: HostRule,
-) -> Row
-    ensures { λ r. ⌜ r ≡ row names cues reports echoes width host ⌝ }
+fn known(names: usize, cues: usize, reports: usize, echoes: usize, host: HostRule) -> Row
+    ensures { λ r. ⌜ r ≡ row names cues reports echoes host ⌝ }
 {
     Row {
         known: true,
@@ -162,7 +166,6 @@ fn known(
         cues,
         reports,
         echoes,
-        width,
         host,
     }
 }
@@ -172,28 +175,51 @@ pub fn row_of(kind: u8) -> Row
     ensures { λ r. ⌜ r ≡ rowOf kind ⌝ }
 {
     match kind {
-        DATA => known(1, 1, 0, 0, 1, HostRule::SourceAndSender),
-        RQST => known(1, 0, 0, 0, 1, HostRule::SenderNotSource),
-        REPL => known(1, 1, 0, 0, 1, HostRule::NeitherSenderNorSource),
-        SESS => known(0, 0, 8, 7, 1, HostRule::NoHost),
+        DATA => known(1, 1, 0, 0, HostRule::SourceAndSender),
+        RQST => known(1, 0, 0, 0, HostRule::SenderNotSource),
+        REPL => known(1, 1, 0, 0, HostRule::NeitherSenderNorSource),
+        SESS => known(0, 0, 8, 7, HostRule::NoHost),
         _ => Row {
             known: false,
             names: 0,
             cues: 0,
             reports: 0,
             echoes: 0,
-            width: 1,
             host: HostRule::NoHost,
         },
     }
 }
 
-// How many bytes a cue number has in a message of this kind.
-pub fn number_width(kind: u8) -> usize
-    ensures { λ r. ⌜ r ≡ numberWidth kind ⌝ }
+fn is_old(byte: u8) -> bool
+    ensures { λ r. ⌜ r ≡ isOld byte ⌝ }
+{
+    (OLD_FIRST <= byte) & (byte <= OLD_LAST)
+}
+
+// The kind of a message that starts with this byte.
+pub fn kind_of(byte: u8) -> u8
+    ensures { λ r. ⌜ r ≡ kindOf byte ⌝ }
+{
+    if is_old(byte) {
+        byte + KIND_SHIFT
+    } else {
+        byte
+    }
+}
+
+// How many bytes a cue number has in a message that starts with this byte.
+pub fn number_width(byte: u8) -> usize
+    ensures { λ r. ⌜ r ≡ numberWidth byte ⌝ }
     ensures { λ r. ⌜ r ≤ widestNumber ⌝ }
 {
-    row_of(kind).width
+    if is_old(byte) { 1 } else { 2 }
+}
+
+// The greatest cue number in a message that starts with this byte.
+fn most_number(byte: u8) -> u16
+    ensures { λ r. ⌜ r ≡ mostNumber byte ⌝ }
+{
+    if is_old(byte) { OLD_MOST } else { MOST }
 }
 
 // The fields that a cue's bytes hold.
@@ -259,16 +285,16 @@ pub fn kind_has_counts(kind: u8, c: Counts) -> bool
     has_counts(row_of(kind), c)
 }
 
-fn name_in(n: NameEntry) -> bool
-    ensures { λ r. ⌜ r ≡ nameIn n ⌝ }
+fn name_in(most: u16, n: NameEntry) -> bool
+    ensures { λ r. ⌜ r ≡ nameIn most n ⌝ }
 {
-    (n.name.source.0 < HOST_LIMIT) & ((n.name.number.0 < NUMBER_LIMIT) & (n.host.0 < HOST_LIMIT))
+    (n.name.source.0 < HOST_LIMIT) & ((n.name.number.0 <= most) & (n.host.0 < HOST_LIMIT))
 }
 
-fn report_in(r: Report) -> bool
-    ensures { λ b. ⌜ b ≡ reportIn r ⌝ }
+fn report_in(most: u16, r: Report) -> bool
+    ensures { λ b. ⌜ b ≡ reportIn most r ⌝ }
 {
-    (r.source.0 < HOST_LIMIT) & (r.last.0 < NUMBER_LIMIT)
+    (r.source.0 < HOST_LIMIT) & (r.last.0 <= most)
 }
 
 fn echo_in(e: Echo) -> bool
@@ -310,15 +336,15 @@ fn used(count: usize, places: usize) -> usize
     if count < places { count } else { places }
 }
 
-fn names_in(names: [NameEntry; 2], count: usize) -> bool
-    ensures { λ r. ⌜ r ≡ all nameIn (take count names) ⌝ }
+fn names_in(most: u16, names: [NameEntry; 2], count: usize) -> bool
+    ensures { λ r. ⌜ r ≡ all (nameIn most) (take count names) ⌝ }
 {
     let n = used(count, NAME_PLACES);
     let mut ok = true;
     let mut i: usize = 0;
     while i < n {
         let name = names[i];
-        ok = ok & name_in(name);
+        ok = ok & name_in(most, name);
         i += 1;
     }
     ok
@@ -338,15 +364,15 @@ fn names_fit(kind: u8, sender: Host, names: [NameEntry; 2], count: usize) -> boo
     ok
 }
 
-fn reports_in(reports: [Report; 8], count: usize) -> bool
-    ensures { λ r. ⌜ r ≡ all reportIn (take count reports) ⌝ }
+fn reports_in(most: u16, reports: [Report; 8], count: usize) -> bool
+    ensures { λ r. ⌜ r ≡ all (reportIn most) (take count reports) ⌝ }
 {
     let n = used(count, REPORT_PLACES);
     let mut ok = true;
     let mut i: usize = 0;
     while i < n {
         let report = reports[i];
-        ok = ok & report_in(report);
+        ok = ok & report_in(most, report);
         i += 1;
     }
     ok
@@ -415,9 +441,9 @@ fn echoes_not_from(sender: Host, echoes: [Echo; 7], count: usize) -> bool
     ok
 }
 
-// Question 10.
-fn in_range(m: Message) -> bool
-    ensures { λ r. ⌜ r ≡ inRange (meaningOf m) ⌝ }
+// Question 10, with the greatest cue number.
+fn in_range(most: u16, m: Message) -> bool
+    ensures { λ r. ⌜ r ≡ inRange most (meaningOf m) ⌝ }
 {
     let counts = m.counts;
     let names = m.names;
@@ -426,9 +452,10 @@ fn in_range(m: Message) -> bool
     let echoes = m.echoes;
     (m.sender.0 < HOST_LIMIT)
         & ((m.stamp < TICKS_LIMIT)
-            & (names_in(names, counts.names)
+            & (names_in(most, names, counts.names)
                 & (((counts.cues == 0) | cue_in(&cue))
-                    & (reports_in(reports, counts.reports) & echoes_in(echoes, counts.echoes)))))
+                    & (reports_in(most, reports, counts.reports)
+                        & echoes_in(echoes, counts.echoes)))))
 }
 
 // Question 11.
@@ -445,11 +472,11 @@ fn hosts_fit(m: Message) -> bool
                 & echoes_not_from(m.sender, echoes, counts.echoes)))
 }
 
-// Questions 10 and 11, of any message: the number of the first that is answered no, or 0.
-pub fn meaning_refusal(m: Message) -> u8
-    ensures { λ r. ⌜ r ≡ firstNo (meaningQuestions (meaningOf m)) ⌝ }
+// Questions 10 and 11, of any message and the byte that said its kind: the number of the first that is answered no, or 0.
+pub fn meaning_refusal(byte: u8, m: Message) -> u8
+    ensures { λ r. ⌜ r ≡ firstNo (meaningQuestions byte (meaningOf m)) ⌝ }
 {
-    if !in_range(m) {
+    if !in_range(most_number(byte), m) {
         return 10;
     }
     if !hosts_fit(m) {

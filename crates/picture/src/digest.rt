@@ -79,7 +79,7 @@ fn heard(d: u64, h: Head) -> u64 {
 fn source(d: u64, s: Source) -> u64 {
     let h = flat::head_of(s);
     let records = s.names;
-    let known = mix(span(d, h), h.distance);
+    let known = mix(mix(span(d, h), h.missed), h.distance);
     names(heard(known, h), records)
 }
 

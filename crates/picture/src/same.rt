@@ -36,6 +36,7 @@ fn heads(a: Head, b: Head) -> bool {
     (a.open == b.open)
         & (a.first == b.first)
         & (a.last == b.last)
+        & (a.missed == b.missed)
         & (a.distance == b.distance)
         & (a.heard == b.heard)
         & (a.stamp == b.stamp)

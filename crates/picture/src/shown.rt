@@ -142,6 +142,7 @@ fn head_line(out: &mut [u8; 65536], n: &mut [usize; 20], source: u64, h: Head) {
     text::put(out, n, b' ');
     text::then_row(out, n, words::SOURCE, [source, 0, 0, 0, 0, 0], 1);
     part(out, n, h.open, words::SPAN, h.first, h.last, words::CLOSED);
+    text::then_row(out, n, words::MISSED, [h.missed, 0, 0, 0, 0, 0], 1);
     text::then_row(out, n, words::DISTANCE, [h.distance, 0, 0, 0, 0, 0], 1);
     part(
         out,

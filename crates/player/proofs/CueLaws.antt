@@ -9,7 +9,7 @@ use lib.Dec.{eqb, lit≤}
 use borrow.Author.Tests.{eqb-true}
 use Rattle.message.specs.Section.{entries, sectionFrom}
 use Rattle.message.specs.Entry.{cueOf, blankCue}
-use Rattle.message.specs.Message.{DATA, RQST, REPL, numberWidth, Meaning, meaningWith, meaningFrom, sizeFrom, fromCues}
+use Rattle.message.specs.Message.{DATA, RQST, REPL, numberWidth, kindByte, Meaning, meaningWith, meaningFrom, sizeFrom, fromCues}
 use Rattle.message.specs.Question.{messageQuestions, sameHost, firstNo}
 use Rattle.message.specs.declared.Name.{Name}
 use Rattle.message.proofs.LayoutLaws.{cues-at, cues-count, atCues, countsWith}
@@ -46,7 +46,7 @@ cue-read : (s : List ℕ) → firstNo (messageQuestions s) ≡ 0 → 24 ≤ leng
 unfolding meaningWith sectionFrom
 cue-read s h =
     let size : sizeFrom s ≡ length s = accepted s h .size in
-    let w : ℕ = numberWidth (getD s 0 0) in
+    let w : ℕ = numberWidth (kindByte s) in
     let t = fromCues w s in
     let count : countsWith w s .cues ≡ getD t 0 0 = cues-count w s in
     let long : length t ≡ length s - atCues w s = ap length (cues-at w s) ∙ length-drop (atCues w s) s in

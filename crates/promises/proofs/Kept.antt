@@ -8,11 +8,14 @@ use Rattle.invariants.proofs.Outputs.{goes-out-right}
 use Rattle.guarantees.proofs.Choice.{choice-is-earliest, no-choice-none-due}
 use Rattle.guarantees.proofs.Fires.{out-is-earliest, nothing-means-none, none-means-nothing, due-means-out, one-less-due, firing-ends}
 use Rattle.guarantees.proofs.BackOff.{opened-c3-below-c1, opened-firing-ends, rounds-rise, set-or-kept, quiet-ignores, once-per-quiet, always-due, rounds-through, always-set, quiet-before-due, one-round-per-quiet}
-use Rattle.guarantees.proofs.Slots.{host-and-params-stay, slots-may-become, waits-until-held, held-until-cleared}
+use Rattle.guarantees.proofs.Slots.{host-and-params-stay, slots-may-become, waits-until-held, held-until-cleared, spans-may-become, retired-are-gone, held-through, waits-or-held-through}
+use Rattle.guarantees.proofs.History.{count-over-history, non-members-count-none}
+use Rattle.guarantees.proofs.HistoryRows.{ten-to-eighty, left-again, whole-season}
+use Rattle.guarantees.proofs.Rises.{rises-by-64, places-as-before, rise-as-before, nothing-retired-up-to-63, none-missed-up-to-63}
 use Rattle.guarantees.proofs.Arrivals.{probe-is-report, probes-answered, refused-changes-nothing, arrival-keeps-status-and-next, held-stays, untouched-stays, other-sources-stay, slots-as-heard, held-is-carried, replies-as-heard, reply-quiet-stays, spans-as-heard, distances-stay}
 use Rattle.guarantees.proofs.Clashes.{other-bytes-clash, clash-means}
 use Rattle.guarantees.proofs.Reasons.{request-quiet-waits}
-use Rattle.roundtrip.proofs.RoundTrip.{reads-back, very-bytes, rewritten, at-most-119, probe-is-empty, only-probe-is-empty}
+use Rattle.roundtrip.proofs.RoundTrip.{reads-back, very-bytes, old-bytes, old-numbers, still-read, means-the-same, rewritten, at-most-127, probe-is-empty, only-probe-is-empty}
 use Rattle.numbers.proofs.NumberLaws.{value-digits, digits-value}
 use Rattle.numbers.proofs.SignedLaws.{signed-back, two-bytes-back}
 use Rattle.message.proofs.CueLaws.{cue-fields-back}
@@ -24,7 +27,7 @@ use Rattle.end.proofs.Service.Unclashed.{never-clashes}
 use Rattle.end.proofs.Reasons.{ignored-for-the-first-reason}
 use Rattle.end.proofs.ReasonLaws.{reason-is-first, none-holds, number-exactly, reason-exactly, none-exactly}
 use Rattle.cases.proofs.Shown.{service-shown, never-returns-clash}
-use Rattle.cases.proofs.Cases.{cases-hold, answers-hold, moves-hold, wire-holds, timed-hold, half-trips-hold, factors-hold, reasons-hold, stage-holds, quiet-holds, clashes-hold, probe-holds}
+use Rattle.cases.proofs.Cases.{cases-hold, answers-hold, moves-hold, wire-holds, timed-hold, half-trips-hold, factors-hold, reasons-hold, stage-holds, quiet-holds, clashes-hold, probe-holds, season-holds}
 use Rattle.promises.specs.Promises.{Promises}
 
 -- by its definition
@@ -42,8 +45,12 @@ promises = record {
     cue-fields-back = cue-fields-back;
     reads-back = reads-back;
     very-bytes = very-bytes;
+    old-bytes = old-bytes;
+    old-numbers = old-numbers;
+    still-read = still-read;
+    means-the-same = means-the-same;
     rewritten = rewritten;
-    at-most-119 = at-most-119;
+    at-most-127 = at-most-127;
     probe-is-empty = probe-is-empty;
     only-probe-is-empty = only-probe-is-empty;
   };
@@ -111,6 +118,22 @@ promises = record {
     quiet-before-due = quiet-before-due;
     one-round-per-quiet = one-round-per-quiet;
   };
+  season = record {
+    count-over-history = count-over-history;
+    non-members-count-none = non-members-count-none;
+    spans-may-become = spans-may-become;
+    retired-are-gone = retired-are-gone;
+    held-through = held-through;
+    waits-or-held-through = waits-or-held-through;
+    rises-by-64 = rises-by-64;
+    places-as-before = places-as-before;
+    rise-as-before = rise-as-before;
+    nothing-retired-up-to-63 = nothing-retired-up-to-63;
+    none-missed-up-to-63 = none-missed-up-to-63;
+    ten-to-eighty = ten-to-eighty;
+    left-again = left-again;
+    whole-season = whole-season;
+  };
   first-reason = ignored-for-the-first-reason;
   reasons = record { reason-is-first = reason-is-first; none-holds = none-holds; request-quiet-waits = request-quiet-waits; number-exactly = number-exactly; reason-exactly = reason-exactly; none-exactly = none-exactly };
   cases = record {
@@ -126,5 +149,6 @@ promises = record {
     quiet = quiet-holds;
     clashes = clashes-hold;
     probe = probe-holds;
+    season = season-holds;
   };
 }

@@ -22,7 +22,7 @@ use Rattle.end.specs.Arrival.{messageName, messageHost, messageCue}
 use Rattle.end.specs.Event.{Action, Arrival, Else, Report as Reporting, questionOf, eventOf}
 use Rattle.end.specs.Clashes.{Clashing}
 use Rattle.guarantees.specs.Calls.{momentAt}
-use Rattle.guarantees.specs.Records.{recordOf, slotOf, HeardAs, ReplyAs}
+use Rattle.guarantees.specs.Records.{recordOf, slotOf, retired, HeardAs, ReplyAs}
 use Rattle.guarantees.specs.Arrivals.{hear, ProbeTaken, SameEnd, isAbout, repairs, risen, reportedUp, hasName, touches, SpanAs, isDataOf, isSessionFrom}
 use Rattle.guarantees.specs.Clashes.{WasClash}
 
@@ -37,8 +37,9 @@ pub record ArrivalsKept : Type 0 where
       → (eventOf e a clock room draws .left ≡ e) × ((out : List ℕ) → bufferOf (eventOf e a clock room draws .outcome) out ≡ out)
   -- Whatever arrives, host, parameters, status and next own number stay.
   pub arrival-keeps-status-and-next : (e : End) (bytes : List ℕ) (clock room : ℕ) (draws : List ℕ) → SameEnd e (hear e bytes clock room draws .left)
-  -- Whatever arrives, a held cue stays held, and stays the same.
+  -- Whatever arrives, a held cue stays held, and stays the same, until it is retired: and it is retired only by a rise (`spans-as-heard`).
   pub held-stays : (e : End) (bytes : List ℕ) (clock room : ℕ) (draws : List ℕ) (h n : ℕ) → h < 8 → isHeld (slotOf e h n) ≡ true
+      → retired e (hear e bytes clock room draws .left) h n ≡ false
       → (isHeld (slotOf (hear e bytes clock room draws .left) h n) ≡ true) × (recordOf (hear e bytes clock room draws .left) h n .cue ≡ recordOf e h n .cue)
   -- Every other record stays exactly as it was, with its cue, request, reply and quiet time.
   pub untouched-stays : (e : End) (bytes : List ℕ) (clock room : ℕ) (draws : List ℕ) (h n : ℕ) → h < 8
@@ -47,8 +48,9 @@ pub record ArrivalsKept : Type 0 where
   pub other-sources-stay : (e : End) (bytes : List ℕ) (clock room : ℕ) (draws : List ℕ) (h n : ℕ) → h < 8
       → hasName (meaningFrom bytes) ≡ true → eqb (messageName (meaningFrom bytes) .source .0) h ≡ false
       → recordOf (hear e bytes clock room draws .left) h n ≡ recordOf e h n
-  -- A slot changes only as `HeardAs` says.
+  -- A slot changes only as `HeardAs` says, unless its number is retired: then nothing is left of it.
   pub slots-as-heard : (e : End) (bytes : List ℕ) (clock room : ℕ) (draws : List ℕ) (h n : ℕ) → h < 8
+      → retired e (hear e bytes clock room draws .left) h n ≡ false
       → HeardAs (momentAt e clock) draws (distanceTo e (asHost h)) n
       (isAbout DATA (meaningFrom bytes) h n || isAbout REPL (meaningFrom bytes) h n) (isAbout RQST (meaningFrom bytes) h n)
       (slotOf e h n) (slotOf (hear e bytes clock room draws .left) h n)
@@ -56,18 +58,21 @@ pub record ArrivalsKept : Type 0 where
   pub held-is-carried : (e : End) (bytes : List ℕ) (clock room : ℕ) (draws : List ℕ) (h n : ℕ) → h < 8 → isHeld (slotOf e h n) ≡ false
       → isHeld (slotOf (hear e bytes clock room draws .left) h n) ≡ true
       → recordOf (hear e bytes clock room draws .left) h n .cue ≡ messageCue (meaningFrom bytes)
-  -- A waiting reply changes only as `ReplyAs` says.
+  -- A waiting reply changes only as `ReplyAs` says, unless its number is retired.
   pub replies-as-heard : (e : End) (bytes : List ℕ) (clock room : ℕ) (draws : List ℕ) (h n : ℕ) → h < 8
+      → retired e (hear e bytes clock room draws .left) h n ≡ false
       → ReplyAs (momentAt e clock) draws (distanceTo e (meaningFrom bytes .sender)) (meaningFrom bytes .sender) n
       (isAbout RQST (meaningFrom bytes) h n) (repairs (meaningFrom bytes) h n (recordOf e h n)) (slotOf e h n) (recordOf e h n .hush)
       (replyIn (slotOf e h n)) (replyIn (slotOf (hear e bytes clock room draws .left) h n))
   -- A reply-quiet time stays or, by a REPL of its name that carries the held cue if one is held, is D3×d after the clock, where d is the
-  -- distance to the host that the REPL names, the requester.
+  -- distance to the host that the REPL names, the requester; unless its number is retired.
   pub reply-quiet-stays : (e : End) (bytes : List ℕ) (clock room : ℕ) (draws : List ℕ) (h n : ℕ) → h < 8
+      → retired e (hear e bytes clock room draws .left) h n ≡ false
       → (recordOf (hear e bytes clock room draws .left) h n .hush ≡ recordOf e h n .hush)
       ⊎ ((repairs (meaningFrom bytes) h n (recordOf e h n) ≡ true)
       × (recordOf (hear e bytes clock room draws .left) h n .hush ≡ quietAfterReply (momentAt e clock) (distanceTo e (messageHost (meaningFrom bytes)))))
-  -- Whatever arrives, a DATA of a source alone gives it a first. First then stays, and last never falls.
+  -- Whatever arrives, a DATA of a source alone gives it a first. First and last then stay, or last rises and first is the greater of itself
+  -- and last − 63.
   pub spans-as-heard : (e : End) (bytes : List ℕ) (clock room : ℕ) (draws : List ℕ) (h : ℕ) → h < 8
       → SpanAs (isDataOf (meaningFrom bytes) h) (sourceAt e (asHost h) .span) (sourceAt (hear e bytes clock room draws .left) (asHost h) .span)
   -- Distance and heard stamp of a host stay, unless a SESS of that host arrives.

@@ -12,8 +12,8 @@ use Rattle.end.specs.declared.Params.{Params}
 use Rattle.end.specs.declared.Request.{Request}
 use Rattle.end.specs.declared.Slot.the-variants.{Waiting}
 use Rattle.end.specs.declared.End.{End}
-use Rattle.end.specs.State.{distanceTo, withClock}
-use Rattle.end.specs.Records.{isHeld}
+use Rattle.end.specs.State.{sourceAt, distanceTo, withClock}
+use Rattle.end.specs.Records.{isBelow, isHeld}
 use Rattle.end.specs.Sound.{timeLimit, soundOf}
 use Rattle.end.specs.Round.{Drawn, factor, share, requestAt, eighthUp, halfTrip}
 use Rattle.end.specs.Answer.{Out, Ignored, Did}
@@ -22,7 +22,7 @@ use Rattle.end.specs.Event.{Action, Arrival, questionOf, eventOf}
 use Rattle.end.specs.Opening.{openingOf}
 use Rattle.end.specs.Run.{CueArray}
 use Rattle.guarantees.specs.Calls.{momentAt, OneCall, after, afterAll}
-use Rattle.guarantees.specs.Records.{recordOf, slotOf, clearing, MayBecome}
+use Rattle.guarantees.specs.Records.{recordOf, slotOf, clearing, retired, MayBecome}
 use Rattle.guarantees.specs.Arrivals.{hear}
 use Rattle.guarantees.specs.Fires.{fire, FireTaken}
 use Rattle.guarantees.specs.BackOff.{SetNow, Hearing, heardAll, AllBy, WaitsThrough, SetIn, DrawsFit, CuesAreArrays, NoneAfter}
@@ -39,14 +39,18 @@ pub record BackOffKept : Type 0 where
   pub least-milliseconds : (e : ℕ) → (e ≤ 8 * eighthUp e) × ((ms : ℕ) → e ≤ 8 * ms → eighthUp e ≤ ms)
   -- And a half trip is that, brought into 1..1000.
   pub half-trip : (e : ℕ) → halfTrip e ≡ max 1 (min 1000 (eighthUp e))
-  -- Every call of every event changes a slot only as `MayBecome` says.
+  -- Every call of every event changes a slot only as `MayBecome` says, unless its number is retired.
   pub slots-may-become : (e : End) (a : Action) (clock room : ℕ) (draws : List ℕ) (h n : ℕ) → h < 8
+      → retired e (eventOf e a clock room draws .left) h n ≡ false
       → MayBecome (clearing a) (momentAt e clock) draws (distanceTo e (asHost h)) n (slotOf e h n) (slotOf (eventOf e a clock room draws .left) h n)
-  -- So a name that waits goes on waiting or gets its cue, with every call but Leave and Crash.
+  -- So a name that waits goes on waiting or gets its cue, with every call but Leave and Crash, until it is retired.
   pub waits-until-held : (e : End) (a : Action) (clock room : ℕ) (draws : List ℕ) (h n : ℕ) (q : Request) → h < 8 → clearing a ≡ false → slotOf e h n ≡ Waiting q
+      → retired e (eventOf e a clock room draws .left) h n ≡ false
       → ((p : Request) × (slotOf (eventOf e a clock room draws .left) h n ≡ Waiting p)) ⊎ (isHeld (slotOf (eventOf e a clock room draws .left) h n) ≡ true)
-  -- And a held cue stays held, and stays the same, with every call but Leave and Crash.
+  -- And a held cue stays held, and stays the same, with every call but Leave and Crash, until it is retired: and it is retired only by a rise
+  -- (`spans-may-become` of the season's promises).
   pub held-until-cleared : (e : End) (a : Action) (clock room : ℕ) (draws : List ℕ) (h n : ℕ) → h < 8 → clearing a ≡ false → isHeld (slotOf e h n) ≡ true
+      → retired e (eventOf e a clock room draws .left) h n ≡ false
       → (isHeld (slotOf (eventOf e a clock room draws .left) h n) ≡ true) × (recordOf (eventOf e a clock room draws .left) h n .cue ≡ recordOf e h n .cue)
   -- On a sound end, while a name waits, its round never falls, and rises by at most one with a call, up to 16.
   pub rounds-rise : (e : End) (a : Action) (clock room : ℕ) (draws : List ℕ) (h n : ℕ) (q p : Request) → soundOf e ≡ true → h < 8
@@ -60,9 +64,10 @@ pub record BackOffKept : Type 0 where
       → questionOf e (Arrival bytes) clock room (length draws) ≡ 0 → meaningFrom bytes .kind ≡ RQST
       → slotOf e (messageName (meaningFrom bytes) .source .0) (messageName (meaningFrom bytes) .number .0) ≡ Waiting q → clock ≤ q .quiet
       → hear e bytes clock room draws ≡ record { outcome = Did Ignored; left = withClock e clock }
-  -- However many requests and other bytes arrive up to its quiet-until, a request that waits stays the very same, or gives way to its cue:
-  -- once it has backed off, it does not back off again in its quiet time.
+  -- However many requests and other bytes arrive up to its quiet-until, a request that waits stays the very same, or gives way to its cue, as
+  -- long as first has not passed its number: once it has backed off, it does not back off again in its quiet time.
   pub once-per-quiet : (e : End) (h n : ℕ) (q : Request) → h < 8 → slotOf e h n ≡ Waiting q → (xs : List Hearing) → AllBy (q .quiet) xs
+      → isBelow (sourceAt (heardAll e xs) (asHost h) .span) n ≡ false
       → (slotOf (heardAll e xs) h n ≡ Waiting q) ⊎ (isHeld (slotOf (heardAll e xs) h n) ≡ true)
   -- A request that waits always has a due time, below 2^48+2^32; and from then on Fire of the member puts something out. A due time from
   -- 2^48 on is never reached, since no clock is that late. What goes out may be an earlier wait; by `OneLessDue` this one follows after at

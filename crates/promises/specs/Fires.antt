@@ -49,7 +49,7 @@ pub record FiresKept : Type 0 where
   pub one-less-due : (e : End) (clock room : ℕ) (draws bytes : List ℕ) → 1 ≤ e .params .c1 → fire e clock room draws .outcome ≡ Did (Out bytes)
       → dueWaits (fire e clock room draws .left) + 1 ≡ dueWaits (withClock e clock)
   -- Repeated Fire at one clock ends: at most as many calls put something out as waits were due before the first, and these are at most
-  -- one for each of the 512 names. (A sound state may have C1 = 0; only an opening asks for C3 < C1. Then a request could be due again at
+  -- one for each of the latest 64 numbers of 8 sources. (A sound state may have C1 = 0; only an opening asks for C3 < C1. Then a request could be due again at
   -- once.)
   pub firing-ends : (e : End) (clock room : ℕ) (calls : List (List ℕ)) → 1 ≤ e .params .c1 → AllOut clock room e calls
       → (length calls ≤ dueWaits (withClock e clock)) × (dueWaits (withClock e clock) ≤ 512)

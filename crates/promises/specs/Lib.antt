@@ -6,3 +6,4 @@ pub mod Arrivals
 pub mod BackOff
 pub mod Reasons
 pub mod Promises
+pub mod Season

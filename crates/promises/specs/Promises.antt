@@ -22,6 +22,7 @@ use Rattle.cases.specs.Stage.{stageRows}
 use Rattle.cases.specs.Quiet.{quietRows}
 use Rattle.cases.specs.Clashes.{clashRows}
 use Rattle.cases.specs.Probe.{probeRows}
+use Rattle.cases.specs.Season.{seasonRows}
 use Rattle.promises.specs.Wire.{WireKept}
 use Rattle.promises.specs.Service.{ServiceKept}
 use Rattle.promises.specs.States.{StatesKept}
@@ -29,9 +30,10 @@ use Rattle.promises.specs.Fires.{FiresKept}
 use Rattle.promises.specs.Arrivals.{ArrivalsKept}
 use Rattle.promises.specs.BackOff.{BackOffKept}
 use Rattle.promises.specs.Reasons.{ReasonsKept}
+use Rattle.promises.specs.Season.{SeasonKept}
 
 -- document 01's cases and what else is pinned by computed rows: the answers one by one, the 25 moves by status, messages as bytes, times, a run by answers and
--- buffers, reply-quiet times, clashes, the probe
+-- buffers, reply-quiet times, clashes, the probe, a season's rises
 pub record CasesKept : Type 0 where
   pub starred : Hold rows
   pub answers : Hold answerRows
@@ -45,6 +47,7 @@ pub record CasesKept : Type 0 where
   pub quiet : Hold quietRows
   pub clashes : Hold clashRows
   pub probe : Hold probeRows
+  pub season : Hold seasonRows
 
 pub record Promises : Type 0 where
   -- demand 2, the wire: "Each message written reads back as itself, and each accepted message is the very bytes .."
@@ -65,5 +68,7 @@ pub record Promises : Type 0 where
   pub reasons : ReasonsKept
   -- requests back off, within their bounds
   pub back-off : BackOffKept
+  -- the latest 64 numbers of a source are kept, and the count of those retired without a cue is right: document 02, P7
+  pub season : SeasonKept
   -- "Cases (* is proved)"
   pub cases : CasesKept

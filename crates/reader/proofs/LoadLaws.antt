@@ -11,7 +11,7 @@ use lib.Seq.{drop-drop}
 use Rattle.numbers.specs.Number.{value}
 use Rattle.message.specs.Section.{entries, sectionFrom}
 use Rattle.message.specs.Entry.{asHost, nameWidth, nameOf, cueWidth, cueOf, reportWidth, reportOf, echoWidth, echoOf, blankName, blankCue, blankReport, blankEcho}
-use Rattle.message.specs.Message.{meaningWith, heldAs, namePlaces, reportPlaces, echoPlaces, fromNames, fromCues, fromReports, fromEchoes}
+use Rattle.message.specs.Message.{kindOf, kindByte, meaningWith, heldAs, namePlaces, reportPlaces, echoPlaces, fromNames, fromCues, fromReports, fromEchoes}
 use Rattle.message.specs.declared.Counts.{Counts}
 use Rattle.message.specs.declared.Message.{Message}
 use Rattle.message.proofs.SectionLaws.{length-entries, entries-more, fill-next}
@@ -113,7 +113,7 @@ module _ (w : ℕ) (s : List ℕ) where
   -- what the reader loads by the counts c
   abbrev pub loadedBy : Counts → Message
   loadedBy c = record {
-    kind = getD s 0 0;
+    kind = kindOf (kindByte s);
     sender = asHost (getD s 1 0);
     stamp = value (take 6 (drop 2 s));
     counts = c;
@@ -128,7 +128,7 @@ module _ (w : ℕ) (s : List ℕ) where
   loaded =
       let c : Counts = countsWith w s in
       λ i. record {
-        kind = getD s 0 0;
+        kind = kindOf (kindByte s);
         sender = asHost (getD s 1 0);
         stamp = value (take 6 (drop 2 s));
         counts = c;

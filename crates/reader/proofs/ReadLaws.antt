@@ -4,17 +4,17 @@ use Prim.Native.Nat.{ℕ, zero, suc, _<_}
 use native.Mathlib.Omega.{arith}
 use mathlib.Core.Bool.{Bool, true, false, cond, _&&_}
 use mathlib.Core.List.{List, [], _∷_}
-use lib.ListN.{length, getD, take}
+use lib.ListN.{length, take}
 use lib.Dec.{leb, eqb}
 use borrow.Author.Tests.{eqb-true}
-use Rattle.message.specs.Message.{Meaning, meaningWith, meaningFrom, meaningOf, countsOf, heldAs, sizeWith, sizeFrom}
+use Rattle.message.specs.Message.{Meaning, kindOf, kindByte, meaningWith, meaningFrom, meaningOf, countsOf, heldAs, sizeWith, sizeFrom}
 use Rattle.message.specs.declared.Counts.{Counts}
 use Rattle.message.specs.Question.{ask, firstNo, verdictFor, messageQuestions, meaningQuestions, kindHasCounts, blankMessage, messageFor, readRefusal, readOf, refusalOf}
 use Rattle.message.specs.declared.Message.{Message}
 use Rattle.message.specs.declared.Reading.{Reading}
 use Rattle.message.specs.declared.Verdict.the-variants.{Accepted, Probe, Refused}
 use Rattle.message.proofs.LayoutLaws.{held-back}
-use Rattle.message.proofs.QuestionLaws.{and-both, all-passed, counts-small}
+use Rattle.message.proofs.QuestionLaws.{and-both, all-passed, counts-fit}
 use Rattle.reader.specs.Counting.{WidthIn, CountsIn, Loadable}
 
 -- no bytes are a probe
@@ -48,7 +48,7 @@ module _ (s : List ℕ) where
   Whole = leb 12 (length s) && eqb (sizeFrom s) (length s)
 
   abbrev pub HasCounts : Bool
-  HasCounts = kindHasCounts (getD s 0 0) (countsOf (meaningFrom s))
+  HasCounts = kindHasCounts (kindOf (kindByte s)) (countsOf (meaningFrom s))
 
   -- the code's tests are the definitions
   module _ {w : ℕ} {c : Counts} (v : WidthIn s w) (k : CountsIn w s c) where
@@ -61,8 +61,8 @@ module _ (s : List ℕ) where
     pub whole-is : {size : ℕ} → size ≡ sizeWith w c → (leb 12 (length s) && eqb size (length s)) ≡ Whole
     whole-is e = ap (λ (x : ℕ). leb 12 (length s) && eqb x (length s)) (e ∙ sized)
 
-    pub counts-are : kindHasCounts (getD s 0 0) c ≡ HasCounts
-    counts-are = ap (kindHasCounts (getD s 0 0)) counted
+    pub counts-are : {kind : ℕ} → kind ≡ kindOf (kindByte s) → kindHasCounts kind c ≡ HasCounts
+    counts-are e = λ i. kindHasCounts (e i) (counted i)
 
   -- questions 8 and 9 were answered yes
   pub record Passed : Type 0 where
@@ -77,20 +77,20 @@ module _ (s : List ℕ) where
   -- so the message can be loaded
   pub loadable : {w : ℕ} {c : Counts} → WidthIn s w → CountsIn w s c → Passed → Loadable w s c
   loadable v k p =
-      let small = counts-small (getD s 0 0) (countsOf (meaningFrom s)) (p .counts) in
+      let small = counts-fit (kindByte s) (kindOf (kindByte s)) (countsOf (meaningFrom s)) (p .counts) in
       let size = eqb-true (sizeFrom s) (length s) (and-both (leb 12 (length s)) _ (p .whole) .1) in
       record { counts = k .counts; size = sized v k ∙ size; small = rw (v .width, counted v k) small; widest = v .widest }
 
   pub refused-first : 0 < length s → (k : ℕ) → 0 < k → k ≡ firstNo (take 2 (messageQuestions s)) → readRefusal s ≡ k
-  refused-first l k p e = asked-some s l ∙ first-two Whole HasCounts (firstNo (meaningQuestions (meaningFrom s))) k p e
+  refused-first l k p e = asked-some s l ∙ first-two Whole HasCounts (firstNo (meaningQuestions (kindByte s) (meaningFrom s))) k p e
 
   -- after 8 and 9 the message that was loaded decides
   pub refused-by : 0 < length s → Passed → (m : Message) → m ≡ heldAs (meaningFrom s)
-      → readRefusal s ≡ firstNo (meaningQuestions (meaningOf m))
+      → readRefusal s ≡ firstNo (meaningQuestions (kindByte s) (meaningOf m))
   refused-by l p m e =
-      let small = counts-small (getD s 0 0) (countsOf (meaningFrom s)) (p .counts) in
+      let small = counts-fit (kindByte s) (kindOf (kindByte s)) (countsOf (meaningFrom s)) (p .counts) in
       let same : meaningOf m ≡ meaningFrom s = ap meaningOf e ∙ held-back (meaningFrom s) (small .cues) in
-      rw (asked-some s l, p .whole, p .counts) (ap (λ (M : Meaning). firstNo (meaningQuestions M)) (sym same))
+      rw (asked-some s l, p .whole, p .counts) (ap (λ (M : Meaning). firstNo (meaningQuestions (kindByte s) M)) (sym same))
 
   -- a refusal, and an acceptance
   pub no : 0 < length s → (k : ℕ) (r : Reading) → 0 < k → readRefusal s ≡ k → r ≡ record { verdict = Refused k; message = blankMessage }

@@ -4,7 +4,7 @@ use Prim.Native.Nat.{ℕ, _*_, _≤_, _<_}
 use mathlib.Core.List.{List}
 use lib.ListN.{length, getD}
 use Rattle.message.specs.Kind.{numberWidth, widestNumber}
-use Rattle.message.specs.Message.{countsOf, meaningWith, sizeWith, Small}
+use Rattle.message.specs.Message.{kindByte, countsOf, meaningWith, sizeWith, Small}
 use Rattle.message.specs.declared.Counts.{Counts}
 
 -- r is the byte at a place, and 0 past the end
@@ -29,9 +29,9 @@ pub record CountsIn (w : ℕ) (s : List ℕ) (c : Counts) : Type 0 where
   pub counts : c ≡ countsOf (meaningWith w s)
   pub bytes : CountBytes c
 
--- w is the width that the first byte, the kind, asks for
+-- w is the width that the kind byte asks for
 pub record WidthIn (s : List ℕ) (w : ℕ) : Type 0 where
-  pub width : w ≡ numberWidth (getD s 0 0)
+  pub width : w ≡ numberWidth (kindByte s)
   pub widest : w ≤ widestNumber
 
 -- the counts account for the length, and fit the places

@@ -85,7 +85,7 @@ fn read_number(s: &[u8], at: usize, w: usize) -> CueNumber
     requires { ⌜ at + w ≤ length (now s) ⌝ }
     ensures { λ r. ⌜ r .0 ≡ value (take w (drop at (now (s .entry)))) ⌝ }
 {
-    CueNumber(numbers::read_be(s, at, w) as u8)
+    CueNumber(numbers::read_be(s, at, w) as u16)
 }
 
 fn read_name(s: &[u8], at: usize, w: usize) -> NameEntry
@@ -209,7 +209,7 @@ fn load(s: &[u8], w: usize, c: Counts) -> Message
     let cues = c.cues * CUE_WIDTH;
     let reports = c.reports * (REPORT_HOSTS + w);
     Message {
-        kind: s[0],
+        kind: message::kind_of(s[0]),
         sender: Host(s[1]),
         stamp: numbers::read_be(s, 2, 6),
         counts: c,
@@ -231,7 +231,7 @@ fn counts_refusal(s: &[u8], w: usize, c: Counts) -> u8
     if !whole {
         return 8;
     }
-    if !message::kind_has_counts(s[0], c) {
+    if !message::kind_has_counts(message::kind_of(s[0]), c) {
         return 9;
     }
     0
@@ -269,7 +269,7 @@ fn read_message(s: &[u8]) -> Reading
         return refused(first);
     }
     let m = load(s, w, c);
-    let q = message::meaning_refusal(m);
+    let q = message::meaning_refusal(s[0], m);
     if q != 0 {
         return refused(q);
     }

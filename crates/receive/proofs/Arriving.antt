@@ -8,6 +8,7 @@ use lib.ListN.{length, take, getD}
 use Rattle.message.specs.declared.Host.{Host}
 use Rattle.message.specs.declared.Report.{Report}
 use Rattle.message.specs.declared.Message.{Message}
+use Rattle.message.specs.Limit.{numberLimit}
 use Rattle.message.specs.Section.{all}
 use Rattle.message.specs.Entry.{blankReport}
 use Rattle.message.specs.Message.{meaningOf}
@@ -23,7 +24,7 @@ use Rattle.end.specs.Arrival.{arrivalOf}
 use Rattle.end.proofs.Ready.{ranges}
 use Rattle.state.specs.declared.Change.{Change}
 use Rattle.state.specs.Change.{changed}
-use Rattle.receive.specs.Hearing.{Hearing, HearingOn}
+use Rattle.receive.specs.Hearing.{AllCounted, Hearing, HearingOn}
 use Rattle.receive.specs.Steps.{isNamed, askerIn, reportsFor, subjectOf, effectOn, leftOn}
 use Rattle.receive.proofs.Lists.{used-at, none-taken, none-most, none-all}
 use Rattle.receive.proofs.Passes.{report-in, in-range, asker-in}
@@ -35,7 +36,7 @@ pub record Known (e : End) (m : Message) (draws room : ℕ) (t : Moment) (d coun
   pub moment : t ≡ momentOf e
   pub away : d ≡ distanceTo e (askerIn (meaningOf m))
   pub most : count ≤ 8
-  pub reports-in : all reportIn (take count (m .reports)) ≡ true
+  pub reports-in : all (reportIn 65535) (take count (m .reports)) ≡ true
   pub heard : take count (m .reports) ≡ reportsFor (e .host) (meaningOf m)
 
 -- it follows from what the functions before the loop promise
@@ -50,24 +51,26 @@ known e m draws room t asker d count h p q r k =
       moment = p;
       away = r ∙ ap (distanceTo e) q;
       most = rw same (none-most none (m .counts .reports) 8 (counts-small (m .kind) (m .counts) (h .passed .counts-in) .reports));
-      reports-in = rw same (none-all reportIn none (m .counts .reports) (m .reports) (in-range (meaningOf m) (h .passed .ranges-in) .reports));
+      reports-in = rw same (none-all (reportIn 65535) none (m .counts .reports) (m .reports) (in-range (meaningOf m) (h .passed .ranges-in) .reports));
       heard = rw same (none-taken none (m .counts .reports) (m .reports));
     }
 
 module _ (e : End) (m : Message) (draws room : ℕ) (t : Moment) (d count : ℕ) (k : Known e m draws room t d count) where
   -- the report of a turn is in range
-  pub turn-in : (i : ℕ) (r : Report) → i < count → (r ≡ getD (m .reports) i blankReport) × (length (m .reports) ≡ 8) → (r .source .0 < 8) × (r .last .0 < 64)
+  pub turn-in : (i : ℕ) (r : Report) → i < count → (r ≡ getD (m .reports) i blankReport) × (length (m .reports) ≡ 8)
+      → (r .source .0 < 8) × (r .last .0 < numberLimit)
   turn-in i r h p =
-      report-in r (ap reportIn (p .0) ∙ used-at reportIn count (m .reports) i blankReport (k .reports-in) h (omega (arith, k .most, p .1)))
+      report-in r (ap (reportIn 65535) (p .0) ∙ used-at (reportIn 65535) count (m .reports) i blankReport (k .reports-in) h (omega (arith, k .most, p .1)))
 
   -- the end that some of the reports left, and a source of it
   module _ (us : List ℕ) (l : List Report) (x : End) (p : x ≡ allReported t us l e) (h : Host) (small : h .0 < 8) where
     pub turn-ranges : Ranges t (distanceTo x h)
     turn-ranges = reports-ranges t us l e x (k .hearing .ready) (k .moment) p h small
 
-    pub hearing-on : HearingOn t (distanceTo x h) d m draws room
-    hearing-on = record {
+    pub hearing-on : AllCounted x → HearingOn t (sourceAt x h) d m draws room
+    hearing-on c = record {
       source = turn-ranges;
+      counted = c h small;
       requester = rw (k .away, k .moment) (ranges e (k .hearing .ready) (askerIn (meaningOf m)) (asker-in (meaningOf m) (k .hearing .passed .ranges-in)));
       passed = k .hearing .passed;
     }

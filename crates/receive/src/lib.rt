@@ -32,7 +32,7 @@ ghost use mathlib.Core.List.{_++_};
 ghost use Prim.Native.Nat.{_+_, _-_, _≤_, _<_};
 ghost use lib.ListN.{length, getD, take, drop};
 ghost use lib.Dec.{leb};
-ghost use Rattle.message.specs.Limit.{ticksLimit};
+ghost use Rattle.message.specs.Limit.{numberLimit, ticksLimit};
 ghost use Rattle.message.specs.Section.{all};
 ghost use Rattle.message.specs.Entry.{blankName, blankReport};
 ghost use Rattle.message.specs.Message.{reportPlaces, echoPlaces, meaningOf};
@@ -44,6 +44,7 @@ ghost use Rattle.end.specs.Decide.{decide, effectOf};
 ghost use Rattle.end.specs.Session.{reportedSource, measured, heardFrom};
 ghost use Rattle.end.specs.Why.{because};
 ghost use Rattle.end.specs.Arrival.{messageCue, requesterIn, arrivalOf};
+ghost use Rattle.state.specs.Counted.{Counted};
 ghost use Rattle.decide.specs.Step.{Heeded, stepped};
 ghost use Rattle.receive.specs.Steps.{isNamed, saysIn, askerIn, wordIn, subjectOf, effectOn, leftOn, isGot};
 ghost use Rattle.receive.specs.Reason.{namedReason, reasonFor};
@@ -169,6 +170,7 @@ fn report_at(reports: [Report; 8], i: usize) -> Report
 fn report(t: Moment, draws: &[Draw], r: Report, s: Source) -> Source
     requires { ⌜ Ranges t (s .distance) ⌝ }
     requires { ⌜ Numbered (r .last .0) (length (now draws)) ⌝ }
+    requires { ⌜ Counted s ⌝ }
     ensures { λ x. ⌜ x ≡ reportedSource t (now (draws .entry)) r s ⌝ }
 {
     let span = s.span;
@@ -212,7 +214,7 @@ fn measure(me: Host, clock: u64, echoes: [Echo; 7], count: usize, d: u64) -> u64
 // The sender's source: it is heard now, and its distance measured.
 fn hear(t: Moment, m: Message, s: Source) -> Source
     requires { ⌜ m .counts .echoes ≤ echoPlaces ⌝ }
-    requires { ⌜ inRange (meaningOf m) ≡ true ⌝ }
+    requires { ⌜ inRange (numberLimit - 1) (meaningOf m) ≡ true ⌝ }
     requires { ⌜ t .clock < ticksLimit ⌝ }
     ensures { λ r. ⌜ r ≡ heardFrom t (meaningOf m) s ⌝ }
 {
@@ -251,7 +253,7 @@ fn emit(answer: Answer, cue: &[u8; 24], out: &mut [u8])
 
 // Its step on the name's source, and the cue of a Got in the output.
 fn about_name(t: Moment, draws: &[Draw], w: Word, s: Source, out: &mut [u8]) -> Change
-    requires { ⌜ Heeded t w (s .distance) (length (now draws)) ⌝ }
+    requires { ⌜ Heeded t w s (length (now draws)) ⌝ }
     requires { ⌜ 24 ≤ length (now out) ⌝ }
     ensures { λ r. ⌜ r ≡ stepped t (now (draws .entry)) w s ⌝ }
     ensures { λ _. ⌜ now (out .exit) ≡ bufferOf (Did (effectOf w (decide t w s))) (now (out .entry)) ⌝ }
@@ -267,7 +269,7 @@ fn about_name(t: Moment, draws: &[Draw], w: Word, s: Source, out: &mut [u8]) -> 
 
 // What is decided on a message about a name, if it is that the message is ignored. No distance is looked at.
 fn named_reason(e: End, m: Message) -> Why
-    requires { ⌜ inRange (meaningOf m) ≡ true ⌝ }
+    requires { ⌜ inRange (numberLimit - 1) (meaningOf m) ≡ true ⌝ }
     ensures { λ r. ⌜ r ≡ because (namedReason (meaningOf m) e) ⌝ }
 {
     let t = state::moment_of(e);
@@ -282,7 +284,7 @@ fn named_reason(e: End, m: Message) -> Why
 
 // The reasons of a member, its clock set: a message of one's own, or what is decided on a message about a name.
 pub fn reason(e: End, m: Message) -> Why
-    requires { ⌜ inRange (meaningOf m) ≡ true ⌝ }
+    requires { ⌜ inRange (numberLimit - 1) (meaningOf m) ≡ true ⌝ }
     ensures { λ r. ⌜ r ≡ because (reasonFor (meaningOf m) e) ⌝ }
 {
     if m.sender.0 == e.host.0 {
@@ -299,7 +301,7 @@ pub fn reason(e: End, m: Message) -> Why
 
 // Its step on the source that it is about, with the distance d to who asked. A message of one's own is ignored.
 fn step_source(t: Moment, draws: &[Draw], m: Message, d: u64, s: Source, out: &mut [u8]) -> Change
-    requires { ⌜ HearingOn t (s .distance) d m (length (now draws)) (length (now out)) ⌝ }
+    requires { ⌜ HearingOn t s d m (length (now draws)) (length (now out)) ⌝ }
     ensures { λ r. ⌜ r ≡ record { answer = answerOf (Did (effectOn t d (meaningOf m) s)); source = leftOn t (now (draws .entry)) d (meaningOf m) s } ⌝ }
     ensures { λ _. ⌜ now (out .exit) ≡ bufferOf (Did (effectOn t d (meaningOf m) s)) (now (out .entry)) ⌝ }
 {

@@ -1,7 +1,7 @@
 -- What the equations of a function's calls come to, over plain values: one law for each function. A proof finds the equations that its
 -- law asks for by itself (`search`), so that it counts no positions.
 use mathlib.Core.Path.{_≡_, sym, ap, _∙_}
-use Prim.Native.Nat.{ℕ, _+_, _-_, max}
+use Prim.Native.Nat.{ℕ, _+_, _-_, _≤_, min, max}
 use native.Mathlib.Omega.{arith}
 use mathlib.Core.Bool.{Bool, true, false, _&&_}
 use mathlib.Core.List.{List}
@@ -19,9 +19,11 @@ use Rattle.end.specs.declared.Span.the-variants.{Open}
 use Rattle.end.specs.declared.Source.{Source}
 use Rattle.end.specs.declared.Moment.{Moment}
 use Rattle.end.specs.State.{noRecord, blankRecord}
-use Rattle.end.specs.Records.{within, isBelow, isAbove, place, recordAt, withRecord, withReply}
+use Rattle.end.specs.Records.{within, isBelow, isAbove, place, isHeld, rawAt, recordAt, withRecord, withReply}
 use Rattle.end.specs.Round.{requestAt, replyDue, quietAfterReply}
-use Rattle.end.specs.Names.{asking, setRound, setReply, quietReply, requested, rise}
+use Rattle.end.specs.Names.{asking, setRound, setReply, quietReply, asked, filled, lacking, holdsCue, riseWith, rise}
+use Rattle.end.proofs.RecordLaws.{within-in, at-inside}
+use Rattle.end.proofs.Lacking.{lacking-same}
 
 -- ---- first and last, of a span that was matched
 module _ {x : Span} {first last : CueNumber} (n : ℕ) (e : x ≡ Open first last) where
@@ -35,7 +37,8 @@ module _ {x : Span} {first last : CueNumber} (n : ℕ) (e : x ≡ Open first las
   open-above = rw e
 
 -- ---- the record of a number, by the test whether it is within
-pub at-in : (s : Source) (n : ℕ) {at : ℕ} {inside : Bool} → at ≡ place n → inside ≡ within (s .span) n → inside ≡ true → getD (s .names) at noRecord ≡ recordAt s n
+pub at-in : (s : Source) (n : ℕ) {at : ℕ} {inside : Bool} → at ≡ place n → inside ≡ within (s .span) n → inside ≡ true
+    → getD (s .names) at noRecord ≡ recordAt s n
 unfolding recordAt
 at-in s n p w t = rw (p, ← w, t)
 
@@ -60,19 +63,22 @@ reply-quieted t n d s x slot r hush = rw (x, slot, r, hush)
 
 -- ---- last rises
 module _ (t : Moment) (us : List ℕ) (n : ℕ) (s : Source) (first last : CueNumber) where
-  -- the numbers from above last up to n are asked for
-  pub all-asked : {top : CueNumber} {names : List Record} → top .0 ≡ max (last .0) n
-      → names ≡ requested t us (s .distance) (n + 1 - (last .0 + 1)) (last .0 + 1) (s .names)
-      → record { span = Open first top; distance = s .distance; heard = s .heard; names = names } ≡ rise t us n s (Open first last)
-  unfolding rise
-  all-asked top names =
-      let count : n + 1 - (last .0 + 1) ≡ n - last .0 = omega arith in
-      λ i. record {
-        span = Open first (asNumber (top i));
-        distance = s .distance;
-        heard = s .heard;
-        names = (names ∙ ap (λ (k : ℕ). requested t us (s .distance) k (last .0 + 1) (s .names)) count) i;
-      }
+  -- of first..last, what stands in a number's place is its record
+  in-places : {old : ℕ} → s .span ≡ Open first last → old ≤ last .0 + 1
+      → lacking (λ m. isHeld (rawAt (s .names) m .slot)) (old - first .0) (first .0) ≡ lacking (holdsCue s) (old - first .0) (first .0)
+  in-places {old} e most = lacking-same _ (holdsCue s) (old - first .0) (first .0)
+      (λ j a b. ap (λ (r : Record). isHeld (r .slot)) (sym (at-inside s j (rw e (within-in (first .0) (last .0) j a (omega arith))))))
+
+  pub all-risen : {l floor lo old new lacked passed : ℕ} {names : List Record} → s .span ≡ Open first last
+      → l ≡ max (last .0) n → floor ≡ l - 63 → lo ≡ max (first .0) floor → old ≡ min lo (last .0 + 1) → new ≡ max lo (last .0 + 1)
+      → lacked ≡ lacking (λ m. isHeld (rawAt (s .names) m .slot)) (old - first .0) (first .0) → passed ≡ lo - (last .0 + 1)
+      → names ≡ filled (asked t us (s .distance)) (l + 1 - new) new (s .names)
+      → record { span = Open (asNumber lo) (asNumber l); missed = s .missed + lacked + passed; distance = s .distance; heard = s .heard; names = names }
+      ≡ rise t us n s (Open first last)
+  unfolding riseWith
+  all-risen {old = k} e l floor lo old new lacked passed names =
+      let most : k ≤ last .0 + 1 = omega (arith, old) in
+      rw (names, passed, lacked, in-places e most, new, old, lo, floor, l)
 
   pub rise-open : {x : Source} → x ≡ rise t us n s (Open first last) → s .span ≡ Open first last → x ≡ rise t us n s (s .span)
   rise-open x e = x ∙ ap (λ (y : Span). rise t us n s y) (sym e)

@@ -1,7 +1,8 @@
 // A source's records by cue number: each function is one definition of the crate end, specs/Records.antt and specs/Names.antt. They
 // are helpers of the crates above and no calls of the product: each asks in its `requires` for what soundness and the questions give.
-// Where a number's record and draw stand is known here alone, by `place`.
+// Where a number's record and draw stand is said by `state::place` alone.
 use end::Draw;
+use end::KEPT;
 use end::Moment;
 use end::Record;
 use end::Reply;
@@ -12,14 +13,15 @@ use end::Span;
 use message::CueNumber;
 use message::Host;
 ghost use mathlib.Core.Path.{_≡_};
-ghost use Prim.Native.Nat.{_-_, _≤_, _<_, max};
+ghost use Prim.Native.Nat.{_-_, _≤_, _<_, min, max};
 ghost use lib.ListN.{length};
 ghost use Rattle.message.specs.Limit.{numberLimit};
-ghost use Rattle.end.specs.State.{places, blankRecord};
-ghost use Rattle.end.specs.Records.{place, within, isBelow, isAbove, recordAt, withRecord};
+ghost use Rattle.end.specs.State.{blankRecord};
+ghost use Rattle.end.specs.Records.{within, isBelow, isAbove, isHeld, rawAt, recordAt, withRecord};
 ghost use Rattle.end.specs.Round.{drawCount, drawAt, requestAt, replyDue};
-ghost use Rattle.end.specs.Names.{asking, setRound, hold, setReply, quietReply, requested, rise};
+ghost use Rattle.end.specs.Names.{setRound, hold, setReply, quietReply, asked, filled, lacks, lacking, rise};
 ghost use Rattle.end.specs.Ready.{Ranges, Numbered};
+ghost use Rattle.state.specs.Counted.{Counted};
 
 // ---- first and last
 
@@ -50,21 +52,7 @@ pub fn is_above(span: Span, n: CueNumber) -> bool
     }
 }
 
-// The higher of two numbers of one source.
-fn later(a: CueNumber, b: CueNumber) -> CueNumber
-    ensures { λ r. ⌜ r .0 ≡ max (a .0) (b .0) ⌝ }
-{
-    if a.0 < b.0 { b } else { a }
-}
-
 // ---- the record of a number
-
-// Where a number's record stands among a source's, and its draw among the draws.
-pub fn place(n: CueNumber) -> usize
-    ensures { λ r. ⌜ r ≡ place (n .0) ⌝ }
-{
-    n.0 as usize
-}
 
 pub fn blank_record() -> Record
     ensures { λ r. ⌜ r ≡ blankRecord ⌝ }
@@ -78,12 +66,11 @@ pub fn blank_record() -> Record
 
 // What the source has of a number: nothing outside first..last.
 pub fn record_at(s: Source, n: CueNumber) -> Record
-    requires { ⌜ n .0 < numberLimit ⌝ }
     ensures { λ r. ⌜ r ≡ recordAt s (n .0) ⌝ }
 {
     let span = s.span;
     if is_within(span, n) {
-        let at = place(n);
+        let at = state::place(n.0 as u64);
         s.names[at]
     } else {
         blank_record()
@@ -92,10 +79,9 @@ pub fn record_at(s: Source, n: CueNumber) -> Record
 
 // The source with another record of a number.
 pub fn with_record(s: Source, n: CueNumber, r: Record) -> Source
-    requires { ⌜ n .0 < numberLimit ⌝ }
     ensures { λ x. ⌜ x ≡ withRecord s (n .0) r ⌝ }
 {
-    let at = place(n);
+    let at = state::place(n.0 as u64);
     let mut out = s;
     out.names[at] = r;
     out
@@ -105,7 +91,7 @@ pub fn draw_at(draws: &[Draw], n: CueNumber) -> Draw
     requires { ⌜ Numbered (n .0) (length (now draws)) ⌝ }
     ensures { λ r. ⌜ r ≡ drawAt (now (draws .entry)) (n .0) ⌝ }
 {
-    let at = place(n);
+    let at = state::place(n.0 as u64);
     draws[at]
 }
 
@@ -152,7 +138,6 @@ pub fn set_round(s: Source, t: Moment, draws: &[Draw], n: CueNumber, k: u8) -> S
 
 // Holds a cue under a number.
 pub fn hold_cue(s: Source, n: CueNumber, cue: [u8; 24]) -> Source
-    requires { ⌜ n .0 < numberLimit ⌝ }
     ensures { λ r. ⌜ r ≡ hold (n .0) cue s ⌝ }
 {
     let r = record_at(s, n);
@@ -193,7 +178,6 @@ pub fn set_reply(
 // Drops a number's reply and sets its reply-quiet time, for a requester who is d away.
 pub fn quiet_reply(s: Source, t: Moment, n: CueNumber, d: u64) -> Source
     requires { ⌜ Ranges t d ⌝ }
-    requires { ⌜ n .0 < numberLimit ⌝ }
     ensures { λ r. ⌜ r ≡ quietReply t (n .0) d s ⌝ }
 {
     let hush = timing::quiet_after_reply(t, d);
@@ -207,11 +191,56 @@ pub fn quiet_reply(s: Source, t: Moment, n: CueNumber, d: u64) -> Source
 
 // ---- last rises
 
+fn greater(a: u64, b: u64) -> u64
+    ensures { λ r. ⌜ r ≡ max a b ⌝ }
+{
+    if a < b { b } else { a }
+}
+
+fn lesser(a: u64, b: u64) -> u64
+    ensures { λ r. ⌜ r ≡ min a b ⌝ }
+{
+    if a < b { a } else { b }
+}
+
+// How far a is above b, 0 where it is not.
+fn above(a: u64, b: u64) -> u64
+    ensures { λ r. ⌜ r ≡ a - b ⌝ }
+{
+    if a < b { 0 } else { a - b }
+}
+
+// 1 for a number without a cue.
+fn lack(slot: Slot) -> u64
+    ensures { λ r. ⌜ r ≡ lacks (isHeld slot) ⌝ }
+    ensures { λ r. ⌜ r ≤ 1 ⌝ }
+{
+    if state::is_held(slot) { 0 } else { 1 }
+}
+
+// How many of the numbers from `from` on, below `to`, have no cue in their places.
+fn count_lacking(names: [Record; 64], from: u64, to: u64) -> u64
+    requires { ⌜ to ≤ numberLimit ⌝ }
+    ensures { λ r. ⌜ r ≡ lacking (λ m. isHeld (rawAt names m .slot)) (to - from) from ⌝ }
+    ensures { λ r. ⌜ r ≤ numberLimit ⌝ }
+{
+    let mut count = 0;
+    let mut i = from;
+    while i < to {
+        let at = state::place(i);
+        let r = names[at];
+        let slot = r.slot;
+        count += lack(slot);
+        i += 1;
+    }
+    count
+}
+
 // What an end keeps of a new number: round 1, with the distance d to the source.
 fn fresh_record(t: Moment, draws: &[Draw], d: u64, n: CueNumber) -> Record
     requires { ⌜ Ranges t d ⌝ }
     requires { ⌜ Numbered (n .0) (length (now draws)) ⌝ }
-    ensures { λ r. ⌜ r ≡ asking blankRecord (requestAt t (now (draws .entry)) d (n .0) 1) ⌝ }
+    ensures { λ r. ⌜ r ≡ asked t (now (draws .entry)) d (n .0) ⌝ }
 {
     let q = request_for(t, draws, d, n, 1);
     Record {
@@ -231,23 +260,24 @@ fn request_all(
     to: u64,
 ) -> [Record; 64]
     requires { ⌜ Ranges t d ⌝ }
-    requires { ⌜ (length (now draws) ≡ drawCount) × (to ≤ places) ⌝ }
-    ensures { λ r. ⌜ r ≡ requested t (now (draws .entry)) d (to - from) from names ⌝ }
+    requires { ⌜ (length (now draws) ≡ drawCount) × (to ≤ numberLimit) ⌝ }
+    ensures { λ r. ⌜ r ≡ filled (asked t (now (draws .entry)) d) (to - from) from names ⌝ }
 {
     let mut out = names;
     let mut i = from;
     while i < to {
-        let k = i as u8;
+        let k = i as u16;
         let n = CueNumber(k);
         let r = fresh_record(t, draws, d, n);
-        let at = place(n);
+        let at = state::place(i);
         out[at] = r;
         i += 1;
     }
     out
 }
 
-// The numbers above last, up to n, are new, and last is the higher of the two.
+// Last rises from first..last to n. Numbers below `lo` are retired: of those up to last the ones without a cue are counted, and all that
+// are passed over. Neither loop has more than 64 turns, however far last rises.
 fn risen(
     s: Source,
     t: Moment,
@@ -258,19 +288,30 @@ fn risen(
 ) -> Source
     requires { ⌜ Ranges t (s .distance) ⌝ }
     requires { ⌜ Numbered (n .0) (length (now draws)) ⌝ }
+    requires { ⌜ (s .missed < numberLimit) × (s .span ≡ Span.Open first last) ⌝ }
     ensures { λ r. ⌜ r ≡ rise t (now (draws .entry)) (n .0) s (Span.Open first last) ⌝ }
 {
     let heard = s.heard;
     let names = s.names;
-    let from = last.0 as u64 + 1;
-    let to = n.0 as u64 + 1;
-    let top = later(last, n);
-    let asked = request_all(names, t, draws, s.distance, from, to);
+    let low = first.0 as u64;
+    let next = last.0 as u64 + 1;
+    let l = greater(last.0 as u64, n.0 as u64);
+    let floor = above(l, KEPT - 1);
+    let lo = greater(low, floor);
+    let old = lesser(lo, next);
+    let new = greater(lo, next);
+    let lacked = count_lacking(names, low, old);
+    let passed = above(lo, next);
+    let renewed = request_all(names, t, draws, s.distance, new, l + 1);
+    let lowest = lo as u16;
+    let highest = l as u16;
+    let missed = s.missed + lacked as u32 + passed as u32;
     Source {
-        span: Span::Open(first, top),
+        span: Span::Open(CueNumber(lowest), CueNumber(highest)),
+        missed,
         distance: s.distance,
         heard,
-        names: asked,
+        names: renewed,
     }
 }
 
@@ -278,6 +319,7 @@ fn risen(
 pub fn rise_to(s: Source, t: Moment, draws: &[Draw], n: CueNumber) -> Source
     requires { ⌜ Ranges t (s .distance) ⌝ }
     requires { ⌜ Numbered (n .0) (length (now draws)) ⌝ }
+    requires { ⌜ Counted s ⌝ }
     ensures { λ r. ⌜ r ≡ rise t (now (draws .entry)) (n .0) s (s .span) ⌝ }
 {
     let span = s.span;

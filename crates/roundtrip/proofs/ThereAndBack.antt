@@ -1,5 +1,5 @@
--- The layout there and back, over the width w of a cue number: a meaning that fits its bytes reads back, and bytes that their
--- counts account for are what their meaning is written as.
+-- The layout there and back, over the width w of a cue number and the kind byte: a meaning that fits its bytes reads back, and bytes that
+-- their counts account for are those of their meaning after their kind byte.
 use mathlib.Core.Path.{_≡_, refl, sym, ap, _∙_, subst}
 use Prim.Native.Nat.{ℕ, _-_, _^_, _≤_, _<_}
 use native.Mathlib.Omega.{arith}
@@ -10,7 +10,7 @@ use Rattle.numbers.specs.Number.{value, digits, Bytes}
 use Rattle.numbers.proofs.NumberLaws.{length-digits, value-digits, digits-value, bytes-take, bytes-drop}
 use Rattle.message.specs.Section.{section, sectionFrom, after}
 use Rattle.message.specs.Entry.{asHost, nameWidth, nameOf, nameBytes, cueWidth, cueOf, cueBytes, reportWidth, reportOf, reportBytes, echoWidth, echoOf, echoBytes}
-use Rattle.message.specs.Message.{Meaning, countsOf, headBytes, bytesWith, meaningWith, sizeWith, fromNames, fromCues, fromReports, fromEchoes}
+use Rattle.message.specs.Message.{Meaning, kindOf, kindByte, countsOf, headBytes, bytesWith, meaningWith, sizeWith, fromNames, fromCues, fromReports, fromEchoes}
 use Rattle.message.proofs.SectionLaws.{All, after-section, section-back, section-forth, length-section, after-all}
 use Rattle.message.proofs.EntryLaws.{NameFits, ReportFits, CueFits, EchoFits, length-name, name-back, name-forth, cue-back, length-report, report-back, report-forth, length-echo, echo-back, echo-forth}
 use Rattle.message.proofs.LayoutLaws.{countsWith, atCues, atReports, atEchoes, cues-at, reports-at, echoes-at, names-count, cues-count, reports-count, echoes-count}
@@ -25,15 +25,15 @@ module _ (w : ℕ) where
     pub echoes : All EchoFits (M .echoes)
 
   -- the bytes, section after section
-  spread : (M : Meaning) → bytesWith w M ≡ headBytes (M .kind) (M .sender) (M .stamp)
+  spread : (byte : ℕ) (M : Meaning) → bytesWith w byte M ≡ headBytes byte (M .sender) (M .stamp)
       ++ (section (nameBytes w) (M .names) ++ (section cueBytes (M .cues) ++ (section (reportBytes w) (M .reports) ++ (section echoBytes (M .echoes) ++ []))))
   unfolding bytesWith
-  spread M = simp (append-assoc, append-nil)
+  spread byte M = simp (append-assoc, append-nil)
 
   -- how long they are
-  pub sized : (M : Meaning) → Fits M → length (bytesWith w M) ≡ sizeWith w (countsOf M)
-  sized M h =
-      ap length (spread M)
+  pub sized : (byte : ℕ) (M : Meaning) → Fits M → length (bytesWith w byte M) ≡ sizeWith w (countsOf M)
+  sized byte M h =
+      ap length (spread byte M)
       ∙ simp length-append (omega (
         arith,
         length-digits 6 (M .stamp),
@@ -43,23 +43,23 @@ module _ (w : ℕ) where
         length-section echoBytes echoWidth EchoFits (λ a _. length-echo a) (M .echoes) (h .echoes),
       ))
 
-  -- written, then read
-  pub meaning-back : (M : Meaning) → Fits M → meaningWith w (bytesWith w M) ≡ M
+  -- written after a byte of its kind, then read
+  pub meaning-back : (byte : ℕ) (M : Meaning) → kindOf byte ≡ M .kind → Fits M → meaningWith w (bytesWith w byte M) ≡ M
   unfolding meaningWith
-  meaning-back M h =
+  meaning-back byte M e h =
       let d : List ℕ = digits 6 (M .stamp) in
       let r5 : List ℕ = [] in
       let r4 : List ℕ = section echoBytes (M .echoes) ++ r5 in
       let r3 : List ℕ = section (reportBytes w) (M .reports) ++ r4 in
       let r2 : List ℕ = section cueBytes (M .cues) ++ r3 in
       let r1 : List ℕ = section (nameBytes w) (M .names) ++ r2 in
-      let s : List ℕ = headBytes (M .kind) (M .sender) (M .stamp) ++ r1 in
+      let s : List ℕ = headBytes byte (M .sender) (M .stamp) ++ r1 in
       let t1 : fromNames s ≡ r1 = drop-at d r1 6 (length-digits 6 (M .stamp)) in
       let t2 : fromCues w s ≡ r2 = ap (after (nameWidth w)) t1 ∙ after-section (nameBytes w) (nameWidth w) (NameFits w) (λ a _. length-name w a) (M .names) r2 (h .names) in
       let t3 : fromReports w s ≡ r3 = ap (after cueWidth) t2 ∙ after-section cueBytes cueWidth CueFits (λ a p. p) (M .cues) r3 (h .cues) in
       let t4 : fromEchoes w s ≡ r4 = ap (after (reportWidth w)) t3 ∙ after-section (reportBytes w) (reportWidth w) (ReportFits w) (λ a _. length-report w a) (M .reports) r4 (h .reports) in
-      ap (meaningWith w) (spread M) ∙ (λ i. record {
-        kind = M .kind;
+      ap (meaningWith w) (spread byte M) ∙ (λ i. record {
+        kind = e i;
         sender = M .sender;
         stamp = (ap value (take-at d r1 6 (length-digits 6 (M .stamp))) ∙ value-digits 6 (M .stamp) (h .stamp)) i;
         names = (ap (sectionFrom (nameOf w) (nameWidth w)) t1 ∙ section-back (nameBytes w) (nameWidth w) (NameFits w) (λ a _. length-name w a) (nameOf w) (name-back w) (M .names) r2 (h .names)) i;
@@ -69,7 +69,7 @@ module _ (w : ℕ) where
       })
 
   -- the first eight bytes
-  head-forth : (s : List ℕ) → Bytes s → 8 ≤ length s → headBytes (getD s 0 0) (asHost (getD s 1 0)) (value (take 6 (drop 2 s))) ++ drop 8 s ≡ s
+  head-forth : (s : List ℕ) → Bytes s → 8 ≤ length s → headBytes (kindByte s) (asHost (getD s 1 0)) (value (take 6 (drop 2 s))) ++ drop 8 s ≡ s
   head-forth [] b h = absurd (omega arith)
   head-forth (x ∷ []) b h = absurd (omega arith)
   head-forth (x ∷ y ∷ s) b h =
@@ -77,12 +77,12 @@ module _ (w : ℕ) where
       digits-value 6 (take 6 s) (length-take-le 6 s (omega arith)) (bytes-take 6 s (bytes-drop 2 (x ∷ y ∷ s) b)) in
       ap (λ (t : List ℕ). x ∷ y ∷ t) (ap (λ (t : List ℕ). t ++ drop 6 s) d ∙ take-append-drop 6 s)
 
-  -- read, then written
-  pub bytes-back : (s : List ℕ) → Bytes s → sizeWith w (countsWith w s) ≡ length s → bytesWith w (meaningWith w s) ≡ s
+  -- read, then written after the same byte
+  pub bytes-back : (s : List ℕ) → Bytes s → sizeWith w (countsWith w s) ≡ length s → bytesWith w (kindByte s) (meaningWith w s) ≡ s
   unfolding meaningWith
   bytes-back s b h =
       let M : Meaning = meaningWith w s in
-      let head : List ℕ = headBytes (M .kind) (M .sender) (M .stamp) in
+      let head : List ℕ = headBytes (kindByte s) (M .sender) (M .stamp) in
       let bytes : (t : List ℕ) (k : ℕ) → t ≡ drop k s → Bytes t = λ t k p. subst Bytes (sym p) (bytes-drop k s b) in
       let long : (t : List ℕ) (k : ℕ) → t ≡ drop k s → length t ≡ length s - k = λ t k p. ap length p ∙ length-drop k s in
       let l1 : length (fromNames s) ≡ length s - 8 = length-drop 8 s in
@@ -98,7 +98,7 @@ module _ (w : ℕ) where
       let s4 : section echoBytes (M .echoes) ++ after echoWidth (fromEchoes w s) ≡ fromEchoes w s =
       section-forth echoOf echoBytes echoWidth echo-forth (fromEchoes w s) (bytes (fromEchoes w s) (atEchoes w s) (echoes-at w s)) (rw (sym (echoes-count w s)) (omega arith)) in
       let z : after echoWidth (fromEchoes w s) ≡ [] = after-all echoWidth (fromEchoes w s) (rw (sym (echoes-count w s)) (omega arith)) in
-      spread M
+      spread (kindByte s) M
       ∙ ap (λ (t : List ℕ). head ++ (section (nameBytes w) (M .names) ++ (section cueBytes (M .cues) ++ (section (reportBytes w) (M .reports) ++ t))))
       (ap (λ (t : List ℕ). section echoBytes (M .echoes) ++ t) (sym z) ∙ s4)
       ∙ ap (λ (t : List ℕ). head ++ (section (nameBytes w) (M .names) ++ (section cueBytes (M .cues) ++ t))) s3

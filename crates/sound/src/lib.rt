@@ -2,6 +2,7 @@
 // specs/Sound.antt; each function here is one definition of that file. The state is gone through once.
 use end::End;
 use end::Heard;
+use end::KEPT;
 use end::NUMBERS;
 use end::Record;
 use end::Reply;
@@ -11,7 +12,6 @@ use end::Source;
 use end::Span;
 use end::TIME_LIMIT;
 use message::Host;
-use message::NUMBER_LIMIT;
 use message::TICKS_LIMIT;
 ghost use mathlib.Core.Path.{_≡_};
 ghost use mathlib.Core.Bool.{_&&_};
@@ -21,7 +21,8 @@ ghost use Rattle.message.specs.Limit.{hostLimit};
 ghost use Rattle.message.specs.Cue.{cueIn};
 ghost use Rattle.end.specs.Records.{within, isClosed};
 ghost use Rattle.end.specs.State.{places};
-ghost use Rattle.end.specs.Sound.{allOf, requestTests, replyTests, heldTests, insideSound, outsideSound, isNever, recordSound, namesSound, spanTests, distanceSound, heardTests, nonMemberTests, sourceSound, sourcesSound, soundOf};
+ghost use Rattle.end.specs.Sound.{allOf, requestTests, replyTests, heldTests, insideSound, outsideSound, isNever, recordSound, namesSound};
+ghost use Rattle.end.specs.Sound.{spanTests, distanceSound, heardTests, nonMemberTests, sourceSound, sourcesSound, soundOf};
 
 fn request_sound(q: Request) -> bool
     ensures { λ r. ⌜ r ≡ allOf (requestTests q) ⌝ }
@@ -77,16 +78,17 @@ fn outside_sound(r: Record, slot: Slot) -> bool
     }
 }
 
-fn is_within(span: Span, n: usize) -> bool
+// The number is of 64 bits: that of a place outside first..last may be above every cue number.
+fn is_within(span: Span, n: u64) -> bool
     ensures { λ r. ⌜ r ≡ within span n ⌝ }
 {
     match span {
         Span::Closed => false,
-        Span::Open(first, last) => (first.0 as usize <= n) & (n <= last.0 as usize),
+        Span::Open(first, last) => (first.0 as u64 <= n) & (n <= last.0 as u64),
     }
 }
 
-fn record_sound(me: Host, source: Host, span: Span, n: usize, r: Record) -> bool
+fn record_sound(me: Host, source: Host, span: Span, n: u64, r: Record) -> bool
     ensures { λ b. ⌜ b ≡ recordSound me source span n r ⌝ }
 {
     let slot = r.slot;
@@ -97,28 +99,37 @@ fn record_sound(me: Host, source: Host, span: Span, n: usize, r: Record) -> bool
     }
 }
 
-// What stands in each of the 64 places.
+// What stands in each of the 64 places: they are those of the 64 numbers from first on.
 fn names_sound(me: Host, source: Host, span: Span, names: [Record; 64]) -> bool
     ensures { λ r. ⌜ r ≡ namesSound me source span names places ⌝ }
     ensures { λ _. ⌜ length names ≡ places ⌝ }
 {
+    let from = state::start_of(span);
     let mut ok = true;
-    let mut n: usize = 0;
-    while n < 64 {
-        let r = names[n];
+    let mut i = 0;
+    while i < KEPT {
+        let n = from + i;
+        let at = state::place(n);
+        let r = names[at];
         ok = ok & record_sound(me, source, span, n, r);
-        n += 1;
+        i += 1;
     }
     ok
 }
 
-fn span_sound(own: bool, next: u32, span: Span) -> bool
-    ensures { λ r. ⌜ r ≡ allOf (spanTests own next span) ⌝ }
+fn span_sound(own: bool, next: u32, missed: u32, span: Span) -> bool
+    ensures { λ r. ⌜ r ≡ allOf (spanTests own next missed span) ⌝ }
 {
     match span {
-        Span::Closed => true,
+        Span::Closed => missed == 0,
         Span::Open(first, last) => {
-            (first.0 <= last.0) & (last.0 < NUMBER_LIMIT) & (!own | (last.0 as u32 + 1 == next))
+            let low = first.0 as u64;
+            let high = last.0 as u64;
+            (low <= high)
+                & (high < NUMBERS as u64)
+                & (!own | (high + 1 == next as u64))
+                & (high <= low + (KEPT - 1))
+                & (missed as u64 <= low)
         }
     }
 }
@@ -172,7 +183,7 @@ fn source_sound(me: Host, next: u32, clock: u64, member: bool, h: Host, s: Sourc
     let span = s.span;
     let heard = s.heard;
     let names = s.names;
-    span_sound(own, next, span)
+    span_sound(own, next, s.missed, span)
         & distance_sound(own, s.distance)
         & heard_sound(own, clock, heard)
         & (member | non_member_sound(own, s))

@@ -23,9 +23,10 @@ use Rattle.end.specs.Sound.{allOf, replyTests, heldTests, insideSound, outsideS
 use Rattle.end.specs.Ready.{HeardBy}
 use Rattle.end.proofs.SoundLaws.{nth, sound-end}
 use Rattle.end.proofs.RecordLaws.{at-elim}
-use Rattle.end.proofs.Facts.{facts, within-small}
+use Rattle.end.proofs.Facts.{facts}
 use Rattle.end.proofs.Ready.{ready}
 use Rattle.state.specs.Settled.{Asked, Settled}
+use Rattle.state.proofs.Counted.{counted}
 
 -- ---- from the tests
 asked-in : (me source : Host) (span : Span) (n : ℕ) (r : Record) → recordSound me source span n r ≡ true → Asked (replyIn (r .slot))
@@ -56,10 +57,11 @@ settled e t h l m =
     record {
       ready = ready e t h l;
       host = s .host;
-      spans = λ k hk. f .spans (k .0) hk;
+      counts = λ k hk. counted e k h hk;
       asked = λ k n hk. at-elim (λ (r : Record). Asked (replyIn (r .slot))) (sourceAt e k) n
-          (λ w. asked-in (e .host) k (sourceAt e k .span) n (rawAt (sourceAt e k .names) n) (f .records (k .0) n hk (within-small (sourceAt e k .span) n (f .spans (k .0) hk) w)))
+          (λ w. asked-in (e .host) k (sourceAt e k .span) n (rawAt (sourceAt e k .names) n) (f .records (k .0) n hk w))
           (λ w. tt);
       heard = λ k hk. heard-in (sameHost k (e .host)) (e .clock) t (sourceAt e k .heard) m (heard (k .0) hk);
-      own = never-own (sameHost (e .host) (e .host)) (e .clock) (sourceAt e (e .host) .heard) (eq-eqb (e .host .0) (e .host .0) refl) (heard (e .host .0) (s .host));
+      own = never-own (sameHost (e .host) (e .host)) (e .clock) (sourceAt e (e .host) .heard) (eq-eqb (e .host .0) (e .host .0) refl)
+          (heard (e .host .0) (s .host));
     }

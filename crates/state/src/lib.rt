@@ -4,6 +4,7 @@
 use end::Answer;
 use end::End;
 use end::Heard;
+use end::KEPT;
 use end::Moment;
 use end::Params;
 use end::Record;
@@ -13,8 +14,10 @@ use end::Source;
 use end::Span;
 use end::Status;
 ghost use mathlib.Core.Path.{_≡_};
+ghost use Prim.Native.Nat.{_<_};
+ghost use Rattle.message.specs.Limit.{numberLimit};
 ghost use Rattle.end.specs.State.{momentOf, withSpan, withHeard, withDistance, withNames, withClock, withStatus, isMember, isCrashed};
-ghost use Rattle.end.specs.Records.{isHeld, isNo, replyIn, withReply};
+ghost use Rattle.end.specs.Records.{start, place, isHeld, isNo, replyIn, withReply};
 ghost use Rattle.end.specs.Sound.{allOf, paramsTests};
 ghost use Rattle.end.specs.declared.Answer.the-variants.{Ignored};
 
@@ -89,6 +92,24 @@ pub fn with_reply(reply: Reply, slot: Slot) -> Slot
     }
 }
 
+// The first of the numbers first..last; 0 where there are none.
+pub fn start_of(span: Span) -> u64
+    ensures { λ r. ⌜ r ≡ start span ⌝ }
+    ensures { λ r. ⌜ r < numberLimit ⌝ }
+{
+    match span {
+        Span::Closed => 0,
+        Span::Open(first, _) => first.0 as u64,
+    }
+}
+
+// Where a number's record stands among a source's, and its draw among the draws.
+pub fn place(n: u64) -> usize
+    ensures { λ r. ⌜ r ≡ place n ⌝ }
+{
+    (n % KEPT) as usize
+}
+
 // "Parameters are 0..32 quarters".
 pub fn params_small(p: Params) -> bool
     ensures { λ r. ⌜ r ≡ allOf (paramsTests p) ⌝ }
@@ -116,6 +137,7 @@ pub fn with_span(s: Source, span: Span) -> Source
     let names = s.names;
     Source {
         span,
+        missed: s.missed,
         distance: s.distance,
         heard,
         names,
@@ -138,6 +160,7 @@ pub fn with_heard(s: Source, distance: u64, heard: Heard) -> Source
     let names = s.names;
     Source {
         span,
+        missed: s.missed,
         distance,
         heard,
         names,

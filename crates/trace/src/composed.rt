@@ -1,12 +1,12 @@
 // A message in words, as docs/TRACES.md has it: COMPOSED.
 use crate::byte;
 use crate::cue_bytes;
+use crate::cue_number;
 use crate::key;
 use crate::number;
 use crate::offset;
 use crate::peek;
 use crate::words;
-use message::CueNumber;
 use message::Echo;
 use message::Host;
 use message::Message;
@@ -45,12 +45,12 @@ fn kind(line: &[u8; 1000], end: usize, at: &mut usize) -> u8 {
 
 fn name(line: &[u8; 1000], end: usize, at: &mut usize) -> NameEntry {
     let source = byte(line, end, at);
-    let number = byte(line, end, at);
+    let number = cue_number(line, end, at);
     let host = byte(line, end, at);
     NameEntry {
         name: Name {
             source: Host(source),
-            number: CueNumber(number),
+            number,
         },
         host: Host(host),
     }
@@ -58,10 +58,10 @@ fn name(line: &[u8; 1000], end: usize, at: &mut usize) -> NameEntry {
 
 fn report(line: &[u8; 1000], end: usize, at: &mut usize) -> Report {
     let source = byte(line, end, at);
-    let last = byte(line, end, at);
+    let last = cue_number(line, end, at);
     Report {
         source: Host(source),
-        last: CueNumber(last),
+        last,
     }
 }
 

@@ -8,6 +8,7 @@ pub mod words;
 
 use decimal::Signed;
 use decimal::Unsigned;
+use message::CueNumber;
 ghost use Prim.Native.Nat.{_≤_};
 
 // How many bytes a line has at most.
@@ -146,6 +147,16 @@ pub fn place(line: &[u8; 1000], end: usize, at: &mut usize, most: u64) -> usize
 // The next word as a number 0..255.
 pub fn byte(line: &[u8; 1000], end: usize, at: &mut usize) -> u8 {
     small(line, end, at, 255) as u8
+}
+
+// The next word as a cue number.
+pub fn cue_number(line: &[u8; 1000], end: usize, at: &mut usize) -> CueNumber {
+    CueNumber(small(line, end, at, 65535) as u16)
+}
+
+// The next word as a number below 2^32.
+pub fn count(line: &[u8; 1000], end: usize, at: &mut usize) -> u32 {
+    small(line, end, at, 4294967295) as u32
 }
 
 // The next word as an offset, -32768..32767.

@@ -106,6 +106,9 @@ pub const SPAN: u64 = 0x7370616E;
 // closed
 pub const CLOSED: u64 = 0x636C6F736564;
 
+// missed
+pub const MISSED: u64 = 0x6D6973736564;
+
 // distance
 pub const DISTANCE: u64 = 0x64697374616E6365;
 

@@ -1,4 +1,4 @@
--- Fire as a step on one source: the wait that is chosen is of one of the 512 names, and what goes out of it and what becomes of its
+-- Fire as a step on one source: the wait that is chosen has a name that an end keeps, and what goes out of it and what becomes of its
 -- source is what Fire does.
 use mathlib.Core.Path.{_≡_, refl, sym, ap, subst, _∙_}
 use Prim.Native.Nat.{ℕ, zero, suc, _+_, _<_}
@@ -8,6 +8,7 @@ use lib.Seq.{set-getD}
 use lib.Dec.{leb}
 use Rattle.message.specs.declared.Host.{Host}
 use Rattle.message.specs.declared.Name.{Name}
+use Rattle.message.specs.Limit.{numberLimit}
 use Rattle.message.specs.Entry.{asHost, asNumber}
 use Rattle.end.specs.declared.Answer.{Answer}
 use Rattle.end.specs.declared.Reply.the-variants.{No, Due}
@@ -37,7 +38,7 @@ use Rattle.transmit.proofs.PutLaws.{Answers, Gives, gives}
 
 -- ---- the chosen wait has a name that an end keeps
 abbrev pub Named : Name → Type 0
-Named n = (n .source .0 < 8) × (n .number .0 < 64)
+Named n = (n .source .0 < 8) × (n .number .0 < numberLimit)
 
 abbrev OfName : Earliest → Type 0
 OfName w = Named (nameOf w)
@@ -57,7 +58,7 @@ offered-named name clock (Waiting q) best h b = byCond OfName (leb (q .due) cloc
 offered-named name clock (Held No) best h b = b
 offered-named name clock (Held (Due due requester)) best h b = byCond OfName (leb due clock) (λ t. earlier-named best _ b h) (λ t. b)
 
-number-in : (x : Span) (i : ℕ) → SpanIn x → i < width x → start x + i < 64
+number-in : (x : Span) (i : ℕ) → SpanIn x → i < width x → start x + i < numberLimit
 number-in Closed i l h = absurd (omega arith)
 number-in (Open first last) i l h = omega (arith, l .0, l .1)
 
@@ -70,7 +71,8 @@ named e s =
     fold-keeps OfName _ x (width (from .span)) p
     (λ i y k q.
     let n = start (from .span) + i in
-    offered-named (record { source = asHost h; number = asNumber n }) (e .clock) (recordAt from n .slot) y (l, number-in (from .span) i (s .spans (asHost h) l) k) q))
+    offered-named (record { source = asHost h; number = asNumber n }) (e .clock) (recordAt from n .slot) y
+    (l, number-in (from .span) i (s .counts (asHost h) l .span) k) q))
 
 -- ---- what goes out of a slot
 stays : (e : End) (h : Host) → e ≡ onSource e h (λ s. s)

@@ -8,12 +8,14 @@ use Rattle.end.specs.declared.Source.{Source}
 use Rattle.end.specs.declared.End.{End}
 use Rattle.end.specs.Round.{drawCount}
 use Rattle.end.specs.Ready.{Ranges, Numbered}
+use Rattle.state.specs.Counted.{Counted}
 use Rattle.state.specs.Settled.{Settled}
 
--- a member's next number is one of the 64, and the output has room for a message
-pub record Sending (e : End) (bytes : ℕ) : Type 0 where
-  pub host : e .host .0 < 8
+-- a member's next number is a cue number, and the output has room for a message
+pub record Sending (e : End) (drawn bytes : ℕ) : Type 0 where
+  pub settled : Settled e
   pub next : e .next < numberLimit
+  pub draws : drawn ≡ drawCount
   pub room : roomNeeded ≤ bytes
 
 pub record Firing (e : End) (drawn bytes : ℕ) : Type 0 where
@@ -24,6 +26,12 @@ pub record Firing (e : End) (drawn bytes : ℕ) : Type 0 where
 pub record Reporting (e : End) (bytes : ℕ) : Type 0 where
   pub settled : Settled e
   pub room : roomNeeded ≤ bytes
+
+-- the own source, whose last rises to number n
+pub record Rising (t : Moment) (s : Source) (n draws : ℕ) : Type 0 where
+  pub source : Ranges t (s .distance)
+  pub numbered : Numbered n draws
+  pub counted : Counted s
 
 -- the wait under number n of a source that goes out: ranges for its next round, and for the reply's quiet time at distance d
 pub record Waited (t : Moment) (s : Source) (n d draws : ℕ) : Type 0 where

@@ -22,15 +22,15 @@ use message::REPL;
 use message::RQST;
 ghost use mathlib.Core.Path.{_≡_};
 ghost use mathlib.Core.List.{[], _∷_};
-ghost use Prim.Native.Nat.{_≤_, _<_};
+ghost use Prim.Native.Nat.{_≤_};
 ghost use lib.ListN.{length, take};
-ghost use Rattle.message.specs.Limit.{numberLimit, roomNeeded};
+ghost use Rattle.message.specs.Limit.{roomNeeded};
 ghost use Rattle.message.specs.Message.{Small, numberWidth, meaningOf, bytesOf};
 ghost use Rattle.end.specs.Messages.{aboutName};
 ghost use Rattle.end.specs.Answer.{Out, Did, done, answerOf, calledOf, bufferOf};
 ghost use Rattle.end.specs.Fire.{fireOf};
 ghost use Rattle.end.specs.Event.{Report, extended, sentSource, sendOf, otherOf};
-ghost use Rattle.transmit.specs.Given.{Sending, Firing, Reporting, Waited};
+ghost use Rattle.transmit.specs.Given.{Sending, Rising, Firing, Reporting, Waited};
 ghost use Rattle.transmit.specs.Fired.{nameOf, recordOf, askerIn, firedEffect, firedSource};
 
 // ---- a message goes out
@@ -63,43 +63,43 @@ fn put_name(
 
 // ---- Send
 
-// First and last of one's own source once cue n is sent.
-fn extend(span: Span, n: CueNumber) -> Span
-    ensures { λ r. ⌜ r ≡ extended (n .0) span ⌝ }
+// The own source with n for its last number: what goes out of the window is retired, as where another's last rises.
+fn extend(s: Source, t: Moment, draws: &[Draw], n: CueNumber) -> Source
+    requires { ⌜ Rising t s (n .0) (length (now draws)) ⌝ }
+    ensures { λ r. ⌜ r ≡ extended t (now (draws .entry)) (n .0) s (s .span) ⌝ }
 {
+    let span = s.span;
     match span {
-        Span::Closed => Span::Open(n, n),
-        Span::Open(first, _) => Span::Open(first, n),
+        Span::Closed => state::with_span(s, Span::Open(n, n)),
+        Span::Open(_, _) => records::rise_to(s, t, draws, n),
     }
 }
 
 // The own source once cue n is sent.
-fn sent_source(s: Source, n: CueNumber, cue: [u8; 24]) -> Source
-    requires { ⌜ n .0 < numberLimit ⌝ }
-    ensures { λ r. ⌜ r ≡ sentSource (n .0) cue s ⌝ }
+fn sent_source(s: Source, t: Moment, draws: &[Draw], n: CueNumber, cue: [u8; 24]) -> Source
+    requires { ⌜ Rising t s (n .0) (length (now draws)) ⌝ }
+    ensures { λ r. ⌜ r ≡ sentSource t (now (draws .entry)) (n .0) cue s ⌝ }
 {
-    let span = s.span;
-    let longer = extend(span, n);
-    let open = state::with_span(s, longer);
+    let open = extend(s, t, draws, n);
     records::hold_cue(open, n, cue)
 }
 
 // The cue goes out as DATA under the next number, and is held in the own source.
-pub fn send(e: End, cue: [u8; 24], out: &mut [u8]) -> Stepped
-    requires { ⌜ Sending e (length (now out)) ⌝ }
-    ensures { λ r. ⌜ r ≡ calledOf (done (sendOf cue e)) ⌝ }
-    ensures { λ _. ⌜ now (out .exit) ≡ bufferOf (Did (sendOf cue e .effect)) (now (out .entry)) ⌝ }
+pub fn send(e: End, draws: &[Draw], cue: [u8; 24], out: &mut [u8]) -> Stepped
+    requires { ⌜ Sending e (length (now draws)) (length (now out)) ⌝ }
+    ensures { λ r. ⌜ r ≡ calledOf (done (sendOf (now (draws .entry)) cue e)) ⌝ }
+    ensures { λ _. ⌜ now (out .exit) ≡ bufferOf (Did (sendOf (now (draws .entry)) cue e .effect)) (now (out .entry)) ⌝ }
 {
     let mut end = e;
     let t = state::moment_of(e);
     let me = e.host;
     let mut sources = e.sources;
-    let number = CueNumber(e.next as u8);
+    let number = CueNumber(e.next as u16);
     let name = Name { source: me, number };
     let answer = put_name(DATA, t, name, me, 1, cue, out);
     let at = me.0 as usize;
     let s = sources[at];
-    let s1 = sent_source(s, number, cue);
+    let s1 = sent_source(s, t, draws, number, cue);
     sources[at] = s1;
     end.sources = sources;
     end.next = end.next + 1;
@@ -123,7 +123,6 @@ fn name_of(first: Earliest) -> Name
 
 // Its record; where none waits, a blank one.
 fn record_of(s: Source, first: Earliest) -> Record
-    requires { ⌜ nameOf first .number .0 < numberLimit ⌝ }
     ensures { λ r. ⌜ r ≡ recordOf s first ⌝ }
 {
     match first {

@@ -20,8 +20,9 @@ use Rattle.message.specs.declared.Verdict.the-variants.{Accepted, Refused}
 pub put-ready : (m : Message) (out : List ℕ) → writeRefusal (Saying m) out ≡ 0 → Small (numberWidth (m .kind)) (m .counts) × (roomNeeded ≤ length out)
 unfolding writeRefusal
 put-ready m out h =
-    let a = all-passed (leb roomNeeded (length out)) 1 (ask (kindHasCounts (m .kind) (m .counts)) 9 ∷ meaningQuestions (meaningOf m)) (omega arith) h in
-    let b = all-passed (kindHasCounts (m .kind) (m .counts)) 9 (meaningQuestions (meaningOf m)) (omega arith) (a .1) in
+    let last = meaningQuestions (m .kind) (meaningOf m) in
+    let a = all-passed (leb roomNeeded (length out)) 1 (ask (kindHasCounts (m .kind) (m .counts)) 9 ∷ last) (omega arith) h in
+    let b = all-passed (kindHasCounts (m .kind) (m .counts)) 9 last (omega arith) (a .1) in
     (counts-small (m .kind) (m .counts) (b .0), leb-true roomNeeded (length out) (a .0))
 
 -- a probe is refused only where there is no room

@@ -19,7 +19,7 @@ fn refusal(m: Message, room: usize) -> u8
     if !message::kind_has_counts(m.kind, c) {
         return 9;
     }
-    message::meaning_refusal(m)
+    message::meaning_refusal(m.kind, m)
 }
 
 // Writes a message into the first bytes of `out`: questions 1, 9, 10 and 11, in this order.

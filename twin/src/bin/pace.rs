@@ -24,11 +24,11 @@ fn member(host: u8) -> End {
 
 /// The message with host 0's cue of this number, all zeros, sent at clock 0.
 fn original(number: u8) -> Vec<u8> {
-    let mut bytes = vec![0u8; 39];
-    bytes[0] = 1;
+    let mut bytes = vec![0u8; 40];
+    bytes[0] = 17;
     bytes[8] = 1;
-    bytes[10] = number;
-    bytes[12] = 1;
+    bytes[11] = number;
+    bytes[13] = 1;
     bytes
 }
 
@@ -65,7 +65,7 @@ fn run(kind: &str, n: u64) -> u64 {
         "h" => {
             e = member(1);
             let mut bytes = vec![0u8; 12];
-            bytes[0] = 4;
+            bytes[0] = 20;
             let session = Event::Arrival(bytes);
             for i in 0..n {
                 call(&mut e, &session, i);

@@ -1,9 +1,10 @@
 //! What a picture tells: the calls, the messages between them and the waits that
 //! they set and end, as the twin's ends have them.
 
+use std::collections::BTreeSet;
+
 use crate::end::{Answer, Body, End, Event, Record, Status};
 use crate::message::{self, Datagram, Message};
-use crate::NUMBERS;
 
 /// One step of an end, with its state before and after.
 pub struct Step<'a> {
@@ -75,8 +76,8 @@ pub enum Awaited {
 pub struct Wait {
     pub end: usize,
     pub source: u8,
-    pub first: u8,
-    pub last: u8,
+    pub first: u16,
+    pub last: u16,
     pub what: Awaited,
     pub due: u64,
     pub from: usize,
@@ -146,9 +147,13 @@ impl Story {
         for (source, (before, after)) in
             (0..).zip(step.before.sources.iter().zip(&step.after.sources))
         {
-            for number in 0..NUMBERS {
-                let old = wait_of(&before.names[usize::from(number)]).filter(|_| is_known);
-                let new = wait_of(&after.names[usize::from(number)]);
+            for number in before
+                .numbers()
+                .chain(after.numbers())
+                .collect::<BTreeSet<u16>>()
+            {
+                let old = before.kept(number).and_then(wait_of).filter(|_| is_known);
+                let new = after.kept(number).and_then(wait_of);
                 if old == new {
                     continue;
                 }
@@ -173,7 +178,7 @@ impl Story {
     }
 
     /// The wait of this name ends; it fired where the step put out its name.
-    fn end_wait(&mut self, step: &Step, place: usize, source: u8, number: u8) {
+    fn end_wait(&mut self, step: &Step, place: usize, source: u8, number: u16) {
         let fired = put_out(step)
             .and_then(|bytes| message::read(bytes).ok()?.message())
             .is_some_and(|message| name_in(&message) == Some((source, number)));
@@ -240,7 +245,7 @@ fn wait_of(record: &Record) -> Option<(Awaited, u64)> {
     }
 }
 
-fn name_in(message: &Message) -> Option<(u8, u8)> {
+fn name_in(message: &Message) -> Option<(u8, u16)> {
     message.names.first().map(|name| (name.source, name.number))
 }
 

@@ -1,5 +1,6 @@
 //! States that no run leads to: one field of an end changed by `set` lines, at or past the edge of what is sound.
 
+use super::stage::Spot;
 use super::Run;
 use crate::end::{Heard, Params, Reply, Request, Status, TIME_LIMIT};
 use crate::trace::{At, Field};
@@ -8,13 +9,14 @@ use crate::{CLOCK_MAX, HOSTS};
 type Change = fn(&mut Run, usize);
 
 /// One row for each field of an end.
-const CHANGES: [(u64, Change); 16] = [
+const CHANGES: [(u64, Change); 17] = [
     (3, next),
     (2, clock),
     (2, parameter),
     (2, host),
     (2, status),
-    (3, span),
+    (4, span),
+    (4, missed),
     (4, distance),
     (4, heard),
     (2, body),
@@ -48,12 +50,11 @@ impl Run {
         let source = self.likely_source(place);
         let number = match self.stage.span(place, source) {
             Some((first, last)) if first <= last && !self.dice.one_in(8) => {
-                first + self.dice.small(u64::from(last - first) + 1)
+                first + self.dice.number(u64::from(last - first) + 1)
             }
-            _ => self.dice.small(64),
+            _ => self.dice.number(64),
         };
-        let place = number % 64;
-        At { source, place }
+        Spot { source, number }.at()
     }
 
     /// A spot of another's source, where one is open.
@@ -63,9 +64,8 @@ impl Run {
         let open = self.stage.open_sources(place);
         match open.iter().find(|&&source| source != me) {
             Some(&source) if spot.source == me && !self.dice.one_in(4) => {
-                let last = self.stage.span(place, source).map_or(0, |span| span.1);
-                let place = last % 64;
-                At { source, place }
+                let number = self.stage.span(place, source).map_or(0, |span| span.1);
+                Spot { source, number }.at()
             }
             _ => spot,
         }
@@ -74,9 +74,16 @@ impl Run {
 
 fn next(run: &mut Run, place: usize) {
     let near = run.stage.ends[place].next;
-    let value = run
-        .dice
-        .pick(&[64, 65, 255, near.wrapping_sub(1), near.wrapping_add(1), 0]);
+    let value = run.dice.pick(&[
+        65_535,
+        65_536,
+        65_537,
+        u32::MAX,
+        64,
+        near.saturating_sub(1),
+        near.saturating_add(1),
+        0,
+    ]);
     run.stage.set(place, Field::Next(value));
 }
 
@@ -115,15 +122,20 @@ fn status(run: &mut Run, place: usize) {
 fn span(run: &mut Run, place: usize) {
     let source = run.likely_source(place);
     let (first, last) = run.stage.span(place, source).unwrap_or((0, 0));
-    let any = (run.dice.small(64), run.dice.small(64));
+    let any = (run.dice.number(64), run.dice.number(128));
     let value = run.dice.pick(&[
         None,
         Some((last, first)),
-        Some((first, 64)),
+        Some((first, first.saturating_add(63))),
+        Some((first, first.saturating_add(64))),
+        Some((last.saturating_sub(64), last)),
+        Some((first, 65_535)),
         Some((0, 63)),
         Some((first, last.wrapping_add(1))),
         Some((first, last.wrapping_sub(1))),
         Some((first.wrapping_add(1), last)),
+        // The same places, another round of them.
+        Some((first.wrapping_add(64), last.wrapping_add(64))),
         Some(any),
     ]);
     let field = match value {
@@ -135,6 +147,25 @@ fn span(run: &mut Run, place: usize) {
         },
     };
     run.stage.set(place, field);
+}
+
+/// "that count at most first, 0 without one" (document 02, P7).
+fn missed(run: &mut Run, place: usize) {
+    let source = run.likely_source(place);
+    let first = u32::from(run.stage.span(place, source).map_or(0, |span| span.0));
+    let value = run.dice.pick(&[
+        0,
+        1,
+        first.saturating_sub(1),
+        first,
+        first,
+        first + 1,
+        first + 1,
+        65_535,
+        65_536,
+        u32::MAX,
+    ]);
+    run.stage.set(place, Field::Missed(source, value));
 }
 
 fn distance(run: &mut Run, place: usize) {

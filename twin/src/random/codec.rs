@@ -26,7 +26,8 @@ impl Run {
                 let length = self.dice.pick(&[0, 0, 1, 11, 12]);
                 self.dice.bytes(length)
             }
-            1..=10 => message::put_together(&self.defective(&reader)),
+            1..=8 => message::put_together(&self.defective(&reader)),
+            9..=12 => self.old_kind(&reader),
             _ => {
                 let (brought, _) = self.message(&reader);
                 self.stage.bytes(&brought)
@@ -67,6 +68,10 @@ impl Run {
         }
         if self.dice.one_in(3) {
             message = self.at_limit(&reader);
+        }
+        if self.dice.one_in(12) && message.kind >= message::DATA {
+            // The kinds 1 to 4 are "no longer written" (document 02, P7).
+            message.kind -= 16;
         }
         let mut composed = Composed::of(message);
         if self.dice.one_in(6) {
@@ -128,7 +133,7 @@ impl Run {
             place: self.dice.small(64),
         };
         let other = self.dice.small(10);
-        let asked = match self.dice.below(12) {
+        let asked = match self.dice.below(14) {
             0 => return self.stage.line(Does::AskOutput),
             1 => Asked::Clock,
             2 => Asked::Next,
@@ -139,6 +144,7 @@ impl Run {
             7 => Asked::Span(source),
             8 => Asked::Heard(source),
             9 => Asked::Same(other),
+            10 | 11 => Asked::Missed(source),
             _ => Asked::Record(at),
         };
         self.stage.line(Does::Ask { end, asked });

@@ -8,13 +8,14 @@ use crate::message::{self, Echo, Message, Name, Report, DATA, REPL, RQST};
 type Defect = fn(&mut Run, &mut Message);
 
 /// Each part of questions 9, 10 and 11.
-const DEFECTS: [(u64, Defect); 22] = [
-    (1, |run, m| m.kind = run.dice.pick(&[0, 5, 6, 17, 255])),
-    (2, |run, m| m.kind = 1 + run.dice.small(4)),
+const DEFECTS: [(u64, Defect); 21] = [
+    (1, |run, m| {
+        m.kind = run.dice.pick(&[0, 5, 6, 16, 21, 22, 255])
+    }),
+    (2, |run, m| m.kind = DATA + run.dice.small(4)),
     (2, |run, m| m.sender = run.dice.pick(&[8, 9, 255])),
-    (2, |run, m| name_byte(run, m, 0)),
-    (2, |run, m| name_byte(run, m, 1)),
-    (2, |run, m| name_byte(run, m, 2)),
+    (2, |run, m| name_host(run, m, |name| &mut name.source)),
+    (2, |run, m| name_host(run, m, |name| &mut name.host)),
     (3, |_, m| {
         host_in_name(m, REPL, |name, sender| name.host = sender)
     }),
@@ -35,7 +36,7 @@ const DEFECTS: [(u64, Defect); 22] = [
     (1, |_, m| m.names.extend(m.names.clone())),
     (1, |_, m| m.cues.extend(m.cues.clone())),
     (1, |_, m| m.cues.clear()),
-    (4, report_byte),
+    (4, report_source),
     (4, echo_byte),
     (4, repeat_report),
     (4, repeat_echo),
@@ -57,16 +58,11 @@ impl Run {
     }
 }
 
-/// A byte of the name out of range.
-fn name_byte(run: &mut Run, m: &mut Message, which: usize) {
+/// A host of the name out of range. A cue number of two bytes never is.
+fn name_host(run: &mut Run, m: &mut Message, which: fn(&mut Name) -> &mut u8) {
     let host = run.dice.pick(&[8, 9, 255]);
-    let number = run.dice.pick(&[64, 65, 255]);
     if let Some(name) = m.names.first_mut() {
-        match which {
-            0 => name.source = host,
-            1 => name.number = number,
-            _ => name.host = host,
-        }
+        *which(name) = host;
     }
 }
 
@@ -85,15 +81,11 @@ fn cue_field(run: &mut Run, m: &mut Message) {
     }
 }
 
-fn report_byte(run: &mut Run, m: &mut Message) {
+fn report_source(run: &mut Run, m: &mut Message) {
     let count = m.reports.len();
     if count > 0 {
-        let last = run.dice.one_in(2);
         let report = &mut m.reports[run.dice.below(count as u64) as usize];
-        match last {
-            true => report.last = run.dice.pick(&[64, 65, 255]),
-            false => report.source = run.dice.pick(&[8, 9, 255]),
-        }
+        report.source = run.dice.pick(&[8, 9, 255]);
     }
 }
 
@@ -110,12 +102,12 @@ fn repeat_report(run: &mut Run, m: &mut Message) {
     }
     if m.reports.is_empty() {
         let source = run.dice.small(8);
-        let last = run.name_near(SPARE, source).place;
+        let last = run.name_near(SPARE, source).number;
         m.reports.push(Report { source, last });
     }
     let at = run.dice.below(m.reports.len() as u64) as usize;
     let mut again = m.reports[at];
-    again.last = run.dice.small(64);
+    again.last = run.dice.number(64);
     m.reports.insert(at + 1, again);
     if run.dice.one_in(2) && at > 0 {
         m.reports.remove(at + 1);

@@ -29,6 +29,11 @@ impl Dice {
         self.below(n) as u8
     }
 
+    /// A cue number below n, which is at most 65536.
+    pub fn number(&mut self, n: u64) -> u16 {
+        self.below(n) as u16
+    }
+
     pub fn byte(&mut self) -> u8 {
         self.small(256)
     }

@@ -1,17 +1,17 @@
 //! The messages that arrivals bring: earlier ones, earlier ones changed, composed ones, composed ones with one defect (defects.rs), and
 //! garbage.
 
-use super::stage::PutOut;
+use super::stage::{PutOut, Spot};
 use super::Run;
 use crate::cue::Cue;
 use crate::end::Body;
 use crate::message::{self, Echo, Message, Name, Report};
-use crate::trace::{At, Brought, Composed};
+use crate::trace::{Brought, Composed};
 use crate::CLOCK_MAX;
 
 /// A message about a name; the cue is left out where the kind has none.
-pub fn about(kind: u8, sender: u8, stamp: u64, at: At, host: u8, cue: Cue) -> Message {
-    let (source, number) = (at.source, at.place);
+pub fn about(kind: u8, sender: u8, stamp: u64, name: Spot, host: u8, cue: Cue) -> Message {
+    let Spot { source, number } = name;
     Message {
         kind,
         sender,
@@ -73,7 +73,8 @@ impl Run {
                 None => Brought::Bytes(self.garbage()),
             },
             3 => Brought::Bytes(self.changed()),
-            4 | 5 => Brought::Bytes(message::put_together(&self.defective(reader))),
+            4 => Brought::Bytes(message::put_together(&self.defective(reader))),
+            5 => Brought::Bytes(self.old_kind(reader)),
             _ => composed(self.compose(reader)),
         };
         (brought, false)
@@ -91,6 +92,39 @@ impl Run {
         Some(self.dice.pick(&fitting).clone())
     }
 
+    /// "the old kinds are still read, numbers to 63" (document 02, P7): bytes of an old kind, good or with one defect; a number above 63
+    /// now and then, and now and then the sizes of the other kinds.
+    pub fn old_kind(&mut self, reader: &Reader) -> Vec<u8> {
+        let mut message = match self.dice.one_in(6) {
+            true => self.defective(reader),
+            false => self.compose(reader),
+        };
+        let spoiled = self.dice.one_in(5);
+        let high = self.dice.pick(&[64, 64, 65, 128, 255]);
+        let fit = |number: u16, spoiled: bool| match (number <= 63, spoiled) {
+            (_, true) => high,
+            (true, false) => number,
+            (false, false) => number % 64,
+        };
+        for name in &mut message.names {
+            name.number = fit(name.number, spoiled);
+        }
+        let which = self.dice.below(message.reports.len().max(1) as u64) as usize;
+        for (place, report) in message.reports.iter_mut().enumerate() {
+            report.last = fit(report.last, spoiled && place == which);
+        }
+        let old = (message::DATA..=message::SESS).contains(&message.kind);
+        message.kind -= if old { 16 } else { 0 };
+        match self.dice.below(10) {
+            0 => message::put_together(&message),
+            1 => {
+                message.kind = self.dice.pick(&[0, 5, 6, 16, 17, 18, 19, 20, 21, 255]);
+                message::put_together_old(&message)
+            }
+            _ => message::put_together_old(&message),
+        }
+    }
+
     fn garbage(&mut self) -> Vec<u8> {
         let length = match self.dice.below(40) {
             0..=9 => self.dice.pick(&[0, 1, 11, 12, 13]),
@@ -101,7 +135,7 @@ impl Run {
         let mut bytes = self.dice.bytes(length as usize);
         // Every other time it begins as a message would, with counts of sections that may fit.
         if length >= 12 && self.dice.one_in(2) {
-            bytes[0] = 1 + self.dice.small(4);
+            bytes[0] = self.dice.pick(&[1, 17]) + self.dice.small(4);
             bytes[1] = self.dice.small(8);
             bytes[2..8].fill(0);
             bytes[8] = self.dice.small(2);
@@ -128,11 +162,11 @@ impl Run {
         let (place, value) = match dice.below(12) {
             0 | 10 => return bytes.truncate(at),
             1 | 11 => return bytes.push(dice.pick(&[0, 1])),
-            2 => (0, dice.small(7)),
+            2 => (0, dice.pick(&[0, 16]) + dice.small(7)),
             3 => (1, dice.small(9)),
             4 => (9, dice.small(9)),
-            5 => (10, dice.small(66)),
-            6 => (11, dice.small(9)),
+            5 => (10 + usize::from(dice.small(2)), dice.small(66)),
+            6 => (12, dice.small(9)),
             7 => (at, bytes.get(at).unwrap_or(&0).wrapping_add(1)),
             8 => (2, 0),
             _ => (at, dice.byte()),
@@ -164,14 +198,18 @@ impl Run {
     }
 
     /// The cue that a message brings of a name: where the end holds it the held one, or the held one with a byte changed, or seldom any.
-    pub fn cue_of(&mut self, place: usize, name: At) -> Cue {
-        let record = *self.stage.record(place, name);
-        if record.body != Body::Held || self.dice.one_in(8) {
-            return self.good_cue();
-        }
-        match self.dice.below(5) {
-            0..=2 => record.cue,
-            _ => self.forged(record.cue),
+    pub fn cue_of(&mut self, place: usize, name: Spot) -> Cue {
+        let held = self
+            .stage
+            .kept(place, name)
+            .filter(|record| record.body == Body::Held)
+            .map(|record| record.cue);
+        match held {
+            Some(cue) if !self.dice.one_in(8) => match self.dice.below(5) {
+                0..=2 => cue,
+                _ => self.forged(cue),
+            },
+            _ => self.good_cue(),
         }
     }
 
@@ -219,25 +257,40 @@ impl Run {
         }
     }
 
-    /// A name near the span of a source: below first, first, inside, last, above last.
-    pub fn name_near(&mut self, place: usize, source: u8) -> At {
+    /// A name near the span of a source: below first, first, inside, last, above last; now and then about the edges of the window, which
+    /// is "the latest 64 numbers" (document 02, P7), or a jump.
+    pub fn name_near(&mut self, place: usize, source: u8) -> Spot {
         let span = self.stage.span(place, source).unwrap_or((0, 0));
-        let (first, last) = (i16::from(span.0), i16::from(span.1));
-        let inside = first + self.dice.below((last - first).max(0) as u64 + 1) as i16;
-        let above = last + 2 + self.dice.below(3) as i16;
+        let (first, last) = (i32::from(span.0), i32::from(span.1));
+        let inside = first + self.dice.below((last - first).max(0) as u64 + 1) as i32;
+        let above = last + 2 + self.dice.below(3) as i32;
+        let jump = last + i32::from(self.jump());
+        let full = first + self.dice.pick(&[63, 63, 64, 64, 65]);
+        let end = self.dice.pick(&[63, 64, 65_534, 65_535]);
         let number = self.dice.weighted(&[
-            (3, first - 1),
-            (2, first),
-            (5, inside),
-            (3, last),
-            (3, last + 1),
-            (2, above),
-            (1, 63),
+            (12, first - 1),
+            (8, first),
+            (20, inside),
+            (12, last),
+            (12, last + 1),
+            (8, above),
+            (3, jump),
+            (3, full),
+            (1, last - 63),
+            (1, last - 64),
+            (1, end),
         ]);
-        At {
+        Spot {
             source,
-            place: number.clamp(0, 63) as u8,
+            number: number.clamp(0, 65_535) as u16,
         }
+    }
+
+    /// How far last rises in a jump.
+    pub fn jump(&mut self) -> u16 {
+        self.dice.pick(&[
+            1, 2, 10, 10, 62, 63, 63, 64, 64, 65, 65, 100, 127, 128, 1000, 65_000,
+        ])
     }
 
     /// A message that the writer takes, of any kind, told to suit its reader.
@@ -247,7 +300,12 @@ impl Run {
         let source = self.likely_source(reader.place);
         let name = self.name_near(reader.place, source);
         let cue = self.cue_of(reader.place, name);
-        match self.dice.weighted(&[(3, 1), (4, 2), (4, 3), (4, 4)]) {
+        match self.dice.weighted(&[
+            (3, message::DATA),
+            (4, message::RQST),
+            (4, message::REPL),
+            (4, message::SESS),
+        ]) {
             message::DATA => about(message::DATA, source, stamp, name, source, cue),
             message::RQST => {
                 let sender = self.dice.host_but(&[source]);
@@ -269,7 +327,7 @@ impl Run {
         let mut echoes = Vec::new();
         for host in 0..8 {
             if self.dice.one_in(often) {
-                let last = self.name_near(place, host).place;
+                let last = self.name_near(place, host).number;
                 reports.push(Report { source: host, last });
             }
             if self.dice.one_in(often) && host != sender {

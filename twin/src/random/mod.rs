@@ -16,11 +16,11 @@ mod stage;
 pub mod windows;
 
 use crate::book::{Book, Call};
-use crate::end::{Answer, Params};
+use crate::end::{Answer, Params, Status};
 use crate::trace::{Does, Verb};
 use crate::CLOCK_MAX;
 use dice::Dice;
-use stage::{values, Stage, Surroundings, COPY, SPARE};
+use stage::{values, PutOut, Spot, Stage, Surroundings, COPY, SPARE};
 
 /// The trace of a seed, with so many calls or a few more. The error says where the run is outside the service.
 pub fn trace(seed: u64, steps: u64) -> Result<String, String> {
@@ -38,8 +38,10 @@ pub fn trace(seed: u64, steps: u64) -> Result<String, String> {
 type Part = fn(&mut Run);
 
 /// The parts of a run, and how many of 100 draws choose each.
-const PARTS: [(u64, Part); 8] = [
-    (46, Run::on_one),
+const PARTS: [(u64, Part); 10] = [
+    (44, Run::on_one),
+    (1, Run::burst),
+    (1, Run::late),
     (2, Run::opening),
     (10, Run::codec),
     (1, Run::asking),
@@ -55,9 +57,10 @@ struct Run {
     stage: Stage,
     book: Book,
     now: u64,
-    /// A host that is called more than the others, and whether it sends so often that its numbers run out.
+    /// A host that is called more than the others, whether it sends often, and whether it sends many cues at a time.
     talker: usize,
     chatty: bool,
+    bursts: bool,
     /// How far the clock of each host is ahead.
     ahead: [u64; 8],
     fault: Option<String>,
@@ -77,6 +80,7 @@ impl Run {
             now,
             talker: dice.below(5) as usize,
             chatty: dice.one_in(3),
+            bursts: dice.one_in(2),
             ahead: std::array::from_fn(|_| dice.weighted(&[(2, 0), (1, 1000), (1, 37)])),
             fault: None,
             dice,
@@ -212,6 +216,94 @@ impl Run {
         let clock = self.clock(who, kind);
         let (verb, real) = self.verb(kind, who, clock, 20);
         self.play(who, clock, verb, real);
+    }
+
+    /// Many sends of the talker, after which others hear the latest, a report or a request of it, so that windows of the eight ends move
+    /// on (document 02, P7); and then what is late.
+    fn burst(&mut self) {
+        let who = self.talker;
+        if !self.bursts || self.stage.ends[who].status != Status::Member {
+            return self.on_one();
+        }
+        self.surround(false);
+        let count = self
+            .dice
+            .weighted(&[(4, 10), (2, 30), (1, 63), (1, 64), (1, 65), (1, 100)]);
+        for _ in 0..count {
+            let cue = self.good_cue();
+            self.plays(who, Verb::Send(cue));
+        }
+        match self.dice.below(3) {
+            0 => {}
+            1 => self.plays(who, Verb::Report),
+            _ => self.ask_for_latest(who),
+        }
+        let Some(latest) = self.stage.messages.last().filter(|m| m.real).cloned() else {
+            return;
+        };
+        for host in (0..8).filter(|&host| host != who) {
+            if self.dice.one_in(2) {
+                let brought = self.stage.brought(&latest);
+                self.plays(host, Verb::Hear(brought));
+                self.late_on(host);
+            }
+        }
+    }
+
+    /// The talker reports, one other hears it, and asks for what it has not; perhaps the talker answers.
+    fn ask_for_latest(&mut self, who: usize) {
+        self.plays(who, Verb::Report);
+        let host = usize::from(self.dice.host_but(&[who as u8]));
+        let Some(report) = self.stage.messages.last().cloned() else {
+            return;
+        };
+        let brought = self.stage.brought(&report);
+        self.plays(host, Verb::Hear(brought));
+        self.now = CLOCK_MAX.min(self.now + 70_000);
+        for _ in 0..1 + self.dice.below(3) {
+            self.plays(host, Verb::Fire);
+        }
+        let Some(request) = self.stage.messages.last().cloned() else {
+            return;
+        };
+        if self.dice.one_in(2) {
+            let brought = self.stage.brought(&request);
+            self.plays(who, Verb::Hear(brought));
+            self.now = CLOCK_MAX.min(self.now + 70_000);
+            self.plays(who, Verb::Fire);
+        }
+    }
+
+    /// An original or a repair comes late to one of the eight: of a number just inside the latest 64 of its source, or just below them.
+    fn late(&mut self) {
+        self.surround(false);
+        let who = self.dice.below(8) as usize;
+        self.late_on(who);
+    }
+
+    fn late_on(&mut self, who: usize) {
+        let source = self.likely_source(who);
+        let Some((_, last)) = self.stage.span(who, source) else {
+            return;
+        };
+        let back = self.dice.pick(&[62, 63, 63, 64, 64, 65]);
+        let Some(number) = last.checked_sub(back) else {
+            return;
+        };
+        let name = Spot { source, number };
+        let all = &self.stage.messages;
+        let found: Vec<PutOut> = all.iter().filter(|m| m.brings(name)).cloned().collect();
+        if !found.is_empty() {
+            let at = self.dice.below(found.len() as u64) as usize;
+            let brought = self.stage.brought(&found[at]);
+            self.plays(who, Verb::Hear(brought));
+        }
+    }
+
+    /// An event that the network may bring, on one of the eight, at its time.
+    fn plays(&mut self, who: usize, verb: Verb) {
+        let clock = CLOCK_MAX.min(self.now + self.ahead[who]);
+        self.play(who, clock, verb, true);
     }
 
     /// Plays an event on one of the eight ends, and feeds the book. An invented message is played on a copy, unless it is refused: "An

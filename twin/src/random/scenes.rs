@@ -1,15 +1,15 @@
 //! Scenes: a state about an edge of a rule, and the call that meets it. They are played on the spare end or on a fresh one.
 
 use super::events::MOVES;
-use super::messages::{about, composed, session};
-use super::stage::{COPY, SPARE};
+use super::messages::{about, composed, session, Reader};
+use super::stage::{Spot, COPY, SPARE};
 use super::{Part, Run};
-use crate::end::{Heard, Params, Reply, Status};
+use crate::end::{Heard, Params, Status};
 use crate::message::{self, Echo, Message, Report};
-use crate::trace::{At, Brought, Field, Verb};
-use crate::{CLOCK_MAX, NUMBERS};
+use crate::trace::{Asked, Brought, Does, Field, Verb};
+use crate::{CLOCK_MAX, NUMBERS, PLACES};
 
-const SCENES: [(u64, Part); 15] = [
+const SCENES: [(u64, Part); 19] = [
     (8, request_quiet),
     (8, reply_quiet),
     (10, ties),
@@ -25,6 +25,10 @@ const SCENES: [(u64, Part); 15] = [
     (8, two_reasons),
     (10, other_bytes),
     (8, probe),
+    (16, window),
+    (2, own_window),
+    (6, last_number),
+    (4, old_kinds),
 ];
 
 impl Run {
@@ -51,8 +55,7 @@ fn reply_quiet(run: &mut Run) {
     let name = run.name(false);
     run.held(name);
     let quiet = 1 + run.dice.below(9);
-    let time = run.spare_now() + quiet;
-    run.stage.set(SPARE, Field::Hush(name, time));
+    run.hush(name, quiet);
     let ticks = quiet - 1 + run.dice.below(3);
     run.hears_request(name, ticks);
     if run.dice.one_in(2) {
@@ -75,11 +78,7 @@ fn ties(run: &mut Run) {
             let round = 1 + run.dice.small(16);
             run.waits(name, round, due, 0);
         } else {
-            run.held(name);
-            let requester = run.dice.host_but(&[me, name.source]);
-            let due = run.spare_now() + due;
-            run.stage
-                .set(SPARE, Field::Reply(name, Reply { due, requester }));
+            run.replies(name, due);
         }
     }
     let ticks = due - 1 + run.dice.below(3);
@@ -119,7 +118,7 @@ fn echo_of_oneself(run: &mut Run) {
     let (stamp, held) = run.echoed(clock);
     let mut reports = Vec::new();
     if run.dice.one_in(2) {
-        let last = run.name_near(SPARE, sender).place;
+        let last = run.name_near(SPARE, sender).number;
         let source = sender;
         reports.push(Report { source, last });
     }
@@ -140,23 +139,39 @@ fn span_edges(run: &mut Run) {
         _ => run.name(false).source,
     };
     let name = run.name_near(SPARE, source);
-    let cue = run.cue_of(SPARE, name);
+    let kind = run
+        .dice
+        .pick(&[message::DATA, message::RQST, message::REPL]);
     let ticks = run.dice.below(3);
-    let clock = run.after(ticks);
-    let stamp = run.dice.below(1000);
-    let message = match run.dice.below(3) {
-        0 => about(message::DATA, source, stamp, name, source, cue),
-        1 => {
-            let sender = run.dice.host_but(&[me, source]);
-            about(message::RQST, sender, stamp, name, sender, cue)
-        }
-        _ => {
-            let sender = run.dice.host_but(&[me]);
-            let requester = run.dice.host_but(&[sender, source]);
-            about(message::REPL, sender, stamp, name, requester, cue)
-        }
-    };
-    run.hears(clock, message);
+    run.hears_of(kind, name, ticks);
+}
+
+impl Run {
+    /// A message of this kind from another end brings a number, so many ticks on.
+    fn hears_of(&mut self, kind: u8, name: Spot, ticks: u64) {
+        let (me, source) = (self.me(), name.source);
+        let cue = self.cue_of(SPARE, name);
+        let clock = self.after(ticks);
+        let stamp = self.dice.below(1000);
+        let message = match kind {
+            message::DATA => about(message::DATA, source, stamp, name, source, cue),
+            message::RQST => {
+                let sender = self.dice.host_but(&[me, source]);
+                about(message::RQST, sender, stamp, name, sender, cue)
+            }
+            message::REPL => {
+                let sender = self.dice.host_but(&[me]);
+                let requester = self.dice.host_but(&[sender, source]);
+                about(message::REPL, sender, stamp, name, requester, cue)
+            }
+            _ => {
+                let sender = self.dice.host_but(&[me]);
+                let last = name.number;
+                session(sender, stamp, vec![Report { source, last }], vec![])
+            }
+        };
+        self.hears(clock, message);
+    }
 }
 
 /// "Not held: as DATA, Got; held: Done. Either way its waiting reply goes and reply-quiet = t + D3×d, d to the requester."
@@ -166,14 +181,10 @@ fn repair(run: &mut Run) {
     if name.source != me && run.dice.one_in(3) {
         run.waits(name, 1, 2, 2);
     } else if run.dice.one_in(2) {
-        run.held(name);
-        let requester = run.dice.host_but(&[me, name.source]);
-        let due = run.after(5);
-        run.stage
-            .set(SPARE, Field::Reply(name, Reply { due, requester }));
+        run.replies(name, 5);
     } else {
         let last = run.stage.span(SPARE, name.source).map_or(0, |span| span.1);
-        name.place = (last + run.dice.pick(&[1, 1, 2, 3])).min(NUMBERS - 1);
+        name.number = last.saturating_add(run.dice.pick(&[1, 1, 2, 3]));
     }
     let sender = run.dice.host_but(&[me]);
     let any = run.dice.host_but(&[sender, name.source]);
@@ -196,7 +207,8 @@ fn statuses(run: &mut Run) {
     run.stage.set(COPY, Field::Status(status));
     match run.dice.below(6) {
         0 => {
-            run.stage.set(COPY, Field::Next(NUMBERS));
+            let next = run.dice.pick(&[NUMBERS, NUMBERS, NUMBERS - 1, 64]);
+            run.stage.set(COPY, Field::Next(next));
             let cue = run.cue();
             run.stage.act(COPY, 3, Verb::Send(cue));
         }
@@ -237,7 +249,7 @@ fn reports(run: &mut Run) {
     let mut reports = Vec::new();
     for source in 0..8 {
         if !run.dice.one_in(3) {
-            let last = run.name_near(SPARE, source).place;
+            let last = run.name_near(SPARE, source).number;
             reports.push(Report { source, last });
         }
     }
@@ -246,10 +258,12 @@ fn reports(run: &mut Run) {
     run.hears(clock, session(sender, stamp, reports, vec![]));
 }
 
-/// "For a member, is the next number below 64? 7."
+/// "For a member, is the next number below 64? 7.", by document 02, P7, "only at 65,536"; and numbers about which places come round.
 fn last_numbers(run: &mut Run) {
     let me = run.me();
-    let next = run.dice.pick(&[62, 63, 63, 64]);
+    let next = run
+        .dice
+        .pick(&[63, 64, 127, 65_534, 65_535, 65_535, 65_536]);
     // An own last is next - 1, so the own source is closed, and its names are gone, by a leave.
     if run.stage.open_sources(SPARE).contains(&me) {
         let clock = run.after(0);
@@ -278,7 +292,7 @@ fn looped(run: &mut Run) {
         0 if source != me => about(message::RQST, me, 5, name, me, cue),
         1 => about(message::REPL, me, 5, name, requester, cue),
         _ => {
-            let last = name.place.saturating_add(1).min(63);
+            let last = name.number.saturating_add(1);
             session(me, 5, vec![Report { source, last }], vec![])
         }
     };
@@ -293,14 +307,9 @@ fn two_reasons(run: &mut Run) {
     match run.dice.below(4) {
         // A reply waits and its time is quiet.
         0 => {
-            run.held(name);
-            let requester = run.dice.host_but(&[me, name.source]);
-            let due = run.after(5);
-            run.stage
-                .set(SPARE, Field::Reply(name, Reply { due, requester }));
+            run.replies(name, 5);
             let ticks = 1 + run.dice.below(3);
-            let quiet = run.after(ticks);
-            run.stage.set(SPARE, Field::Hush(name, quiet));
+            run.hush(name, ticks);
             let ticks = run.dice.below(ticks);
             run.hears_request(name, ticks);
             return;
@@ -329,7 +338,7 @@ fn two_reasons(run: &mut Run) {
 
 impl Run {
     /// An RQST or REPL about a name, every other time of oneself.
-    fn looped_or_not(&mut self, me: u8, name: At) -> Message {
+    fn looped_or_not(&mut self, me: u8, name: Spot) -> Message {
         let source = name.source;
         let other = self.dice.host_but(&[me, source]);
         let looped = self.dice.one_in(2);
@@ -350,18 +359,15 @@ fn other_bytes(run: &mut Run) {
     let me = run.me();
     let name = run.name(false);
     run.held(name);
-    let now = run.spare_now();
     if run.dice.one_in(2) {
-        let requester = run.dice.host_but(&[me, name.source]);
-        let due = now + run.dice.below(9);
-        run.stage
-            .set(SPARE, Field::Reply(name, Reply { due, requester }));
+        let due = run.dice.below(9);
+        run.replies(name, due);
     }
     if run.dice.one_in(4) {
-        let quiet = now + run.dice.below(9);
-        run.stage.set(SPARE, Field::Hush(name, quiet));
+        let quiet = run.dice.below(9);
+        run.hush(name, quiet);
     }
-    let held = run.stage.record(SPARE, name).cue;
+    let held = run.stage.record(SPARE, name.at()).cue;
     let cue = match run.dice.one_in(4) {
         true => held,
         false => run.forged(held),
@@ -407,5 +413,135 @@ fn probe(run: &mut Run) {
     if way.is_empty() && run.dice.one_in(2) {
         run.stage.copy(COPY, SPARE);
         run.stage.act(COPY, clock, Verb::Report);
+    }
+}
+
+/// The four kinds by which another's last rises.
+const RISES: [u8; 4] = [message::DATA, message::RQST, message::REPL, message::SESS];
+
+/// "An end keeps the latest 64 numbers of each source: when last rises to L, numbers below L−63 are retired with their waits" (document
+/// 02, P7): another's window is filled by a report, its lowest numbers are stirred, and then a number just below, inside or above it comes.
+fn window(run: &mut Run) {
+    let source = run.name(true).source;
+    let (first, _) = run.stage.span(SPARE, source).unwrap_or((0, 0));
+    let filled = first.saturating_add(run.dice.pick(&[61, 62, 63, 63, 63, 64]));
+    if !run.dice.one_in(4) {
+        let kind = run.dice.pick(&RISES);
+        let number = filled;
+        run.hears_of(kind, Spot { source, number }, 0);
+    }
+    let (first, last) = run.stage.span(SPARE, source).unwrap_or((0, 0));
+    for number in first..=last.min(first.saturating_add(3)) {
+        let name = Spot { source, number };
+        if run.dice.one_in(2) {
+            run.held(name);
+        }
+        if run.dice.one_in(2) {
+            run.stir_at(name);
+        }
+    }
+    let above = last.saturating_add(run.jump());
+    let number = run.dice.weighted(&[
+        (2, first.saturating_sub(1)),
+        (2, first),
+        (1, last),
+        (3, last.saturating_add(1)),
+        (2, last.saturating_add(2)),
+        (6, above),
+        (2, first.saturating_add(64)),
+    ]);
+    let kind = run.dice.pick(&RISES);
+    run.hears_of(kind, Spot { source, number }, 1);
+    let end = SPARE as u8;
+    let asked = run.dice.pick(&[0, 1]);
+    let asked = match asked {
+        0 => Asked::Missed(source),
+        _ => Asked::Span(source),
+    };
+    run.stage.line(Does::Ask { end, asked });
+    // What was retired, or is the new first, comes late.
+    if run.dice.one_in(2) {
+        let (first, _) = run.stage.span(SPARE, source).unwrap_or((0, 0));
+        let number = run.dice.pick(&[first, first.saturating_sub(1)]);
+        let kind = run
+            .dice
+            .pick(&[message::DATA, message::RQST, message::REPL]);
+        run.hears_of(kind, Spot { source, number }, 2);
+    }
+    let clock = run.after(5);
+    run.does(clock, Verb::Fire);
+}
+
+/// An own window that is full, and a Send that retires its first: that had a waiting reply or a reply-quiet time.
+fn own_window(run: &mut Run) {
+    let me = run.me();
+    let clock = run.after(0);
+    for event in [Verb::Leave, Verb::Left, Verb::Join, Verb::Joined] {
+        run.does(clock, event);
+    }
+    let first: u16 = run.dice.pick(&[0, 1, 40, 64, 1000, 65_471, 65_472]);
+    let last = first + u16::from(PLACES) - 1;
+    run.stage.set(SPARE, Field::Next(u32::from(last) + 1));
+    let source = me;
+    let span = Field::Span {
+        source,
+        first,
+        last,
+    };
+    run.stage.set(SPARE, span);
+    for number in first..=last {
+        run.held(Spot { source, number });
+    }
+    let lowest = Spot {
+        source,
+        number: first,
+    };
+    match run.dice.below(3) {
+        0 => run.replies(lowest, 4),
+        1 => run.hush(lowest, 4),
+        _ => {
+            run.replies(lowest, 3);
+            run.hush(lowest, 5);
+        }
+    }
+    for _ in 0..2 {
+        let clock = run.after(1);
+        let cue = run.good_cue();
+        run.does(clock, Verb::Send(cue));
+    }
+    let number = first + run.dice.pick(&[0, 1, 2]);
+    let kind = run.dice.pick(&[message::RQST, message::REPL]);
+    run.hears_of(kind, Spot { source, number }, 1);
+    let clock = run.after(4);
+    run.does(clock, Verb::Fire);
+}
+
+/// The last numbers of another's source: 65,535 is brought, from near or from far, and what comes after it.
+fn last_number(run: &mut Run) {
+    let source = run.name(true).source;
+    for _ in 0..2 {
+        let number = run
+            .dice
+            .pick(&[65_535, 65_535, 65_534, 65_473, 65_472, 65_471]);
+        let kind = run.dice.pick(&RISES);
+        run.hears_of(kind, Spot { source, number }, 1);
+    }
+}
+
+/// "the old kinds are still read, numbers to 63, as the same meanings" (document 02, P7): heard by a fresh member, so that low numbers
+/// are near.
+fn old_kinds(run: &mut Run) {
+    let host = run.dice.small(8);
+    run.stage.open(COPY, host, Params::STANDARD);
+    run.stage.set(COPY, Field::Status(Status::Member));
+    for clock in 0..3 {
+        let reader = Reader {
+            place: COPY,
+            clock,
+            invented: 100,
+        };
+        let bytes = run.old_kind(&reader);
+        let verb = Verb::Hear(Brought::Bytes(bytes));
+        run.stage.act(COPY, clock, verb);
     }
 }

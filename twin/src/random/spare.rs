@@ -2,12 +2,12 @@
 
 use super::events::ANY;
 use super::messages::{about, composed};
-use super::stage::{COPY, SPARE};
+use super::stage::{Spot, COPY, SPARE};
 use super::Run;
 use crate::end::{Reply, Request, Status};
 use crate::message::{self, Message};
-use crate::trace::{At, Does, Field, Verb};
-use crate::{CLOCK_MAX, NUMBERS};
+use crate::trace::{Does, Field, Verb};
+use crate::CLOCK_MAX;
 
 impl Run {
     /// Any event on the spare end, some of its records stirred before.
@@ -124,7 +124,7 @@ impl Run {
     }
 
     /// A name inside an open span of the spare end. Where no fitting source is open, one is opened.
-    pub fn name(&mut self, others: bool) -> At {
+    pub fn name(&mut self, others: bool) -> Spot {
         let me = self.me();
         let fitting: Vec<u8> = self
             .stage
@@ -137,8 +137,8 @@ impl Run {
             false => self.dice.pick(&fitting),
         };
         let (first, last) = self.stage.span(SPARE, source).unwrap_or((0, 0));
-        let place = first + self.dice.small(u64::from(last - first) + 1);
-        At { source, place }
+        let number = first + self.dice.number(u64::from(last - first) + 1);
+        Spot { source, number }
     }
 
     /// Some source of the spare end, which is opened where it is closed.
@@ -154,11 +154,14 @@ impl Run {
         source
     }
 
-    /// Opens a closed source of the spare end with up to three numbers.
+    /// Opens a closed source of the spare end with up to four numbers, about the places where numbers come round and run out.
     pub fn open_at(&mut self, source: u8) {
         let me = self.me();
-        let first = self.dice.pick(&[0, 1, 5, 30, 61, 62, 63]);
-        let last = (first + self.dice.small(3)).min(NUMBERS - 1);
+        let first: u16 = self.dice.pick(&[
+            0, 1, 5, 30, 61, 62, 63, 64, 65, 126, 127, 128, 1000, 65_471, 65_472, 65_473, 65_533,
+            65_535,
+        ]);
+        let last = first.saturating_add(self.dice.number(4));
         let span = Field::Span {
             source,
             first,
@@ -166,10 +169,14 @@ impl Run {
         };
         self.stage.set(SPARE, span);
         if source == me {
-            self.stage.set(SPARE, Field::Next(last + 1));
+            self.stage.set(SPARE, Field::Next(u32::from(last) + 1));
         }
-        for place in first..=last {
-            let name = At { source, place };
+        if self.dice.one_in(3) {
+            let missed = self.dice.pick(&[0, 1, first / 2, first]).min(first);
+            self.stage.set(SPARE, Field::Missed(source, missed.into()));
+        }
+        for number in first..=last {
+            let name = Spot { source, number };
             if source != me && self.dice.one_in(3) {
                 self.waits(name, 1, 5, 5);
             } else {
@@ -179,7 +186,8 @@ impl Run {
     }
 
     /// The cue of this name is held, with no reply.
-    pub fn held(&mut self, name: At) {
+    pub fn held(&mut self, name: Spot) {
+        let name = name.at();
         if !self.stage.record(SPARE, name).cue.in_range() {
             let cue = self.good_cue();
             self.stage.set(SPARE, Field::Cue(name, cue));
@@ -190,14 +198,30 @@ impl Run {
     }
 
     /// A request of this name waits, its due and quiet times so many ticks on.
-    pub fn waits(&mut self, name: At, round: u8, due: u64, quiet: u64) {
+    pub fn waits(&mut self, name: Spot, round: u8, due: u64, quiet: u64) {
         let now = self.spare_now();
         let request = Request {
             round,
             due: now + due,
             quiet_until: now + quiet,
         };
-        self.stage.set(SPARE, Field::Waits(name, request));
+        self.stage.set(SPARE, Field::Waits(name.at(), request));
+    }
+
+    /// A reply for this name waits, its due time so many ticks on; the cue is held.
+    pub fn replies(&mut self, name: Spot, due: u64) {
+        self.held(name);
+        let me = self.me();
+        let requester = self.dice.host_but(&[me, name.source]);
+        let due = self.spare_now() + due;
+        self.stage
+            .set(SPARE, Field::Reply(name.at(), Reply { due, requester }));
+    }
+
+    /// The reply-quiet time of this name is so many ticks on.
+    pub fn hush(&mut self, name: Spot, ticks: u64) {
+        let time = self.spare_now() + ticks;
+        self.stage.set(SPARE, Field::Hush(name.at(), time));
     }
 
     /// One record of an open source changed so that the end stays sound, with a wait or a quiet time about its clock.
@@ -206,25 +230,23 @@ impl Run {
             return;
         }
         let name = self.name(false);
-        let (me, soon) = (self.me(), self.dice.below(3));
-        let due = self.spare_now() + soon;
+        self.stir_at(name);
+    }
+
+    pub fn stir_at(&mut self, name: Spot) {
+        let soon = self.dice.below(3);
         match self.dice.below(3) {
-            0 => {
-                self.held(name);
-                let requester = self.dice.host_but(&[me, name.source]);
-                self.stage
-                    .set(SPARE, Field::Reply(name, Reply { due, requester }));
-            }
-            1 if name.source != me => {
+            0 => self.replies(name, soon),
+            1 if name.source != self.me() => {
                 let (round, quiet) = (1 + self.dice.small(16), self.dice.below(3));
                 self.waits(name, round, soon, quiet);
             }
-            _ => self.stage.set(SPARE, Field::Hush(name, due)),
+            _ => self.hush(name, soon),
         }
     }
 
     /// A request of another host for this name, heard so many ticks on.
-    pub fn hears_request(&mut self, name: At, ticks: u64) {
+    pub fn hears_request(&mut self, name: Spot, ticks: u64) {
         let me = self.me();
         let sender = self.dice.host_but(&[me, name.source]);
         let cue = self.good_cue();

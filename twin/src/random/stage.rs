@@ -2,7 +2,8 @@
 
 use std::fmt::Write;
 
-use crate::end::{Answer, Body, End, Event, Params, Record};
+use crate::end::{place_of, Answer, Body, End, Event, Params, Record};
+use crate::message::{self, Datagram};
 use crate::replay;
 use crate::trace::{row_of_draws, At, Brought, Does, Field, Verb, BUFFER};
 use crate::{Draw, DRAWS, OUTPUT_LEN};
@@ -13,6 +14,23 @@ pub const COPY: usize = 9;
 
 /// So many of the latest messages can be named by their number.
 const KEPT: u64 = 64;
+
+/// A cue of a source, by its number.
+#[derive(Clone, Copy, Debug, PartialEq, Eq)]
+pub struct Spot {
+    pub source: u8,
+    pub number: u16,
+}
+
+impl Spot {
+    /// Where its record stands while it is inside first..last.
+    pub fn at(self) -> At {
+        At {
+            source: self.source,
+            place: place_of(self.number) as u8,
+        }
+    }
+}
 
 /// What surrounds a call. The draws are a line of theirs.
 #[derive(Clone, Debug, PartialEq, Eq)]
@@ -38,6 +56,18 @@ pub struct PutOut {
     pub bytes: Vec<u8>,
     /// Whether one of the eight put it out, so that the book knows it.
     pub real: bool,
+}
+
+impl PutOut {
+    /// Whether it is one of the eight's and brings the cue of this name.
+    pub fn brings(&self, name: Spot) -> bool {
+        let message = message::read(&self.bytes).ok().and_then(Datagram::message);
+        self.real
+            && message.is_some_and(|m| {
+                let named = m.names.first().map(|n| (n.source, n.number));
+                !m.cues.is_empty() && named == Some((name.source, name.number))
+            })
+    }
 }
 
 pub struct Stage {
@@ -189,14 +219,19 @@ impl Stage {
         &self.ends[place].sources[usize::from(at.source)].names[usize::from(at.place)]
     }
 
-    /// Whether the cue of this name is held, with no reply.
+    /// What is kept of a name, where it is inside first..last.
+    pub fn kept(&self, place: usize, name: Spot) -> Option<&Record> {
+        self.ends[place].sources[usize::from(name.source)].kept(name.number)
+    }
+
+    /// Whether the cue at this place is held, with no reply.
     pub fn is_held(&self, place: usize, at: At) -> bool {
         let record = self.record(place, at);
         record.body == Body::Held && record.reply.is_none()
     }
 
     /// First and last of a source, where it is open.
-    pub fn span(&self, place: usize, source: u8) -> Option<(u8, u8)> {
+    pub fn span(&self, place: usize, source: u8) -> Option<(u16, u16)> {
         let kept = &self.ends[place].sources[usize::from(source)];
         kept.first.zip(kept.last)
     }

@@ -2,6 +2,7 @@
 //! state whatever can be asked for its soundness.
 
 use twin::cue::Cue;
+use twin::end::place_of;
 use twin::end::{
     Answer, Body, End, Event, Heard, Record, Reply, Request, Source, Status, TIME_LIMIT,
 };
@@ -47,7 +48,11 @@ fn sound_end(rng: &mut Rng) -> End {
         1 => rng.below(CLOCK_MAX),
         _ => rng.below(3000),
     };
-    end.next = rng.small(65);
+    end.next = match rng.below(3) {
+        0 => rng.below(65) as u32,
+        1 => 65_536 - rng.below(3) as u32,
+        _ => rng.below(65_537) as u32,
+    };
     end.status = STATUSES[rng.below(8).saturating_sub(3) as usize];
     if end.status != Status::Member {
         return end;
@@ -66,10 +71,20 @@ fn sound_end(rng: &mut Rng) -> End {
         if rng.once_in(3) || (own && end.next == 0) {
             continue;
         }
-        let last = if own { end.next - 1 } else { rng.small(64) };
-        let first = rng.small(last + 1);
+        let last = match rng.below(3) {
+            _ if own => (end.next - 1) as u16,
+            0 => rng.number(64),
+            1 => 65_535 - rng.number(3),
+            _ => rng.number(65_536),
+        };
+        let back = match rng.once_in(3) {
+            true => 63,
+            false => rng.number(64),
+        };
+        let first = last - back.min(last);
         end.sources[usize::from(source)].first = Some(first);
         end.sources[usize::from(source)].last = Some(last);
+        end.sources[usize::from(source)].missed = rng.below(u64::from(first) + 1) as u32;
         for number in first..=last {
             let mut record = Record::EMPTY;
             record.reply_quiet = time(rng, end.clock);
@@ -89,16 +104,25 @@ fn sound_end(rng: &mut Rng) -> End {
                     quiet_until: time(rng, end.clock),
                 });
             }
-            end.sources[usize::from(source)].names[usize::from(number)] = record;
+            end.sources[usize::from(source)].names[place_of(number)] = record;
         }
     }
     assert!(end.sound());
     end
 }
 
+/// Any cue number, the low and the highest ones often.
+fn any_number(rng: &mut Rng) -> u16 {
+    match rng.below(4) {
+        0 => rng.number(130),
+        1 => 65_535 - rng.number(130),
+        _ => rng.number(65_536),
+    }
+}
+
 /// A well-formed message of any kind, of a kind that no end may ever have sent.
 fn any_message(rng: &mut Rng) -> Message {
-    let (source, number, cue) = (rng.small(8), rng.small(64), rng.cue());
+    let (source, number, cue) = (rng.small(8), any_number(rng), rng.cue());
     let sender = other_than(rng, &[source]);
     let mut message = match rng.below(4) {
         0 => data(source, number, cue),
@@ -113,7 +137,7 @@ fn any_message(rng: &mut Rng) -> Message {
             let mut echoes = Vec::new();
             for host in 0..8 {
                 if rng.once_in(2) {
-                    reports.push((host, rng.small(64)));
+                    reports.push((host, any_number(rng)));
                 }
                 if host != sender && rng.once_in(2) {
                     echoes.push((host, rng.below(CLOCK_MAX + 1), rng.below(5000)));
@@ -151,7 +175,7 @@ fn sound_states_stay_sound() {
             let event = any_event(&mut rng);
             let clock = CLOCK_MAX.min(end.clock + rng.below(3000));
             let draws = rng.draws(DRAWS);
-            let full = end.status == Status::Member && end.next == 64;
+            let full = end.status == Status::Member && end.next == 65_536;
             let (answer, _) = watched(&mut end, &event, clock, &draws, OUTPUT_LEN);
             match answer {
                 Answer::Refused(number) => {
@@ -207,8 +231,9 @@ fn any_record(rng: &mut Rng) -> Record {
 
 fn any_source(rng: &mut Rng) -> Source {
     Source {
-        first: maybe(rng, |rng| any(rng) as u8),
-        last: maybe(rng, |rng| any(rng) as u8),
+        first: maybe(rng, |rng| any(rng) as u16),
+        last: maybe(rng, |rng| any(rng) as u16),
+        missed: any(rng) as u32,
         distance: any(rng),
         heard: maybe(rng, |rng| Heard {
             stamp: any(rng),
@@ -227,16 +252,17 @@ fn any_state_can_be_asked() {
     for _ in 0..6000 {
         let mut end = sound_end(&mut rng);
         let (s, n) = (rng.small(8) as usize, rng.small(64) as usize);
-        match rng.below(10) {
+        match rng.below(11) {
             0 => end.host = any(&mut rng) as u8,
             1 => end.params.c1 = any(&mut rng) as u8,
             2 => end.params.d3 = any(&mut rng) as u8,
             3 => end.clock = any(&mut rng),
             4 => end.status = STATUSES[rng.below(5) as usize],
-            5 => end.next = any(&mut rng) as u8,
+            5 => end.next = any(&mut rng) as u32,
             6 => end.sources[s] = any_source(&mut rng),
             7 => end.sources[s].distance = any(&mut rng),
-            8 => end.sources[s].last = maybe(&mut rng, |rng| any(rng) as u8),
+            8 => end.sources[s].last = maybe(&mut rng, |rng| any(rng) as u16),
+            9 => end.sources[s].missed = any(&mut rng) as u32,
             _ => end.sources[s].names[n] = any_record(&mut rng),
         }
         let event = any_event(&mut rng);
@@ -263,7 +289,7 @@ fn anything_at_all_can_be_asked() {
             params: params(p),
             clock: any(&mut rng),
             status: STATUSES[rng.below(5) as usize],
-            next: any(&mut rng) as u8,
+            next: any(&mut rng) as u32,
             sources: std::array::from_fn(|_| any_source(&mut rng)),
         };
         let event = any_event(&mut rng);

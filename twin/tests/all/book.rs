@@ -3,6 +3,7 @@
 use twin::book::{check, Call, Fault};
 use twin::cue::Cue;
 use twin::end::{Answer, End, Event, Status};
+use twin::message;
 use twin::{DRAWS, OUTPUT_LEN};
 
 use crate::support::*;
@@ -49,7 +50,7 @@ impl Record {
     }
 }
 
-fn got(source: u8, number: u8) -> Answer {
+fn got(source: u8, number: u16) -> Answer {
     Answer::Got { source, number }
 }
 
@@ -74,7 +75,7 @@ fn story() -> Record {
     assert_eq!(r.hear(1, 571, &repair), Answer::Done);
     assert_eq!(r.hear(1, 571, &sent[1]), Answer::Ignored);
     assert_eq!(r.hear(1, 571, &[4]), Answer::Refused(8));
-    assert_eq!(r.hear(1, 571, &[]), Answer::Out(14));
+    assert_eq!(r.hear(1, 571, &[]), Answer::Out(15));
     let report = r.call(1, 572, Event::Report);
     assert_eq!(r.hear(0, 573, &report), Answer::Done);
     r.call(1, 574, Event::Leave);
@@ -169,18 +170,18 @@ fn a_wrong_name_or_cue() {
 
 #[test]
 fn a_wrong_send() {
-    let at = place(&story().calls, Answer::Out(39));
+    let at = place(&story().calls, Answer::Out(40));
     // Silence, a length too small or too great, another kind, number or cue.
     for answer in [
         Answer::Ignored,
         Answer::Done,
-        Answer::Out(38),
+        Answer::Out(39),
         Answer::Out(1000),
     ] {
         let verdict = judged(|calls| calls[at].answer = answer);
         assert_eq!(verdict, Err((at, Fault::Answer)));
     }
-    for byte in [0, 1, 9, 10, 11, 14, 36] {
+    for byte in [0, 1, 9, 10, 11, 12, 15, 37] {
         let verdict = judged(|calls| calls[at].out[byte] ^= 1);
         assert_eq!(verdict, Err((at, Fault::Answer)), "{byte}");
     }
@@ -208,7 +209,7 @@ fn a_restarted_number() {
 #[test]
 fn a_first_kept_through_a_leave() {
     let mut r = story();
-    let sent = r.calls[5].out[..39].to_vec();
+    let sent = r.calls[5].out[..40].to_vec();
     for event in [Event::Leave, Event::Left, Event::Join] {
         r.call(1, 600, event);
     }
@@ -220,14 +221,61 @@ fn a_first_kept_through_a_leave() {
     assert_eq!(check(&r.calls), Err((at, Fault::Answer)));
 }
 
+/// "Got now also needs a number not below L−63", L "the highest number that unlooped DATA, RQST, REPL and SESS [...] brought".
+#[test]
+fn a_retired_cue() {
+    // Host 0 has sent 0 to 64 and reported 64; host 2 has asked for 64.
+    let mut r = Record::new();
+    (0..3).for_each(|host| r.join(host, 0));
+    let sent: Vec<_> = (0..66)
+        .map(|n| r.call(0, 1, Event::Send(Cue::with_focus(n))))
+        .collect();
+    let report = r.call(0, 1, Event::Report);
+    assert_eq!(r.hear(2, 2, &sent[62]), got(0, 62));
+    assert_eq!(r.hear(2, 2, &report), Answer::Done);
+    let requests = [r.call(2, 500, Event::Fire), r.call(2, 500, Event::Fire)];
+    let before = r.calls.len();
+    for brings in [&sent[64], &sent[65], &report, &requests[0], &requests[1]] {
+        r.calls.truncate(before);
+        r.ends[1] = member(1);
+        assert_eq!(r.hear(1, 500, &sent[0]), got(0, 0));
+        let high = r.hear(1, 500, brings);
+        assert!(high != Answer::Ignored);
+        let last = r.ends[1].sources[0].last.unwrap();
+        // Just inside the latest 64 comes out, just below does not.
+        let inside = usize::from(last.max(63) - 63);
+        if inside > 0 {
+            assert_eq!(r.hear(1, 500, &sent[inside]), got(0, inside as u16));
+        }
+        if inside > 1 {
+            assert_eq!(r.hear(1, 500, &sent[inside - 1]), Answer::Ignored);
+            assert_eq!(check(&r.calls), Ok(()));
+            let at = r.calls.len() - 1;
+            let call = &mut r.calls[at];
+            call.answer = got(0, inside as u16 - 1);
+            call.out[..24].copy_from_slice(&Cue::with_focus(inside as i16 - 1).0);
+            assert_eq!(check(&r.calls), Err((at, Fault::Answer)));
+        }
+        assert!(last >= 63);
+    }
+    // Looped ones bring nothing, and before the first hand-out nothing counts.
+    r.calls.truncate(before);
+    r.ends[1] = member(1);
+    assert_eq!(r.hear(1, 500, &report), Answer::Done);
+    assert_eq!(r.hear(1, 500, &requests[0]), Answer::Ignored);
+    assert_eq!(r.hear(1, 500, &sent[0]), got(0, 0));
+    assert_eq!(r.hear(1, 500, &sent[1]), got(0, 1));
+    assert_eq!(check(&r.calls), Ok(()));
+}
+
 #[test]
 fn a_repair_that_opens_a_source() {
     let mut r = story();
     let repair = r
         .calls
         .iter()
-        .find(|call| call.out[0] == 3)
-        .map(|call| call.out[..39].to_vec())
+        .find(|call| call.out[0] == message::REPL)
+        .map(|call| call.out[..40].to_vec())
         .unwrap();
     r.join(2, 600);
     assert_eq!(r.hear(2, 600, &repair), Answer::Ignored);

@@ -65,12 +65,12 @@ fn focus() {
     assert_eq!(cue.focus(), -2);
     let mut end = member(0);
     let sent = send(&mut end, cue, 0);
-    assert_eq!(sent[13..15], [0xFF, 0xFE]);
+    assert_eq!(sent[14..16], [0xFF, 0xFE]);
 
     let beyond = Cue::with_focus(-2001);
     assert_eq!(act(&mut end, &Event::Send(beyond), 0), Answer::Refused(6));
     let mut wire = sent;
-    wire[13..15].copy_from_slice(&(-2001i16).to_be_bytes());
+    wire[14..16].copy_from_slice(&(-2001i16).to_be_bytes());
     assert_eq!(read(&wire), Err(10));
     assert_eq!(
         act(&mut member(1), &Event::Arrival(wire), 0),
@@ -108,14 +108,16 @@ fn cue_fields() {
 }
 
 #[test]
-fn cue_63_and_a_next_send() {
-    // "Cue 63 is sent; a next send: 7."
+fn cue_65535_and_a_next_send() {
+    // "Cue 63 is sent; a next send: 7."; P7: "Number 7 comes only at 65,536, in document 01's case after 65,535."
     let mut end = member(2);
-    for number in 0..64 {
+    for number in 0..=65_535 {
         let read = read(&send(&mut end, Cue::ZERO, 5)).unwrap();
         assert_eq!(read.names[0].number, number);
     }
-    assert_eq!(end.next, 64);
+    assert_eq!(end.next, 65_536);
+    assert_eq!(end.sources[2].missed, 0);
+    assert_eq!(end.sources[2].first, Some(65_472));
     assert_eq!(
         act(&mut end, &Event::Send(Cue::ZERO), 5),
         Answer::Refused(7)
@@ -130,7 +132,7 @@ fn empty_message() {
     // P5: "the case of the empty message reads "probe""
     assert_eq!(message::read(&[]), Ok(Datagram::Probe));
     let arrival = Event::Arrival(vec![]);
-    let report = [4, 0, 0, 0, 0, 0, 0, 3, 0, 0, 0, 0];
+    let report = [20, 0, 0, 0, 0, 0, 0, 3, 0, 0, 0, 0];
     assert_eq!(put_out(&mut member(0), &arrival, 3), report);
 }
 
@@ -181,21 +183,21 @@ fn clocks() {
 fn fresh_report() {
     // "Fresh member's Report: 12 bytes."
     let sent = put_out(&mut member(3), &Event::Report, 0x0102);
-    assert_eq!(sent, [4, 3, 0, 0, 0, 0, 1, 2, 0, 0, 0, 0]);
+    assert_eq!(sent, [20, 3, 0, 0, 0, 0, 1, 2, 0, 0, 0, 0]);
 }
 
 #[test]
 fn request_bytes() {
     // "RQST of end 1 at clock 392 for name 0,1: hexadecimal 02 01 00 00 00 00 01
-    // 88 01 00 01 01 00 00 00."
+    // 88 01 00 01 01 00 00 00.", by P7 "one of reading"
+    let case = [2, 1, 0, 0, 0, 0, 1, 0x88, 1, 0, 1, 1, 0, 0, 0];
     let mut end = member(1);
     hear(&mut end, &data(0, 0, Cue::ZERO), 12);
     hear(&mut end, &data(0, 2, Cue::ZERO), 32);
     assert_eq!(act(&mut end, &Event::Fire, 391), Answer::Nothing);
-    assert_eq!(
-        put_out(&mut end, &Event::Fire, 392),
-        [2, 1, 0, 0, 0, 0, 1, 0x88, 1, 0, 1, 1, 0, 0, 0]
-    );
+    let sent = put_out(&mut end, &Event::Fire, 392);
+    assert_eq!(sent, [18, 1, 0, 0, 0, 0, 1, 0x88, 1, 0, 0, 1, 1, 0, 0, 0]);
+    assert_eq!(read(&case), read(&sent));
 }
 
 #[test]

@@ -10,11 +10,11 @@ use crate::support::*;
 
 const C: Cue = Cue([0; 24]);
 
-fn got(source: u8, number: u8) -> Answer {
+fn got(source: u8, number: u16) -> Answer {
     Answer::Got { source, number }
 }
 
-fn clash(source: u8, number: u8) -> Answer {
+fn clash(source: u8, number: u16) -> Answer {
     Answer::Clash { source, number }
 }
 
@@ -22,7 +22,7 @@ fn body(end: &End, source: usize, number: usize) -> Body {
     end.sources[source].names[number].body
 }
 
-fn span(end: &End, source: usize) -> Option<(u8, u8)> {
+fn span(end: &End, source: usize) -> Option<(u16, u16)> {
     let source = &end.sources[source];
     Some((source.first?, source.last?))
 }
@@ -154,7 +154,7 @@ fn own_number_and_first_across_a_leave() {
 fn send_holds_and_puts_out_data() {
     let mut end = member(6);
     for number in 0..3 {
-        let cue = Cue::with_focus(number.into());
+        let cue = Cue::with_focus(number as i16);
         let sent = read(&send(&mut end, cue, 7)).unwrap();
         let mut expected = data(6, number, cue);
         expected.stamp = 7;
@@ -162,7 +162,7 @@ fn send_holds_and_puts_out_data() {
         assert_eq!(body(&end, 6, number.into()), Body::Held);
         assert_eq!(end.sources[6].names[usize::from(number)].cue, cue);
         assert_eq!(span(&end, 6), Some((0, number)));
-        assert_eq!(end.next, number + 1);
+        assert_eq!(end.next, u32::from(number) + 1);
     }
 }
 
@@ -196,7 +196,7 @@ fn rounds() {
         // The next round is set at the clock of the Fire, here later than due.
         clock = expected.due + 3;
         let answer = watched(&mut end, &Event::Fire, clock, &draws, OUTPUT_LEN).0;
-        assert_eq!(answer, Answer::Out(15));
+        assert_eq!(answer, Answer::Out(16));
     }
 }
 
@@ -614,7 +614,7 @@ fn report_rules() {
         hear(&mut end, &data(host, 60, C), 200);
         hear(&mut end, &sess(host, 1, &[], &[]), 200);
     }
-    assert_eq!(put_out(&mut end, &Event::Report, 200).len(), 119);
+    assert_eq!(put_out(&mut end, &Event::Report, 200).len(), 127);
 }
 
 #[test]

@@ -240,12 +240,14 @@ fn sixty_fifth_message() {
         script += "0 send 1 0\n";
     }
     // A refused send is no message; what answers nothing neither.
-    script += "0 send 1 0\n1 fire 1\n1 hear 1 63\n";
+    script += "0 send 1 2001\n1 fire 1\n1 hear 1 63\n";
     let printed = house(script.as_bytes());
-    assert!(printed.ends_with("0 1 out 63\n0 1 refused 7\n1 1 nothing\n1 1 got 0 63 0\n"));
-    // The end would put it out, the house has no number for it.
-    script += "1 report 1\n1 fire 1\n";
-    assert_eq!(house(script.as_bytes()), printed + "bad\n");
+    assert!(printed.ends_with("0 1 out 63\n0 1 refused 6\n1 1 nothing\n1 1 got 0 63 0\n"));
+    // The end would put it out, the house has no number for it: by Report, or by a Send of number 64.
+    for more in ["1 report 1\n1 fire 1\n", "0 send 1 0\n1 fire 1\n"] {
+        let longer = script.clone() + more;
+        assert_eq!(house(longer.as_bytes()), printed.clone() + "bad\n");
+    }
 }
 
 #[test]

@@ -1,7 +1,8 @@
 //! Byte layouts, the reader's and the writer's refusals, and arbitrary bytes.
 
 use twin::cue::Cue;
-use twin::message::{write, write_probe, Datagram, Echo, Message, Name, Report};
+use twin::message::{is_old, put_together_old, write, write_probe};
+use twin::message::{Datagram, Echo, Message, Name, Report, DATA, REPL, RQST, SESS};
 use twin::{CLOCK_MAX, OUTPUT_LEN};
 
 use crate::support::*;
@@ -16,7 +17,7 @@ fn numbered_cue() -> Cue {
 
 /// A SESS with as much as fits: 8 reports and 7 echoes.
 fn full_sess() -> Message {
-    let reports: Vec<_> = (0..8).map(|source| (source, 63)).collect();
+    let reports: Vec<_> = (0..8).map(|source| (source, 65_535)).collect();
     let echoes: Vec<_> = (0..8)
         .filter(|&host| host != 5)
         .map(|host| (host, CLOCK_MAX, 0x0102_0304_0506))
@@ -26,7 +27,7 @@ fn full_sess() -> Message {
 
 fn samples() -> Vec<Message> {
     vec![
-        data(6, 63, numbered_cue()),
+        data(6, 64, numbered_cue()),
         rqst(1, 0, 1),
         repl(2, 0, 9, 1, numbered_cue()),
         repl(0, 0, 9, 1, numbered_cue()),
@@ -40,13 +41,13 @@ fn samples() -> Vec<Message> {
 fn data_bytes() {
     let mut message = data(6, 63, numbered_cue());
     message.stamp = 0x0102_0304_0506;
-    let mut expected = vec![1, 6, 1, 2, 3, 4, 5, 6];
-    expected.extend([1, 6, 63, 6]);
+    let mut expected = vec![17, 6, 1, 2, 3, 4, 5, 6];
+    expected.extend([1, 6, 0, 63, 6]);
     expected.extend([1, 0xFF, 0xFE, 0, 0, 0, 0, 0, 0, 0, 0]);
     expected.extend(10..24);
     expected.extend([0, 0]);
     assert_eq!(bytes(&message), expected);
-    assert_eq!(expected.len(), 39);
+    assert_eq!(expected.len(), 40);
 }
 
 #[test]
@@ -55,18 +56,21 @@ fn rqst_bytes() {
     message.stamp = 392;
     assert_eq!(
         bytes(&message),
-        [2, 1, 0, 0, 0, 0, 1, 0x88, 1, 0, 1, 1, 0, 0, 0]
+        [18, 1, 0, 0, 0, 0, 1, 0x88, 1, 0, 0, 1, 1, 0, 0, 0]
     );
+    // "document 01's RQST case is one of reading"
+    let case = [2, 1, 0, 0, 0, 0, 1, 0x88, 1, 0, 1, 1, 0, 0, 0];
+    assert_eq!(read(&case), Ok(message));
 }
 
 #[test]
 fn repl_bytes() {
-    let mut expected = vec![3, 2, 0, 0, 0, 0, 0, 0];
-    expected.extend([1, 0, 9, 1]);
+    let mut expected = vec![19, 2, 0, 0, 0, 0, 0, 0];
+    expected.extend([1, 0, 0x12, 0x34, 1]);
     expected.push(1);
     expected.extend(numbered_cue().0);
     expected.extend([0, 0]);
-    assert_eq!(bytes(&repl(2, 0, 9, 1, numbered_cue())), expected);
+    assert_eq!(bytes(&repl(2, 0, 0x1234, 1, numbered_cue())), expected);
 }
 
 #[test]
@@ -74,17 +78,17 @@ fn sess_bytes() {
     let message = sess(
         3,
         77,
-        &[(0, 1), (3, 63)],
+        &[(0, 1), (3, 0x1234)],
         &[(1, 10, 300), (7, CLOCK_MAX, 0)],
     );
-    let mut expected = vec![4, 3, 0, 0, 0, 0, 0, 77];
+    let mut expected = vec![20, 3, 0, 0, 0, 0, 0, 77];
     expected.extend([0, 0]);
-    expected.extend([2, 0, 1, 3, 63]);
+    expected.extend([2, 0, 0, 1, 3, 0x12, 0x34]);
     expected.extend([2]);
     expected.extend([1, 0, 0, 0, 0, 0, 10, 0, 0, 0, 0, 1, 44]);
     expected.extend([7, 255, 255, 255, 255, 255, 255, 0, 0, 0, 0, 0, 0]);
     assert_eq!(bytes(&message), expected);
-    assert_eq!(bytes(&full_sess()).len(), 119);
+    assert_eq!(bytes(&full_sess()).len(), 127);
 }
 
 #[test]
@@ -114,15 +118,62 @@ fn question_8() {
         short[at] = 255;
         assert_eq!(read(&short), Err(8));
     }
-    // All counts at 255 and a length to match: the counts account for it.
-    let mut huge = vec![4; 8];
-    for size in [3, 24, 2, 13] {
-        huge.push(255);
-        huge.extend(vec![0; 255 * size]);
+    // All counts at 255 and a length to match: the counts account for it, "kinds 1 to 4 by the old sizes and every other kind byte by
+    // the new".
+    for (kind, name, report) in [(4, 3, 2), (20, 4, 3), (5, 4, 3), (255, 4, 3)] {
+        let mut huge = vec![kind; 8];
+        for size in [name, 24, report, 13] {
+            huge.push(255);
+            huge.extend(vec![0; 255 * size]);
+        }
+        assert_eq!(read(&huge), Err(9));
+        huge.pop();
+        assert_eq!(read(&huge), Err(8));
     }
-    assert_eq!(read(&huge), Err(9));
-    huge.pop();
-    assert_eq!(read(&huge), Err(8));
+}
+
+/// "the old kinds are still read, numbers to 63, as the same meanings and no longer written".
+#[test]
+fn old_kinds() {
+    for message in samples() {
+        let small = changed(&message, |m| {
+            m.names.iter_mut().for_each(|name| name.number %= 64);
+            m.reports.iter_mut().for_each(|report| report.last %= 64);
+        });
+        let old = changed(&small, |m| m.kind -= 16);
+        assert_eq!(read(&put_together_old(&old)), Ok(small.clone()));
+        assert_eq!(write(&old, &mut [FILL; OUTPUT_LEN]), Err(9));
+        // The other sizes, where it has a name or a report.
+        if !small.names.is_empty() || !small.reports.is_empty() {
+            assert_eq!(read(&lay(&old)), Err(8));
+            assert_eq!(read(&put_together_old(&small)), Err(8));
+        }
+        for number in [64, 65, 128, 255] {
+            let high = changed(&old, |m| {
+                m.names.iter_mut().for_each(|name| name.number = number);
+                m.reports.iter_mut().for_each(|report| report.last = number);
+            });
+            let refused = high.names.len() + high.reports.len() > 0;
+            let answer = read(&put_together_old(&high));
+            assert_eq!(answer.err(), refused.then_some(10));
+        }
+    }
+    for kind in [0, 5, 16, 21, 255] {
+        let message = changed(&rqst(1, 0, 1), |m| m.kind = kind);
+        assert_eq!(read(&put_together_old(&message)), Err(8));
+        assert_eq!(read(&lay(&message)), Err(9));
+    }
+}
+
+/// "Cue numbers become 0..65535, two bytes in names and reports".
+#[test]
+fn every_number_is_read_back() {
+    for number in [0, 1, 63, 64, 255, 256, 32_768, 65_534, 65_535] {
+        let message = data(6, number, numbered_cue());
+        assert_eq!(read(&bytes(&message)), Ok(message));
+        let message = sess(3, 1, &[(0, number), (7, number)], &[]);
+        assert_eq!(read(&bytes(&message)), Ok(message));
+    }
 }
 
 /// Reader and writer must agree on questions 9, 10 and 11; the writer then keeps
@@ -139,7 +190,9 @@ fn lay(message: &Message) -> Vec<u8> {
     bytes.extend(&message.stamp.to_be_bytes()[2..]);
     bytes.push(message.names.len() as u8);
     for n in &message.names {
-        bytes.extend([n.source, n.number, n.host]);
+        bytes.push(n.source);
+        bytes.extend(n.number.to_be_bytes());
+        bytes.push(n.host);
     }
     bytes.push(message.cues.len() as u8);
     for cue in &message.cues {
@@ -147,7 +200,8 @@ fn lay(message: &Message) -> Vec<u8> {
     }
     bytes.push(message.reports.len() as u8);
     for r in &message.reports {
-        bytes.extend([r.source, r.last]);
+        bytes.push(r.source);
+        bytes.extend(r.last.to_be_bytes());
     }
     bytes.push(message.echoes.len() as u8);
     for e in &message.echoes {
@@ -190,13 +244,13 @@ fn question_9() {
         refused_by_both(&changed(message, |m| m.reports.push(report)), 9);
         refused_by_both(&changed(message, |m| m.echoes.push(echo)), 9);
         // A SESS with names, a request with a cue, a repair without.
-        refused_by_both(&changed(message, |m| m.kind = 4), 9);
-        let other = if message.kind == 2 { 3 } else { 2 };
+        refused_by_both(&changed(message, |m| m.kind = SESS), 9);
+        let other = if message.kind == RQST { REPL } else { RQST };
         refused_by_both(&changed(message, |m| m.kind = other), 9);
     }
     refused_by_both(&changed(&full_sess(), |m| m.reports.push(report)), 9);
     refused_by_both(&changed(&full_sess(), |m| m.echoes.push(echo)), 9);
-    refused_by_both(&changed(&samples()[4], |m| m.kind = 1), 9);
+    refused_by_both(&changed(&samples()[4], |m| m.kind = DATA), 9);
 }
 
 #[test]
@@ -206,7 +260,6 @@ fn question_10() {
     }
     for message in &samples()[..4] {
         refused_by_both(&changed(message, |m| m.names[0].source = 8), 10);
-        refused_by_both(&changed(message, |m| m.names[0].number = 64), 10);
         refused_by_both(&changed(message, |m| m.names[0].host = 255), 10);
     }
     for message in [data(0, 0, Cue::ZERO), repl(1, 0, 0, 2, Cue::ZERO)] {
@@ -223,7 +276,6 @@ fn question_10() {
     }
     let last = full_sess().echoes.len() - 1;
     refused_by_both(&changed(&full_sess(), |m| m.reports[7].source = 8), 10);
-    refused_by_both(&changed(&full_sess(), |m| m.reports[0].last = 64), 10);
     refused_by_both(&changed(&full_sess(), |m| m.echoes[last].host = 8), 10);
 
     // "stamps and held ticks below 2^48": six bytes cannot hold more, so only the
@@ -285,7 +337,7 @@ fn first_no_decides() {
 #[test]
 fn question_1_of_the_writer() {
     for message in samples() {
-        for length in [0, 12, 39, 119, 127] {
+        for length in [0, 12, 40, 119, 127] {
             let mut out = vec![FILL; length];
             assert_eq!(write(&message, &mut out), Err(1));
             assert_eq!(out, vec![FILL; length]);
@@ -332,6 +384,7 @@ fn arbitrary_bytes() {
             let at = rng.below(candidate.len() as u64) as usize;
             match rng.below(4) {
                 0 => candidate[at] = rng.byte(),
+                1 if at == 0 => candidate[0] = rng.small(4) + 1,
                 1 => candidate[at] = rng.small(9),
                 2 => candidate.truncate(at),
                 _ => candidate.insert(at, rng.small(9)),
@@ -340,7 +393,12 @@ fn arbitrary_bytes() {
         match twin::message::read(&candidate) {
             Ok(Datagram::Message(message)) => {
                 accepted += 1;
-                assert_eq!(bytes(&message), candidate);
+                let again = bytes(&message);
+                if is_old(candidate[0]) {
+                    assert_eq!(read(&again), Ok(message));
+                } else {
+                    assert_eq!(again, candidate);
+                }
             }
             Ok(Datagram::Probe) => assert!(candidate.is_empty()),
             Err(number) => assert!((8..=11).contains(&number) && !candidate.is_empty()),

@@ -2,6 +2,7 @@
 
 use twin::cue::Cue;
 use twin::end::{Answer, End, Event, Status};
+use twin::message::put_together_old;
 use twin::{CLOCK_MAX, DRAWS, OUTPUT_LEN};
 
 use crate::support::*;
@@ -34,7 +35,7 @@ fn any_event_asks_1_to_5_in_every_status() {
         let mut good = with_status(1, status);
         good.clock = 50;
         let mut unsound = good.clone();
-        unsound.next = 65;
+        unsound.next = 65_537;
         let mut events = every_event();
         // The later questions' no does not come first.
         events.push(Event::Send(Cue::with_focus(-2001)));
@@ -63,12 +64,15 @@ fn send_and_arrival_ask_in_every_status() {
         let bad = Event::Send(Cue::with_focus(2001));
         assert_eq!(act(&mut end, &bad, 3), Answer::Refused(6));
         let mut looped = bytes(&data(1, 0, Cue::ZERO));
-        looped[10] = 64;
+        looped[9] = 8;
+        let mut old = data(1, 64, Cue::ZERO);
+        old.kind = 1;
         for (bytes, number) in [
             (vec![4], 8),
             (vec![4; 11], 8),
             (vec![0; 12], 9),
             (looped, 10),
+            (put_together_old(&old), 10),
             (vec![4, 1, 0, 0, 0, 0, 0, 0, 0, 0, 2, 2, 0, 1, 0, 0], 11),
         ] {
             assert_eq!(
@@ -76,7 +80,7 @@ fn send_and_arrival_ask_in_every_status() {
                 Answer::Refused(number)
             );
         }
-        end.next = 64;
+        end.next = 65_536;
         let send = act(&mut end, &Event::Send(Cue::ZERO), 3);
         if status == Status::Member {
             assert_eq!(send, Answer::Refused(7));

@@ -146,7 +146,7 @@ fn refusals_come_before_reasons() {
         Why::Refused(6)
     );
     let mut last = member(1);
-    last.next = 64;
+    last.next = 65_536;
     assert_eq!(why(&last, &Event::Send(C), 50), Why::Refused(7));
     last.status = Status::Idle;
     let wrong_status = Why::Ignored(Reason::WrongStatus);
@@ -163,14 +163,14 @@ fn refusals_come_before_reasons() {
         why(&end, &Event::Arrival(looped.clone()), 50),
         Why::Refused(9)
     );
-    looped[0] = 2;
-    looped[10] = 64;
+    looped[0] = 18;
+    looped[9] = 8;
     assert_eq!(
         why(&end, &Event::Arrival(looped.clone()), 50),
         Why::Refused(10)
     );
-    looped[10] = 3;
-    looped[11] = 4;
+    looped[9] = 1;
+    looped[12] = 4;
     assert_eq!(why(&end, &Event::Arrival(looped), 50), Why::Refused(11));
     let mut unsound = end;
     unsound.sources[1].names[3].reply = Some(Reply {

@@ -18,7 +18,27 @@ struct Seen {
     replies: u32,
     reports: u32,
     left: u32,
+    retired: u32,
+    missed: u32,
     refused: [u32; 12],
+}
+
+/// By source: the numbers handed out to one end since joining, in order.
+type Handed = [Vec<u16>; 8];
+
+/// "Per source the end counts the numbers retired without a cue since joining, those passed over in one rise included; this equals the
+/// count taken over the history of events": of the numbers from the first one handed out those below first that never were.
+fn counted(end: &End, handed: &Handed) {
+    for (host, (source, handed)) in (0..).zip(end.sources.iter().zip(handed)) {
+        let missed = match (handed.first(), source.first) {
+            (Some(&start), Some(first)) => (start..first).filter(|n| !handed.contains(n)).count(),
+            (start, first) => {
+                assert!(start.is_none() && (first.is_none() || host == end.host));
+                0
+            }
+        };
+        assert_eq!(source.missed as usize, missed);
+    }
 }
 
 fn admissible(rng: &mut Rng) -> Params {
@@ -88,6 +108,7 @@ fn run(seed: u64, calls: u32, calm: u64, start: u64, pace: u64, seen: &mut Seen)
         .collect();
     let mut book = Book::default();
     let mut net: Vec<Vec<u8>> = Vec::new();
+    let mut handed: [Handed; 8] = Default::default();
     let mut now = start;
     for place in 0..calls {
         now += rng.below(pace);
@@ -103,7 +124,21 @@ fn run(seed: u64, calls: u32, calm: u64, start: u64, pace: u64, seen: &mut Seen)
         let output = OUTPUT_LEN - usize::from(rng.once_in(40));
         let draws = DRAWS - usize::from(rng.once_in(40));
         let draws = rng.draws(draws);
+        let firsts = end.sources.map(|source| source.first);
         let (answer, out) = watched(end, &event, clock, &draws, output);
+        for (first, source) in firsts.iter().zip(&end.sources) {
+            seen.retired += u32::from(first.is_some() && source.first > *first);
+            seen.missed = seen.missed.max(source.missed);
+        }
+        let handed = &mut handed[usize::from(host)];
+        match answer {
+            Answer::Got { source, number } => handed[usize::from(source)].push(number),
+            Answer::Done if end.sources.iter().all(|source| source.first.is_none()) => {
+                *handed = Default::default();
+            }
+            _ => {}
+        }
+        counted(end, handed);
         let call = Call {
             host,
             event,
@@ -127,8 +162,8 @@ fn note(seen: &mut Seen, call: &Call) {
             message::DATA => seen.originals += 1,
             _ => seen.repairs += 1,
         },
-        (Event::Fire, Answer::Out(15)) => seen.requests += 1,
-        (Event::Fire, Answer::Out(39)) => seen.replies += 1,
+        (Event::Fire, Answer::Out(16)) => seen.requests += 1,
+        (Event::Fire, Answer::Out(40)) => seen.replies += 1,
         (Event::Report, Answer::Out(_)) => seen.reports += 1,
         (Event::Left, Answer::Done) => seen.left += 1,
         _ => (),
@@ -144,8 +179,9 @@ fn eight_ends() {
         let pace = [3, 60, 900][seed as usize % 3];
         run(seed, 2500, calm, 0, pace, &mut seen);
     }
-    // Long enough for an end to run out of numbers.
+    // Long enough for windows to move on.
     run(999, 8000, 4000, 0, 60, &mut seen);
+    run(998, 40_000, 4000, 0, 60, &mut seen);
     // At the last clocks there are, where dues lie beyond them.
     run(1000, 2500, 400, CLOCK_MAX - 50_000, 25, &mut seen);
     assert!(seen.originals > 1000, "{seen:?}");
@@ -154,9 +190,10 @@ fn eight_ends() {
     assert!(seen.replies > 100, "{seen:?}");
     assert!(seen.reports > 100, "{seen:?}");
     assert!(seen.left > 100, "{seen:?}");
-    for number in [1, 2, 4, 5, 6, 7, 8, 9, 10, 11] {
+    assert!(seen.retired > 100 && seen.missed > 10, "{seen:?}");
+    for number in [1, 2, 4, 5, 6, 8, 9, 10, 11] {
         assert!(seen.refused[number] > 0, "{number}: {seen:?}");
     }
-    // Question 3 never says no: an end leaves sound states behind.
-    assert_eq!(seen.refused[3], 0);
+    // Question 3 never says no: an end leaves sound states behind. 65,536 cues are not sent here.
+    assert_eq!((seen.refused[3], seen.refused[7]), (0, 0));
 }

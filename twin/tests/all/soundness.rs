@@ -61,9 +61,9 @@ fn fields_in_range() {
     sound(&end, |e| e.params = params([0, 32, 32, 32, 32, 32]));
 
     let idle = member(3);
-    sound(&idle, |e| e.next = 64);
-    unsound(&idle, |e| e.next = 65);
-    unsound(&idle, |e| e.next = 255);
+    sound(&idle, |e| e.next = 65_536);
+    unsound(&idle, |e| e.next = 65_537);
+    unsound(&idle, |e| e.next = u32::MAX);
 }
 
 #[test]
@@ -90,12 +90,37 @@ fn first_and_last() {
         e.sources[0].first = Some(1);
         e.sources[0].last = Some(0);
     });
-    // in range
+    // "last − first at most 63": the places of 67 to 69 are those of 3 to 5.
+    sound(&end, |e| {
+        e.sources[0].first = Some(67);
+        e.sources[0].last = Some(69);
+    });
     unsound(&end, |e| {
         e.sources[0].first = Some(64);
         e.sources[0].last = Some(64);
     });
     unsound(&end, |e| e.sources[0].last = Some(255));
+    let span = |first, last| {
+        move |e: &mut End| {
+            let source = &mut e.sources[0];
+            (source.first, source.last) = (Some(first), Some(last));
+            for record in &mut source.names {
+                record.body = Body::Held;
+            }
+        }
+    };
+    for first in [0, 1, 63, 64, 65_472] {
+        sound(&member(3), span(first, first + 63));
+        unsound(&member(3), span(first, first + 62));
+    }
+    unsound(&member(3), span(0, 64));
+    unsound(&member(3), span(65_471, 65_535));
+    unsound(&member(3), span(0, 65_535));
+    // "that count at most first, 0 without one"
+    sound(&end, |e| e.sources[0].missed = 3);
+    unsound(&end, |e| e.sources[0].missed = 4);
+    unsound(&end, |e| e.sources[1].missed = 1);
+    unsound(&end, |e| e.sources[3].missed = 1);
     // "own last, if any, is next−1"
     unsound(&end, |e| e.next = 1);
     unsound(&end, |e| e.next = 3);
@@ -213,6 +238,7 @@ fn non_members() {
         unsound(&busy(), |e| e.status = status);
         let end = with_status(1, status);
         unsound(&end, |e| e.sources[2].distance = 41);
+        unsound(&end, |e| e.sources[2].missed = 1);
         unsound(&end, |e| e.sources[1].distance = 40);
         unsound(&end, |e| {
             e.sources[2].heard = Some(Heard { stamp: 0, at: 0 })

@@ -32,6 +32,10 @@ impl Rng {
         self.below(bound.into()) as u8
     }
 
+    pub fn number(&mut self, bound: u64) -> u16 {
+        self.below(bound) as u16
+    }
+
     /// True once in so many.
     pub fn once_in(&mut self, bound: u64) -> bool {
         self.below(bound) == 0
@@ -106,20 +110,20 @@ pub fn with_status(host: u8, status: Status) -> End {
     end
 }
 
-pub fn data(source: u8, number: u8, cue: Cue) -> Message {
+pub fn data(source: u8, number: u16, cue: Cue) -> Message {
     named(message::DATA, source, (source, number, source), vec![cue])
 }
 
-pub fn rqst(sender: u8, source: u8, number: u8) -> Message {
+pub fn rqst(sender: u8, source: u8, number: u16) -> Message {
     named(message::RQST, sender, (source, number, sender), vec![])
 }
 
-pub fn repl(sender: u8, source: u8, number: u8, requester: u8, cue: Cue) -> Message {
+pub fn repl(sender: u8, source: u8, number: u16, requester: u8, cue: Cue) -> Message {
     let name = (source, number, requester);
     named(message::REPL, sender, name, vec![cue])
 }
 
-fn named(kind: u8, sender: u8, (source, number, host): (u8, u8, u8), cues: Vec<Cue>) -> Message {
+fn named(kind: u8, sender: u8, (source, number, host): (u8, u16, u8), cues: Vec<Cue>) -> Message {
     Message {
         kind,
         sender,
@@ -136,7 +140,7 @@ fn named(kind: u8, sender: u8, (source, number, host): (u8, u8, u8), cues: Vec<C
 }
 
 /// A SESS with reports (source, last) and echoes (host, stamp, held ticks).
-pub fn sess(sender: u8, stamp: u64, reports: &[(u8, u8)], echoes: &[(u8, u64, u64)]) -> Message {
+pub fn sess(sender: u8, stamp: u64, reports: &[(u8, u16)], echoes: &[(u8, u64, u64)]) -> Message {
     Message {
         kind: message::SESS,
         sender,
@@ -229,8 +233,11 @@ pub fn watched(
 
 /// A name's waiting request, which must be there.
 pub fn request(end: &End, source: usize, number: usize) -> Request {
-    match end.sources[source].names[number].body {
-        Body::Waiting(request) => request,
+    match end.sources[source]
+        .kept(number as u16)
+        .map(|kept| kept.body)
+    {
+        Some(Body::Waiting(request)) => request,
         other => panic!("{source},{number} has {other:?}"),
     }
 }

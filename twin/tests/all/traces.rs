@@ -48,7 +48,7 @@ const AT: At = At {
 };
 
 /// One line of each form, each as it is printed.
-const LINES: [&str; 80] = [
+const LINES: [&str; 84] = [
     "start",
     "draws 66 65535 7",
     "draws 0 0 0",
@@ -72,9 +72,9 @@ const LINES: [&str; 80] = [
     "7 hear 8 bytes none",
     "7 hear 8 bytes 0102FF",
     "8 hear 9 rqst 1 392 name 0 1 1",
-    "8 hear 9 data 255 5 name 255 254 253 cue -1 2 3 4 5",
+    "8 hear 9 data 255 5 name 255 65535 253 cue -1 2 3 4 5",
     "8 hear 9 repl 1 2 name 0 0 7 cuebytes FFFE00000000000000000000000000000000000000000001",
-    "8 hear 9 sess 1 18446744073709551615 report 0 1 report 1 2 echo 3 4 5 echo 4 5 18446744073709551615",
+    "8 hear 9 sess 1 18446744073709551615 report 0 1 report 1 65535 echo 3 4 5 echo 4 5 18446744073709551615",
     "8 hear 9 0 0 0",
     "8 hear 9 255 0 0 counts 1 2 3 18446744073709551615",
     "read none",
@@ -90,15 +90,16 @@ const LINES: [&str; 80] = [
     "8 copy 9",
     "0 set host 255",
     "0 set clock 18446744073709551615",
-    "0 set next 255",
+    "0 set next 4294967295",
     "0 set params 0 1 2 3 4 255",
     "0 set status idle",
     "0 set status joining",
     "0 set status member",
     "0 set status leaving",
     "0 set status crashed",
-    "0 set span 7 255 0",
+    "0 set span 7 65535 0",
     "0 set closed 7",
+    "0 set missed 7 4294967295",
     "0 set distance 7 18446744073709551615",
     "0 set heard 7 18446744073709551615 0",
     "0 set unheard 7",
@@ -116,6 +117,9 @@ const LINES: [&str; 80] = [
     "0 ask params",
     "0 ask distance 7",
     "0 ask span 7",
+    "0 ask missed 7",
+    "write 1 0 5 cue 0 0 0 0 0 counts 1 1 0 0",
+    "read 12010000000001880100000101000000",
     "0 ask heard 7",
     "0 ask record 7 63",
     "0 ask same 9",
@@ -128,7 +132,7 @@ const LINES: [&str; 80] = [
     "4 why hear 40 rqst 1 392 name 0 1 1 = none",
     "# a heading = with | marks",
     "#",
-    "0 fire 3 = out 15 rqst | a remark | and = more",
+    "0 fire 3 = out 16 rqst | a remark | and = more",
 ];
 
 #[test]
@@ -167,8 +171,17 @@ fn forms_have_their_values() {
     let composed = Composed::of(message);
     let brought = Brought::Composed(composed.clone());
     assert_eq!(does("1 hear 7 data 2 3"), call(Verb::Hear(brought.clone())));
-    assert_eq!(does("1 hear 7 1 2 3"), call(Verb::Hear(brought)));
-    assert_eq!(does("write 1 2 3"), Some(Does::Write(composed)));
+    assert_eq!(does("1 hear 7 17 2 3"), call(Verb::Hear(brought)));
+    assert_eq!(does("write 17 2 3"), Some(Does::Write(composed)));
+    let span = Field::Span {
+        source: 3,
+        first: 65_472,
+        last: 65_535,
+    };
+    assert_eq!(does("2 set span 3 65472 65535"), set(span));
+    assert_eq!(does("2 set missed 3 70000"), set(Field::Missed(3, 70_000)));
+    assert_eq!(does("2 set next 65536"), set(Field::Next(65_536)));
+    assert_eq!(does("2 ask missed 3"), ask(Asked::Missed(3)));
     assert_eq!(
         does("2 set status leaving"),
         set(Field::Status(Status::Leaving))
@@ -228,7 +241,7 @@ fn expectations_and_remarks() {
 }
 
 /// Lines that are malformed in one place each.
-const MALFORMED: [&str; 109] = [
+const MALFORMED: [&str; 118] = [
     " ",
     "0",
     "stop",
@@ -317,7 +330,16 @@ const MALFORMED: [&str; 109] = [
     "test 0 0",
     "0 copy 10",
     "0 copy 1 = same",
-    "0 set next 256",
+    "0 set next 4294967296",
+    "0 set span 0 65536 0",
+    "0 set span 0 0 65536",
+    "0 set missed 0",
+    "0 set missed 8 0",
+    "0 set missed 0 4294967296",
+    "0 ask missed",
+    "0 ask missed 8",
+    "write data 0 0 name 0 65536 0",
+    "write sess 0 0 report 0 65536",
     "0 set status Idle",
     "0 set span 8 0 0",
     "0 set held 0 64",
@@ -397,20 +419,20 @@ fn a_script_of_house_is_a_trace() {
         "2 done",
         "3 done",
         "4 done",
-        "5 out 39 data 0 0",
+        "5 out 40 data 0 0",
         "6 got 0 0",
-        "7 out 39 data 0 1",
-        "8 out 39 data 0 2",
+        "7 out 40 data 0 1",
+        "8 out 40 data 0 2",
         "9 got 0 2",
         "10 nothing",
-        "11 out 15 rqst 0 1",
+        "11 out 16 rqst 0 1",
         "12 done",
-        "13 out 39 repl 0 1",
+        "13 out 40 repl 0 1",
         "14 got 0 1",
     ];
     assert_eq!(said, expected);
     // "RQST of end 1 at clock 392 for name 0,1"
-    assert!(lines[10].starts_with("11 out 15 rqst 0 1; 020100000000018801000101000000; "));
+    assert!(lines[10].starts_with("11 out 16 rqst 0 1; 12010000000001880100000101000000; "));
     assert!(lines[13].contains("; FFFE00000000000000000000000000000000000000000000; "));
     let printed = played(SCRIPT, Mode::Plain);
     assert!(printed.ends_with("\n14 lines, 14 calls, 0 right, 0 wrong\n"));
@@ -453,9 +475,9 @@ fn the_digest_is_the_pages() {
     // fresh end of host 0, and what the script leaves of host 1's.
     assert_eq!(
         answers("3 open 0 9 8 4 4 4 8\n"),
-        ["1 opened; none; C46C89397BAAECC4"]
+        ["1 opened; none; BE7C99559F8A3FC4"]
     );
-    assert!(answers(SCRIPT)[13].ends_with("; 86D9486526BAE414; none"));
+    assert!(answers(SCRIPT)[13].ends_with("; 9026FEC0297383D0; none"));
 }
 
 #[test]
@@ -467,6 +489,8 @@ fn every_field_counts_in_the_digest_and_in_same() {
         "params 9 8 4 4 4 7",
         "status member",
         "span 0 0 0",
+        "missed 0 1",
+        "missed 7 1",
         "distance 7 41",
         "heard 7 0 0",
         "waits 7 63 1 0 0",
@@ -494,6 +518,10 @@ fn states_are_set_and_asked() {
         ("distance 7 8", "distance 7", "8"),
         ("span 7 8 9", "span 7", "8 9"),
         ("closed 7", "span 7", "closed"),
+        ("span 7 65472 65535", "span 7", "65472 65535"),
+        ("missed 7 65472", "missed 7", "65472"),
+        ("missed 6 65472", "missed 7", "0"),
+        ("next 65536", "next", "65536"),
         ("heard 7 8 9", "heard 7", "8 9"),
         ("unheard 7", "heard 7", "unheard"),
     ] {
@@ -564,7 +592,7 @@ fn outputs_are_asked() {
     assert_eq!(last("ask output\n"), "none");
     assert_eq!(
         last("write sess 1 2\nask output\n"),
-        "040100000000000200000000"
+        "140100000000000200000000"
     );
     assert_eq!(
         last("fill 7\nwrite sess 1 2\nread none\nask output\n"),
@@ -581,15 +609,23 @@ fn outputs_are_asked() {
 fn calls_without_an_end() {
     for (line, answer) in [
         ("read none", "probe"),
-        ("read 04", "refused 8"),
+        ("read 14", "refused 8"),
         ("write probe", "written 0 none"),
         (
             "read 020100000000018801000101000000",
             "accepted rqst 1 392 name 0 1 1",
         ),
         (
+            "read 12010000000001880100000101000000",
+            "accepted rqst 1 392 name 0 1 1",
+        ),
+        ("read 02010000000001880100000101000000", "refused 8"),
+        ("read 120100000000018801000101000000", "refused 8"),
+        ("read 020100000000018801004001000000", "refused 10"),
+        ("write 2 1 392 name 0 1 1", "refused 9"),
+        (
             "write rqst 1 392 name 0 1 1",
-            "written 15 020100000000018801000101000000",
+            "written 16 12010000000001880100000101000000",
         ),
         ("write rqst 1 392 name 0 1 1 counts 2 0 0 0", "refused 9"),
         // The name is zeros, and a RQST's host is its sender.
@@ -606,9 +642,9 @@ fn calls_without_an_end() {
     assert_eq!(last("write probe\nask output\n"), "none");
     assert_eq!(
         last("write sess 0 5 report 1 2 counts 0 0 0 0\n"),
-        "written 12 040000000000000500000000"
+        "written 12 140000000000000500000000"
     );
-    assert!(last("write data 0 5 counts 1 1 0 0\n").starts_with("written 39 0100"));
+    assert!(last("write data 0 5 counts 1 1 0 0\n").starts_with("written 40 1100"));
     for huge in ["18446744073709551615", "9", "4294967297"] {
         assert_eq!(
             last(&format!("write sess 0 0 counts 0 0 {huge} 0\n")),
@@ -654,7 +690,8 @@ fn composed_messages_are_heard() {
     assert_eq!(hear("sess 1 5"), "ignored");
     assert_eq!(hear("data 0 5 name 0 9 0 cue 1 2 3 4 5"), "got 0 9");
     // Refused by the writer, so the message is empty: a probe.
-    let refused = hear("data 0 5 name 0 64 0 cue 1 2 3 4 5");
+    assert_eq!(hear("data 0 5 name 0 64 0 cue 1 2 3 4 5"), "got 0 64");
+    let refused = hear("1 0 5 name 0 64 0 cue 1 2 3 4 5");
     assert_eq!(refused, "out 12 sess 0 0");
     assert_eq!(hear("bytes none"), "out 12 sess 0 0");
     assert_eq!(last("1 hear 5 bytes none\n"), "ignored");
@@ -700,11 +737,11 @@ fn rows() {
 
 #[test]
 fn words() {
-    let trace = "0 set span 2 3 4\n0 set heard 2 5 6\n0 set hush 1 7 8\ntest 0\n0 fire 0\n";
-    let mut lines = vec!["4 in range".to_string()];
+    let trace = "0 set span 2 3 4\n0 set missed 2 9\n0 set heard 2 5 6\n0 set hush 1 7 8\ntest 0\n0 fire 0\n";
+    let mut lines = vec!["5 in range".to_string()];
     let printed = played(trace, Mode::Words);
     let fired = printed.lines().nth(1).unwrap();
-    assert!(fired.starts_with("5 refused 3; none; "));
+    assert!(fired.starts_with("6 refused 3; none; "));
     lines.push(fired.to_string());
     let state = [
         "host 0",
@@ -712,18 +749,18 @@ fn words() {
         "clock 0",
         "status idle",
         "next 0",
-        "source 0 closed distance 0 unheard",
-        "source 1 closed distance 40 unheard",
+        "source 0 closed missed 0 distance 0 unheard",
+        "source 1 closed missed 0 distance 40 unheard",
         "record 1 7 empty hush 8 cue 000000000000000000000000000000000000000000000000",
-        "source 2 span 3 4 distance 40 heard 5 6",
-        "source 3 closed distance 40 unheard",
-        "source 4 closed distance 40 unheard",
-        "source 5 closed distance 40 unheard",
-        "source 6 closed distance 40 unheard",
-        "source 7 closed distance 40 unheard",
+        "source 2 span 3 4 missed 9 distance 40 heard 5 6",
+        "source 3 closed missed 0 distance 40 unheard",
+        "source 4 closed missed 0 distance 40 unheard",
+        "source 5 closed missed 0 distance 40 unheard",
+        "source 6 closed missed 0 distance 40 unheard",
+        "source 7 closed missed 0 distance 40 unheard",
     ];
     lines.extend(state.iter().map(|line| format!("  {line}")));
-    lines.push("5 lines, 2 calls, 0 right, 0 wrong\n".to_string());
+    lines.push("6 lines, 2 calls, 0 right, 0 wrong\n".to_string());
     assert_eq!(printed, lines.join("\n"));
     let shown = played(&trace.replace("test 0\n0 fire 0", "0 show"), Mode::Plain);
     assert_eq!(shown.lines().count(), state.len() + 1);

@@ -11,7 +11,7 @@ unfolding answerWords
 returns c =
     let t = c .before .before in
     let s = t .before .before .before .before in
-    let p = put-both {most = 7} (s .spaced .ensures) (t .small-number .ensures) (omega arith) (omega arith) in
+    let p = put-both {most = 9} (s .spaced .ensures) (t .cue-number .ensures) (omega arith) (omega arith) in
     put-both (s .before .before .before .before .text .ensures) p (omega arith) (omega arith)
 
 pub put-clash-spec : {M : Type 1} → statement M

@@ -9,7 +9,7 @@ returns : tie.Need-returns
 returns c =
     let t = c .before .before in
     let s = t .before .before .before .before in
-    let p = put-both {most = 10} (s .spaced2 .ensures) (t .integer .ensures) (omega arith) (omega arith) in
+    let p = put-both {most = 12} (s .spaced-number .ensures) (t .integer .ensures) (omega arith) (omega arith) in
     put-same (put-both (s .before .before .before .before .spaced .ensures) p (omega arith) (omega arith)) (search needs)
 
 pub put-values-spec : {M : Type 1} → statement M

@@ -1,4 +1,4 @@
--- `pace::hears` ends, and never wraps: the turns are counted, and a message has at most 39 bytes.
+-- `pace::hears` ends, and never wraps: the turns are counted, and a message has at most 40 bytes.
 use Prim.Native.Nat.{_-_, _≤_}
 use native.Mathlib.Omega.{arith}
 use mathlib.Core.Path.{_≡_}
@@ -9,7 +9,7 @@ use Rattle.bench_end.proofs.hears.Statement.{statement}
 use Rattle.bench_end.proofs.hears.Tie as tie
 
 abbrev Inv-loop : tie.InvT-loop
-Inv-loop n session len e₀ i₀ e i = (i ≤ n) × (len ≤ 39)
+Inv-loop n session len e₀ i₀ e i = (i ≤ n) × (len ≤ 40)
 
 abbrev μ-loop : tie.MeasureT-loop
 μ-loop n session len e₀ i₀ e i = n - i
@@ -34,7 +34,7 @@ slice-aggregate-heard c = omega arith
 
 heard-requires : tie.Need-heard-requires Inv-loop μ-loop
 heard-requires c κs =
-    let k : length (c .before .message .result) ≡ 39 = search needs in
+    let k : length (c .before .message .result) ≡ 40 = search needs in
     omega (arith, k, c .before .before .before .before .loop .inv)
 
 add-i : tie.Need-add-i Inv-loop μ-loop

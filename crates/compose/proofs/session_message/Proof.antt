@@ -28,7 +28,7 @@ returns c =
     let rm : said .result .reports .count ≤ 8 = omega (arith, ap (λ (y : Entries). y .reports .count) (said .ensures), reports-most e 8) in
     let xm : said .result .echoes .count ≤ 7 = omega (arith, ap (λ (y : Entries). y .echoes .count) (said .ensures), echoes-fit e (start .pre) 8 (omega arith)) in (
       λ i. record {
-        kind = 4;
+        kind = 20;
         sender = e .host;
         stamp = e .clock;
         names = [];

@@ -1,5 +1,6 @@
 -- `decide::learn` meets its contract: each step is its callee's, and a rise leaves the distance as it was.
 use native.Mathlib.Omega.{arith}
+use Rattle.end.specs.Decide.{number}
 use Rattle.decide.proofs.Ladders.{risen-ranges}
 use borrow.Author.Needs.{needs}
 use Rattle.decide.proofs.learn.Statement.{statement}
@@ -11,7 +12,9 @@ rise-to-requires c κs = search needs
 set-round-requires : tie.Need-set-round-requires
 set-round-requires c κs =
     let start = c .before .before .before in
-    (risen-ranges _ _ _ _ _ (c .rise-to .ensures) (start .pre .0), (start .pre .1, (omega arith, omega arith)))
+    let a = start .args in
+    let ranges = risen-ranges (a .t) (a .draws .now) (number (a .w)) (a .s) (c .rise-to .result) (c .rise-to .ensures) (start .pre .0) in
+    (ranges, (start .pre .1 .0, (omega arith, omega arith)))
 
 returns : tie.Need-returns
 returns c = rw (c .set-round .ensures, c .before .rise-to .ensures)

@@ -28,9 +28,6 @@ loop-holds c = (omega arith, refl)
 add-k : tie.Need-add-k Inv-loop μ-loop
 add-k c = omega arith
 
-cast-k : tie.Need-cast-k Inv-loop μ-loop
-cast-k c = omega arith
-
 place-requires : tie.Need-place-requires Inv-loop μ-loop
 place-requires c κs = tt
 
@@ -39,6 +36,9 @@ mul-r c = omega arith
 
 element-copy-out-r : tie.Need-element-copy-out-r Inv-loop μ-loop
 element-copy-out-r c = omega arith
+
+cast-n : tie.Need-cast-n Inv-loop μ-loop
+cast-n c = omega arith
 
 offer-requires : tie.Need-offer-requires Inv-loop μ-loop
 offer-requires c κs = tt
@@ -58,7 +58,7 @@ loop-again c =
     let s = starts .before .args .t3 in
     let i = turn .loop .i in
     let h : i < width (s .span) = omega (arith, widths .width-of .ensures .0) in
-    (omega arith, rw (c .offer .ensures, place .place .ensures, starts .start-of .ensures, turn .loop .inv .1, fold-more, read s i h))
+    (omega arith, rw (c .offer .ensures, place .place .ensures, starts .start-of .ensures .0, turn .loop .inv .1, fold-more, read s i h))
 
 returns : tie.Need-returns Inv-loop μ-loop
 returns c =
@@ -68,5 +68,5 @@ returns c =
     rw (e, widths .width-of .ensures .0) at (turn .loop .inv .1)
 
 pub earliest-name-spec : {M : Type 1} → statement M
-earliest-name-spec = tie.close (tie.spec Inv-loop μ-loop start-of-requires width-of-requires loop-holds add-k cast-k place-requires mul-r
-    element-copy-out-r offer-requires add-i loop-less loop-again returns)
+earliest-name-spec = tie.close (tie.spec Inv-loop μ-loop start-of-requires width-of-requires loop-holds add-k place-requires mul-r
+    element-copy-out-r cast-n offer-requires add-i loop-less loop-again returns)

@@ -11,7 +11,7 @@ use borrow.Author.Tests.{eqb-true, eqb-false, eq-eqb, ltb-true, lt-ltb, leb-true
 use Rattle.numbers.proofs.Cases.{by-order}
 use Rattle.message.specs.Cue.{cueIn as cueFits}
 use Rattle.message.specs.Section.{all, rises}
-use Rattle.message.specs.Message.{DATA, RQST, REPL, Meaning, meaningFrom, datagramFrom, bytesOf}
+use Rattle.message.specs.Message.{DATA, RQST, REPL, SESS, Meaning, meaningFrom, datagramFrom, bytesOf}
 use Rattle.message.specs.Question.{ask, firstNo, messageQuestions, readQuestions, readRefusal, sameHost, inRange, hostsFit}
 use Rattle.message.proofs.QuestionLaws.{all-passed}
 use Rattle.message.proofs.SectionLaws as sections
@@ -23,28 +23,32 @@ use Rattle.end.specs.declared.Says.{Says}
 use Rattle.end.specs.declared.Says.the-variants.{Data, Rqst, Repl}
 use Rattle.end.specs.declared.Move.{Move}
 use Rattle.end.specs.declared.Move.the-variants.{Join, Joined, Leave, Left, Crash}
+use Rattle.end.specs.declared.Moment.{Moment}
+use Rattle.end.specs.declared.Source.{Source}
 use Rattle.end.specs.declared.End.{End}
-use Rattle.end.specs.State.{sourceAt, isMember, isCrashed, momentOf, onSource, withStatus, withNext, withClock}
-use Rattle.end.specs.Records.{within}
+use Rattle.end.specs.State.{sourceAt, isMember, isCrashed, momentOf, withSource, withStatus, withNext, withClock}
+use Rattle.end.specs.Records.{isClosed, within}
+use Rattle.end.specs.Names.{hold, asked, riseWith}
 use Rattle.end.specs.Sound.{allOf, spanTests, sourceTests, soundOf}
 use Rattle.end.specs.Messages.{dataMessage}
 use Rattle.end.specs.Answer.{Done, Ignored, Step, give}
 use Rattle.end.specs.Arrival.{messageName, wordStep, messageStep, arrivalOf}
 use Rattle.end.specs.Event.{moves, movesTo, movedEnd, moveOf, cleared, Action, Moves, Send, Arrival, Else, Other, Report, ownName, extended, sentSource, sentEnd, sendOf, otherOf, hearingOf, ifMember, actOf, stepOf, ownQuestions}
-use Rattle.end.specs.Book.{Book, dueMessage, afterMessage, readAs, isOriginal, isRepair, source, isSome, due, after, Meets}
+use Rattle.end.specs.Book.{Book, dueMessage, afterMessage, readAs, isOriginal, isRepair, isAboutName, broughtTo, source, isSome, due, after, Meets}
 use Rattle.end.specs.Run.{CueArray, Service}
 use Rattle.end.proofs.Tools.{byCond, clash, clash′}
-use Rattle.end.proofs.RecordLaws.{within-in, within-above}
+use Rattle.end.proofs.RecordLaws.{Narrow}
+use Rattle.end.proofs.RiseLaws.{rise-reaches}
 use Rattle.end.proofs.SoundLaws.{nth, sound-end}
-use Rattle.end.proofs.Facts.{Facts, facts, facts-clock}
-use Rattle.end.proofs.Readings.{reads, written-reads, in-range, reports-in, original-source}
+use Rattle.end.proofs.Facts.{Facts, facts, facts-clock, narrow}
+use Rattle.end.proofs.Readings.{reads, written-reads, in-range, reports-in, original-source, session-kind}
 use Rattle.end.proofs.Grounds.{isData}
-use Rattle.end.proofs.Service.View.{firstIn, orElse, holds, firstAt, Same, Took, Rel, Filed, Right}
-use Rattle.end.proofs.Service.Booked.{rel-same, calm-right, Quiet, quiet-right, fresh, takes, Hears, arrival-right, Sends, send-right, Moved, move-right}
+use Rattle.end.proofs.Service.View.{firstIn, lastIn, TookSource, holds, firstAt, lastAt, Same, Rose, Took, Rel, Filed, Right}
+use Rattle.end.proofs.Service.Booked.{rel-same, calm-right, QuietBy, Quiet, quiet-right, fresh, takes, heeds, Hears, arrival-right, Sends, send-right, Moved, move-right}
 use Rattle.end.proofs.Service.Frame.{Passed, EventsRight, service-from, none-held}
-use Rattle.end.proofs.Service.Sources.{outside-none, took-held}
+use Rattle.end.proofs.Service.Sources.{outside-none, took-opened, took-risen}
 use Rattle.end.proofs.Service.Steps.{same-refl, took-source}
-use Rattle.end.proofs.Service.Words.{isRepairing, one-more, word-hears}
+use Rattle.end.proofs.Service.Words.{isRepairing, word-hears}
 use Rattle.end.proofs.Service.Quiets.{ignored-quiet, others, session-quiet}
 
 -- ---- Join, Joined, Leave, Left, Crash
@@ -57,6 +61,7 @@ cleared-moved m e x = record {
   holding = λ s n c hs p. let z : none ≡ some c = sym (none-held (cleared e (movesTo m)) refl s n hs) ∙ p in cc;
   empty = λ y. clash (sym y ∙ x);
   no-first = λ y. clash (sym y ∙ x);
+  no-last = λ y. clash (sym y ∙ x);
 }
 
 kept-moved : (m : Move) (e : End) → isMember (movesTo m) ≡ false → Moved m e (withStatus e (movesTo m))
@@ -68,6 +73,7 @@ kept-moved m e x = record {
   holding = λ s n c hs p. p;
   empty = λ y. clash (sym y ∙ x);
   no-first = λ y. clash (sym y ∙ x);
+  no-last = λ y. clash (sym y ∙ x);
 }
 
 -- a status from which Joined moves is no member's
@@ -79,7 +85,7 @@ joining Leaving t = clash′ t
 joining Crashed t = clash′ t
 
 moved-is : (m : Move) (e : End) → Facts e → moves m (e .status) ≡ true → Moved m e (movedEnd m e)
-unfolding movedEnd holds firstAt firstIn
+unfolding movedEnd holds firstAt firstIn lastAt lastIn
 moved-is Join e f t = kept-moved Join e refl
 moved-is Joined e f t =
     let a : isMember (e .status) ≡ false = joining (e .status) t in
@@ -90,6 +96,7 @@ moved-is Joined e f t =
       holding = λ s n c hs p. p;
       empty = λ y s n hs. outside-none (sourceAt e (record { 0 = s })) n (ap (λ (x : Span). within x n) (f .aside a s hs));
       no-first = λ y s hs. ap firstIn (f .aside a s hs);
+      no-last = λ y s hs. ap lastIn (f .aside a s hs);
     }
 moved-is Leave e f t = cleared-moved Leave e refl
 moved-is Left e f t = kept-moved Left e refl
@@ -108,71 +115,72 @@ own-last e h =
     let s = sourceAt e (e .host) in
     go (s .span) (nth (sourceTests (e .host) (e .next) (e .clock) (isMember (e .status)) (e .host) s) 1 (q .each (e .host .0) (q .host)))
   where
-    go : (x : Span) → allOf (spanTests (sameHost (e .host) (e .host)) (e .next) x) ≡ true → OwnLast (e .next) x
+    go : (x : Span) → allOf (spanTests (sameHost (e .host) (e .host)) (e .next) (sourceAt e (e .host) .missed) x) ≡ true → OwnLast (e .next) x
     go Closed t = tt
     go (Open first last) t =
-        let tests = spanTests (sameHost (e .host) (e .host)) (e .next) (Open first last) in
+        let tests = spanTests (sameHost (e .host) (e .host)) (e .next) (sourceAt e (e .host) .missed) (Open first last) in
         let own : eqb (last .0 + 1) (e .next) ≡ true = sym (ap (λ (b : Bool). not b || eqb (last .0 + 1) (e .next)) (eq-eqb (e .host .0) (e .host .0) refl)) ∙ nth tests 2 t in
         (leb-true (first .0) (last .0) (nth tests 0 t), eqb-true (last .0 + 1) (e .next) own)
 
 next-took : (e e′ : End) (k s n : ℕ) (c : List ℕ) → Took e e′ s n c → Took e (withNext e′ k) s n c
-unfolding firstAt holds
+unfolding firstAt lastAt holds
 next-took e e′ k s n c v = record {
   host = v .host;
   status = v .status;
   first-there = v .first-there;
-  firsts = v .firsts;
+  last-there = v .last-there;
   holds-there = v .holds-there;
+  holding-there = v .holding-there;
+  firsts = v .firsts;
+  lasts = v .lasts;
   holding = v .holding;
 }
 
-first-extended : (n : ℕ) (x : Span) → firstIn (extended n x) ≡ some (orElse (firstIn x) n)
-unfolding firstIn orElse
-first-extended n Closed = refl
-first-extended n (Open first last) = refl
+-- own last, if any, is next − 1, so the new number lies in first..last once last has risen to it
+sent-source : (t : Moment) (us : List ℕ) (n : ℕ) (c : List ℕ) (s : Source) → Narrow (s .span) → OwnLast n (s .span) → length (s .names) ≡ 64
+    → (x : Span) → s .span ≡ x → TookSource s (hold n c (extended t us n s x)) n c
+sent-source t us n c s o own long Closed p = took-opened s n c p long
+sent-source t us n c s o own long (Open first last) p =
+    let new = asked t us (s .distance) in
+    let before : OwnLast n (Open first last) = subst (OwnLast n) p own in
+    let reaches = rise-reaches new n s first last (subst Narrow p o) (omega (arith, before .0, before .1)) in
+    let inside = ap (λ (x : Span). within (riseWith new n s x .span) n) p ∙ reaches in
+    subst (λ (x : Span). TookSource s (hold n c (riseWith new n s x)) n c) p (took-risen new (λ m. refl) n s long o (ap isClosed p) inside c)
 
--- the new number lies in the longer span, and no other has come in: own last, if any, is next - 1
-extended-in : (n : ℕ) (x : Span) → OwnLast n x → (within (extended n x) n ≡ true) × ((j : ℕ) → eqb j n ≡ false → within (extended n x) j ≡ within x j)
-extended-in n Closed o = (within-in n n n (omega arith) (omega arith), λ j d. one-more n j d)
-extended-in n (Open first last) o =
-    let f = first .0 in (
-      within-in f n n (omega arith) (omega arith),
-      λ j d. let other = eqb-false j n d in by-order j n
-          (λ low. ap (λ (t : Bool). leb f j && t) (le-leb j n (omega arith) ∙ sym (le-leb j (last .0) (omega arith))))
-          (λ high. within-above f n j (omega (arith, other)) ∙ sym (within-above f (last .0) j (omega (arith, other)))),
-    )
-
-sent-took : (c : List ℕ) (e : End) → Facts e → OwnLast (e .next) (sourceAt e (e .host) .span) → e .next < 64 → Took e (sentEnd c e) (e .host .0) (e .next) c
-sent-took c e f o l =
+sent-took : (us c : List ℕ) (e : End) → Facts e → OwnLast (e .next) (sourceAt e (e .host) .span) → Took e (sentEnd us c e) (e .host .0) (e .next) c
+sent-took us c e f o =
     let s = sourceAt e (e .host) in
-    let x = extended-in (e .next) (s .span) o in
-    next-took e (onSource e (e .host) (sentSource (e .next) c)) (e .next + 1) (e .host .0) (e .next) c
-    (took-source e (e .host) _ (e .next) c (omega (arith, f .host, f .sources))
-    (took-held s (extended (e .next) (s .span)) (e .next) c (omega (arith, f .names (e .host .0) (f .host), l)) (x .0) (x .1) (first-extended (e .next) (s .span))))
+    let x = sentSource (momentOf e) us (e .next) c s in
+    next-took e (withSource e (e .host) x) (e .next + 1) (e .host .0) (e .next) c
+    (took-source e (e .host) x (omega (arith, f .host, f .sources)) (e .next) c
+    (sent-source (momentOf e) us (e .next) c s (narrow (s .span) (f .spans (e .host .0) (f .host))) o (f .names (e .host .0) (f .host)) (s .span) refl))
 
 -- the DATA is read as itself
-data-reads : (c : List ℕ) (e : End) → Facts e → e .next < 64 → cueFits c ≡ true → length c ≡ 24 → readAs (bytesOf (dataMessage (momentOf e) (ownName e) c)) ≡ some (dataMessage (momentOf e) (ownName e) c)
+data-reads : (c : List ℕ) (e : End) → Facts e → e .next < 65536 → cueFits c ≡ true → length c ≡ 24 → readAs (bytesOf (dataMessage (momentOf e) (ownName e) c)) ≡ some (dataMessage (momentOf e) (ownName e) c)
 unfolding inRange hostsFit all rises
 data-reads c e f l fits long =
-    let small : e .next < 256 = omega arith in
     written-reads (dataMessage (momentOf e) (ownName e) c)
-    (record { stamp = f .clock; names = sections.some small sections.none; cues = sections.some long sections.none; reports = sections.none; echoes = sections.none })
+    (record { stamp = f .clock; names = sections.some l sections.none; cues = sections.some long sections.none; reports = sections.none; echoes = sections.none })
     refl
-    (rw (lt-ltb (e .host .0) 8 (f .host), lt-ltb (e .clock) 281474976710656 (f .clock), lt-ltb (e .next) 64 l, fits, eq-eqb (e .host .0) (e .host .0) refl))
+    (rw (lt-ltb (e .host .0) 8 (f .host), lt-ltb (e .clock) 281474976710656 (f .clock), le-leb (e .next) 65535 (omega arith), fits, eq-eqb (e .host .0) (e .host .0) refl))
 
-sends : (c : List ℕ) (e : End) → Facts e → OwnLast (e .next) (sourceAt e (e .host) .span) → e .next < 64 → cueFits c ≡ true → length c ≡ 24 → Sends (e .host .0) c e (sendOf c e)
-sends c e f o l fits long = record {
+sends : (us c : List ℕ) (e : End) → Facts e → OwnLast (e .next) (sourceAt e (e .host) .span) → e .next < 65536 → cueFits c ≡ true → length c ≡ 24 → Sends (e .host .0) c e (sendOf us c e)
+sends us c e f o l fits long = record {
   bytes = bytesOf (dataMessage (momentOf e) (ownName e) c);
   answer = refl;
   message = record { message = dataMessage (momentOf e) (ownName e) c; reads = data-reads c e f l fits long; original = refl; name = refl; carried = refl };
   next = refl;
-  took = sent-took c e f o l;
+  took = sent-took us c e f o;
 }
 
 -- ---- Arrival
 
-hears-quiet : {h : ℕ} {e : End} {m : Meaning} {r : Step} → takes h e m ≡ false → Quiet e r → Hears h e m r
-hears-quiet t v = record { hands = λ x. clash (sym x ∙ t); else = λ _. v }
+-- a message that is passed over, and one that only brings its numbers
+hears-not : {h : ℕ} {e : End} {m : Meaning} {r : Step} → takes h e m ≡ false → heeds h e m ≡ false → Quiet e r → Hears h e m r
+hears-not t n v = record { hands = λ x. clash (sym x ∙ t); brings = λ _ x. clash (sym x ∙ n); else = λ _. v }
+
+hears-rose : {h : ℕ} {e : End} {m : Meaning} {r : Step} → takes h e m ≡ false → heeds h e m ≡ true → QuietBy (Rose (broughtTo m) e) e r → Hears h e m r
+hears-rose t n v = record { hands = λ x. clash (sym x ∙ t); brings = λ _ _. v; else = λ x. clash (sym n ∙ x) }
 
 not-carried : (m : Meaning) (h : ℕ) (e : End) → isOriginal m ≡ false → isRepair m ≡ false → takes h e m ≡ false
 unfolding takes
@@ -197,22 +205,27 @@ module _ (e : End) (f : Facts e) (us : List ℕ) (member : isMember (e .status) 
   repair-says Rqst k = ap (λ (i : ℕ). eqb i REPL) (eqb-true (m .kind) RQST k)
   repair-says Repl k = k
 
+  about : (says : Says) → eqb (m .kind) (kindOf says) ≡ true → isAboutName m ≡ true
+  about Data k = ap (λ (i : ℕ). eqb i DATA || (eqb i RQST || eqb i REPL)) (eqb-true (m .kind) DATA k)
+  about Rqst k = ap (λ (i : ℕ). eqb i DATA || (eqb i RQST || eqb i REPL)) (eqb-true (m .kind) RQST k)
+  about Repl k = ap (λ (i : ℕ). eqb i DATA || (eqb i RQST || eqb i REPL)) (eqb-true (m .kind) REPL k)
+
   another : (says : Says) → eqb (m .kind) (kindOf says) ≡ true → says ≡ Data → sameHost (messageName m .source) (e .host) ≡ false
   another Data k q = sym (ap (λ (i : ℕ). eqb i (e .host .0)) (original-source x m p k)) ∙ other
   another Rqst k q = clash′ (ap isData q)
   another Repl k q = clash′ (ap isData q)
 
   heard-hears : Hears (e .host .0) e m (messageStep us m e)
-  unfolding messageStep
+  unfolding messageStep heeds
   heard-hears =
       let r = in-range x m p in
       let h = e .host .0 in
       let word : (says : Says) → eqb (m .kind) (kindOf says) ≡ true → Hears h e m (wordStep us says m e) =
-      λ says k. word-hears says m (data-says says k) (repair-says says k) e f us member other (r .source) (r .number) (another says k) in
+      λ says k. word-hears says m (about says k) (data-says says k) (repair-says says k) e f us member other (r .source) (another says k) in
       byCond (Hears h e m) (eqb (m .kind) DATA) (word Data)
       (λ a. byCond (Hears h e m) (eqb (m .kind) RQST) (word Rqst)
-      (λ _. byCond (Hears h e m) (eqb (m .kind) REPL) (word Repl)
-      (λ b. hears-quiet (not-carried m h e a b) (session-quiet us m e f (reports-in x m p)))))
+      (λ c. byCond (Hears h e m) (eqb (m .kind) REPL) (word Repl)
+      (λ b. hears-rose (not-carried m h e a b) (rw (member, other)) (session-quiet us m e f (rw (a, c, b)) (session-kind x m p a c b) (reports-in x m p)))))
 
 -- a looped message is passed over, and a non-member gets nothing
 looped-takes : (m : Meaning) (h : ℕ) (e : End) → eqb (m .sender .0) h ≡ true → takes h e m ≡ false
@@ -223,21 +236,29 @@ aside-takes : (m : Meaning) (h : ℕ) (e : End) → isMember (e .status) ≡ fal
 unfolding takes fresh
 aside-takes m h e t = rw (t, and-false (not (eqb (m .sender .0) h))) (and-false (isOriginal m || (isRepair m && isSome (firstAt e (source m)))))
 
-hears : (us : List ℕ) (e : End) → Facts e → (x : List ℕ) (m : Meaning) → readAs x ≡ some m → Hears (e .host .0) e m (ifMember e (arrivalOf us m e))
+looped-heeds : (m : Meaning) (h : ℕ) (e : End) → eqb (m .sender .0) h ≡ true → heeds h e m ≡ false
+unfolding heeds
+looped-heeds m h e t = rw t (and-false (isMember (e .status)))
+
+aside-heeds : (m : Meaning) (h : ℕ) (e : End) → isMember (e .status) ≡ false → heeds h e m ≡ false
+unfolding heeds
+aside-heeds m h e t = rw t
+
+arrives : (us : List ℕ) (e : End) → Facts e → (x : List ℕ) (m : Meaning) → readAs x ≡ some m → Hears (e .host .0) e m (ifMember e (arrivalOf us m e))
 unfolding arrivalOf
-hears us e f x m p =
+arrives us e f x m p =
     let h = e .host .0 in
     byCond (Hears h e m) (isMember (e .status))
     (λ i. byCond (Hears h e m) (sameHost (m .sender) (e .host))
-    (λ l. hears-quiet (looped-takes m h e l) (ignored-quiet e))
+    (λ l. hears-not (looped-takes m h e l) (looped-heeds m h e l) (ignored-quiet e))
     (λ l. heard-hears e f us i x m p l))
-    (λ i. hears-quiet (aside-takes m h e i) (ignored-quiet e))
+    (λ i. hears-not (aside-takes m h e i) (aside-heeds m h e i) (ignored-quiet e))
 
 -- ---- every event
 
 clock-same : (e : End) (t : ℕ) → Same e (withClock e t)
-unfolding firstAt holds
-clock-same e t = record { host = refl; status = refl; next = refl; firsts = λ s hs. refl; holding = λ s n hs. refl }
+unfolding firstAt lastAt holds
+clock-same e t = record { host = refl; status = refl; next = refl; firsts = λ s hs. refl; lasts = λ s hs. refl; holding = λ s n hs. refl }
 
 ignored-right : (b : Book) (h : ℕ) (ev : Action) (e : End) → Rel b h e → after b h ev ≡ b → Meets (due b h ev) Ignored → Right b h ev (give Ignored e)
 ignored-right b h ev e q k a = calm-right q (same-refl e) k a (λ x p. let z : _≡_ {A = ℕ} 0 1 = cc in absurd (omega arith))
@@ -251,18 +272,19 @@ move-event b h e m f q = byCond (Right b h (Moves m)) (moves m (e .status))
     ignored-right b h (Moves m) e q (rw bt) (rw bt))
 
 -- what the questions of Send leave
-send-asked : (c : List ℕ) (e : End) → firstNo (ownQuestions (Send c) e) ≡ 0 → (cueFits c ≡ true) × (isMember (e .status) ≡ true → e .next < 64)
+send-asked : (c : List ℕ) (e : End) → firstNo (ownQuestions (Send c) e) ≡ 0 → (cueFits c ≡ true) × (isMember (e .status) ≡ true → e .next < 65536)
 send-asked c e h =
-    let six = all-passed (cueFits c) 6 (ask (not (isMember (e .status)) || ltb (e .next) 64) 7 ∷ []) (omega arith) h in
-    let seven = all-passed (not (isMember (e .status)) || ltb (e .next) 64) 7 [] (omega arith) (six .1) .0 in
-    (six .0, λ m. ltb-true (e .next) 64 (sym (ap (λ (t : Bool). not t || ltb (e .next) 64) m) ∙ seven))
+    let six = all-passed (cueFits c) 6 (ask (not (isMember (e .status)) || ltb (e .next) 65536) 7 ∷ []) (omega arith) h in
+    let seven = all-passed (not (isMember (e .status)) || ltb (e .next) 65536) 7 [] (omega arith) (six .1) .0 in
+    (six .0, λ m. ltb-true (e .next) 65536 (sym (ap (λ (t : Bool). not t || ltb (e .next) 65536) m) ∙ seven))
 
-send-event : (b : Book) (h : ℕ) (e : End) (c : List ℕ) → Facts e → OwnLast (e .next) (sourceAt e (e .host) .span) → Rel b h e → length c ≡ 24 → firstNo (ownQuestions (Send c) e) ≡ 0 → Right b h (Send c) (ifMember e (sendOf c e))
+send-event : (b : Book) (h : ℕ) (us : List ℕ) (e : End) (c : List ℕ) → Facts e → OwnLast (e .next) (sourceAt e (e .host) .span) → Rel b h e → length c ≡ 24 → firstNo (ownQuestions (Send c) e) ≡ 0
+    → Right b h (Send c) (ifMember e (sendOf us c e))
 unfolding due after
-send-event b h e c f o q long z =
-    let asked = send-asked c e z in
+send-event b h us e c f o q long z =
+    let passed = send-asked c e z in
     byCond (Right b h (Send c)) (isMember (e .status))
-    (λ m. send-right b h c e (sendOf c e) q m (subst (λ k. Sends k c e (sendOf c e)) (q .host) (sends c e f o (asked .1 m) (asked .0) long)))
+    (λ m. send-right b h c e (sendOf us c e) (rw (← (q .host)) (f .host)) q m (subst (λ k. Sends k c e (sendOf us c e)) (q .host) (sends us c e f o (passed .1 m) (passed .0) long)))
     (λ m.
     let bm : isMember (b .status h) ≡ false = ap isMember (sym (q .status)) ∙ m in
     ignored-right b h (Send c) e q (rw bm) (rw bm))
@@ -272,7 +294,7 @@ message-event : (b : Book) (h : ℕ) (us : List ℕ) (e : End) (x : List ℕ) �
 message-event b h us e x f q filed z =
     let p : readAs x ≡ some (meaningFrom x) = reads x z in
     arrival-right b h e x (meaningFrom x) (ifMember e (arrivalOf us (meaningFrom x) e)) q filed p
-    (subst (λ k. Hears k e (meaningFrom x) (ifMember e (arrivalOf us (meaningFrom x) e))) (q .host) (hears us e f x (meaningFrom x) p))
+    (subst (λ k. Hears k e (meaningFrom x) (ifMember e (arrivalOf us (meaningFrom x) e))) (q .host) (arrives us e f x (meaningFrom x) p))
 
 -- outside membership nothing happens
 others-quiet : (us : List ℕ) (o : Other) (e : End) → Facts e → Quiet e (ifMember e (otherOf us o e))
@@ -316,7 +338,7 @@ crashed-event b h e (Arrival x) c q f = go (readAs x) refl
   where
     go : (o : Option Meaning) → readAs x ≡ o → Right b h (Arrival x) (give Ignored e)
     go none p = quiet-right q (ignored-quiet e) (ap (afterMessage b h) p) (ap (dueMessage b h) p)
-    go (some m) p = arrival-right b h e x m (give Ignored e) q (f x refl) p (hears-quiet (aside-takes m h e (ap isMember c)) (ignored-quiet e))
+    go (some m) p = arrival-right b h e x m (give Ignored e) q (f x refl) p (hears-not (aside-takes m h e (ap isMember c)) (aside-heeds m h e (ap isMember c)) (ignored-quiet e))
 crashed-event b h e (Else o) c q f = quiet-right q (ignored-quiet e) refl refl
 
 -- an end that is not
@@ -324,7 +346,7 @@ acting : (b : Book) (e : End) (h t : ℕ) (us : List ℕ) (ev : Action) → CueA
     → Right b h ev (actOf us ev (withClock e t))
 unfolding actOf
 acting b e h t us (Moves m) array z q f = move-event b h (withClock e t) m (facts-clock e t (z .ticks) (facts e (z .sound))) (rel-same q (clock-same e t))
-acting b e h t us (Send c) array z q f = send-event b h (withClock e t) c (facts-clock e t (z .ticks) (facts e (z .sound))) (own-last e (z .sound)) (rel-same q (clock-same e t)) array (z .own)
+acting b e h t us (Send c) array z q f = send-event b h us (withClock e t) c (facts-clock e t (z .ticks) (facts e (z .sound))) (own-last e (z .sound)) (rel-same q (clock-same e t)) array (z .own)
 acting b e h t us (Arrival x) array z q f =
     arrival-event b h us (withClock e t) x (facts-clock e t (z .ticks) (facts e (z .sound))) (rel-same q (clock-same e t)) (f x refl) (z .own)
 acting b e h t us (Else o) array z q f = other-event b h us (withClock e t) o (facts-clock e t (z .ticks) (facts e (z .sound))) (rel-same q (clock-same e t))

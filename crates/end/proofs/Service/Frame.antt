@@ -29,7 +29,7 @@ use Rattle.end.proofs.Tools.{byCond, put-all}
 use Rattle.end.proofs.Facts.{unheard-at}
 use Rattle.end.proofs.Readings.{none-read}
 use Rattle.end.proofs.Service.Sources.{outside-none}
-use Rattle.end.proofs.Service.View.{holds, firstIn, firstAt, Rel, Filed, Grows, Right, grows-refl}
+use Rattle.end.proofs.Service.View.{holds, firstIn, lastIn, windowed, firstAt, lastAt, Rel, Filed, Grows, Right, grows-refl}
 
 -- the ends against the book; all that was put out carries the filed cues
 pub record Inv (w : World) (b : Book) : Type 0 where
@@ -65,7 +65,8 @@ rel-grows {b} {b′} {h} {k} {e} g d r = record {
   next = r .next ∙ sym (g .count k d);
   filed = λ s n c hs q. g .filed s n c (r .filed s n c hs q);
   handed = λ m s n hs q. rw (g .handed k s d) (r .handed m s n hs q);
-  firsts = λ m s hs q. rw (g .handed k s d) (r .firsts m s hs q);
+  firsts = λ m s hs q. rw (g .handed k s d, g .highest k s d) (r .firsts m s hs q);
+  lasts = λ m s hs q. rw (g .highest k s d) (r .lasts m s hs q);
 }
 
 -- what was put out before, and what this call put out
@@ -146,8 +147,12 @@ pub none-first : (e : End) → e .sources ≡ unheardSources (e .host .0) → (s
 unfolding firstAt firstIn
 none-first e p s hs = rw (p, unheard-at (e .host .0) s hs .0)
 
+pub none-last : (e : End) → e .sources ≡ unheardSources (e .host .0) → (s : ℕ) → s < 8 → lastAt e s ≡ none
+unfolding lastAt lastIn
+none-last e p s hs = rw (p, unheard-at (e .host .0) s hs .0)
+
 fresh-rel : (h : ℕ) (p : Params) → Rel emptyBook h (freshEnd (asHost h) p Idle)
-unfolding firstOf isSome among
+unfolding firstOf isSome among windowed
 fresh-rel h p = record {
   host = refl;
   status = refl;
@@ -155,6 +160,7 @@ fresh-rel h p = record {
   filed = λ s n c hs q. sym (none-held (freshEnd (asHost h) p Idle) refl s n hs) ∙ q;
   handed = λ m s n hs d. rw (none-held (freshEnd (asHost h) p Idle) refl s n hs);
   firsts = λ m s hs d. none-first (freshEnd (asHost h) p Idle) refl s hs;
+  lasts = λ m s hs d. none-last (freshEnd (asHost h) p Idle) refl s hs;
 }
 
 -- an opening that is not refused gives a fresh idle end

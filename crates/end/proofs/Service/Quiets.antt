@@ -1,18 +1,19 @@
 -- The events that hand nothing out: Fire, Report and SESS.
-use mathlib.Core.Path.{_≡_, refl, sym, ap, _∙_}
+use mathlib.Core.Path.{_≡_, refl, sym, ap, _∙_, subst}
 use mathlib.Core.Bool.{Bool, true, false, not, _&&_, _||_}
 use mathlib.Core.List.{List, [], _∷_}
-use mathlib.Core.Option.{none, some}
+use mathlib.Core.Option.{Option, none, some}
 use Prim.Native.Nat.{ℕ, _<_}
 use native.Mathlib.Omega.{arith}
-use lib.ListN.{length, getD, List·getD-eq-default}
+use lib.ListN.{length, getD, length-set, List·getD-eq-default}
 use lib.Dec.{eqb}
 use borrow.Author.Tests.{ltb-true}
 use Rattle.numbers.proofs.Cases.{by-order}
 use Rattle.message.specs.declared.Host.{Host}
 use Rattle.message.specs.declared.Name.{Name}
 use Rattle.message.specs.declared.Report.{Report as ReportEntry}
-use Rattle.message.specs.Message.{DATA, REPL, numberWidth, Meaning, bytesOf}
+use Rattle.message.specs.Kind.{isOld}
+use Rattle.message.specs.Message.{DATA, REPL, SESS, numberWidth, Meaning, bytesOf}
 use Rattle.message.specs.Section.{all}
 use Rattle.message.specs.Question.{hostIn, numberIn, reportIn, sameHost}
 use Rattle.message.proofs.QuestionLaws.{and-both}
@@ -29,84 +30,85 @@ use Rattle.end.specs.declared.Moment.{Moment}
 use Rattle.end.specs.declared.End.{End}
 use Rattle.end.specs.declared.Earliest.{Earliest}
 use Rattle.end.specs.declared.Earliest.the-variants.{NoWait, First}
-use Rattle.end.specs.State.{noSource, sourceAt, momentOf, distanceTo, onSource}
-use Rattle.end.specs.Records.{within, isAbove, recordAt, isHeld}
+use Rattle.end.specs.State.{noSource, sourceAt, withSource, momentOf, distanceTo, onSource}
+use Rattle.end.specs.Records.{within, isAbove, recordAt, withRecord, isHeld}
 use Rattle.end.specs.Round.{requestAt, nextRound, quietAfterReply}
-use Rattle.end.specs.Names.{asking, quieted, setRound, quietReply, rise}
+use Rattle.end.specs.Names.{asking, quieted, setRound, quietReply, asked}
 use Rattle.end.specs.Answer.{Out, Done, Ignored, Nothing, PutsOut, give}
 use Rattle.end.specs.Messages.{requestMessage, repairMessage, sessionMessage}
 use Rattle.end.specs.Session.{reportedSource, allReported, heardFrom, sessionOf}
 use Rattle.end.specs.Arrival.{messageCue}
 use Rattle.end.specs.Fire.{fireAt, fired, earliest}
 use Rattle.end.specs.Event.{Other, Fire, Report, otherOf}
-use Rattle.end.specs.Ready.{SpanIn}
-use Rattle.end.specs.Book.{readAs, source, number, isGot}
-use Rattle.end.proofs.Tools.{byCond, clash, clash′, set-elim}
-use Rattle.end.proofs.RecordLaws.{at-inside, at-outside, rise-length}
+use Rattle.end.specs.Book.{readAs, source, number, isAboutName, reportedTo, broughtTo, notBelow, isGot}
+use Rattle.end.proofs.Tools.{byCond, byTest, clash, set-elim}
+use Rattle.end.proofs.RecordLaws.{Narrow, at-inside, at-outside}
+use Rattle.end.proofs.RiseLaws.{rise-length, rise-narrow}
 use Rattle.end.proofs.SoundLaws.{held-cue}
-use Rattle.end.proofs.Facts.{Facts, last-ordered, within-small}
+use Rattle.end.proofs.Facts.{Facts, narrow, within-small}
 use Rattle.end.proofs.Readings.{written-kind, written-back}
-use Rattle.end.proofs.Service.View.{heldIn, heldAt, SameSource, holds, Same, carries}
-use Rattle.end.proofs.Service.Booked.{Quiet, untouched-quiet}
-use Rattle.end.proofs.Service.Sources.{any-reply, same-record, same-rise, same-refl-source}
-use Rattle.end.proofs.Service.Steps.{same-refl, same-trans, same-source}
+use Rattle.end.proofs.Service.View.{heldIn, windowed, heldAt, RoseSource, holds, firstAt, lastAt, Same, Rose, carries}
+use Rattle.end.proofs.Service.Booked.{QuietBy, Quiet, untouched-quiet, Grown, window-twice, reported-grows}
+use Rattle.end.proofs.Service.Sources.{any-reply, still-window, same-record, same-rose, same-refl-source, rose}
+use Rattle.end.proofs.Service.Steps.{Narrows, same-refl, same-source, rose-source}
 
 -- ---- what is put out
 
 pub ignored-quiet : (e : End) → Quiet e (give Ignored e)
-ignored-quiet e = untouched-quiet e e Ignored refl (same-refl e)
+ignored-quiet e = untouched-quiet (Same e) e e Ignored refl (same-refl e)
 
 nothing-quiet : (e : End) → Quiet e (give Nothing e)
-nothing-quiet e = untouched-quiet e e Nothing refl (same-refl e)
+nothing-quiet e = untouched-quiet (Same e) e e Nothing refl (same-refl e)
 
 out-is : (y x : List ℕ) → PutsOut y ≡ PutsOut x → y ≡ x
 out-is y x p = cc
 
 -- a message put out that carries no cue
-pub bare-quiet : (e e′ : End) (y : Meaning) → carries y ≡ false → Same e e′ → Quiet e (give (Out (bytesOf y)) e′)
+pub bare-quiet : (e e′ : End) (y : Meaning) → isOld (y .kind) ≡ false → carries y ≡ false → Same e e′ → Quiet e (give (Out (bytesOf y)) e′)
 unfolding isGot
-bare-quiet e e′ y n v = record {
+bare-quiet e e′ y o n v = record {
   same = v;
   not-got = refl;
   out = λ x p m z k.
-      let kind : m .kind ≡ y .kind = written-kind y m (ap readAs (out-is (bytesOf y) x p) ∙ z) in
+      let kind : m .kind ≡ y .kind = written-kind y m o (ap readAs (out-is (bytesOf y) x p) ∙ z) in
       clash (sym k ∙ ap (λ (i : ℕ). eqb i DATA || eqb i REPL) kind ∙ n);
 }
 
 -- a message put out that carries a cue which the end holds under its name
-pub carrying-quiet : (e e′ : End) (y : Meaning) → Fits (numberWidth (y .kind)) y → holds e (source y) (number y) ≡ some (messageCue y) → Same e e′ → Quiet e (give (Out (bytesOf y)) e′)
+pub carrying-quiet : (e e′ : End) (y : Meaning) → isOld (y .kind) ≡ false → Fits (numberWidth (y .kind)) y → holds e (source y) (number y) ≡ some (messageCue y) → Same e e′ → Quiet e (give (Out (bytesOf y)) e′)
 unfolding isGot
-carrying-quiet e e′ y f h v = record {
+carrying-quiet e e′ y o f h v = record {
   same = v;
   not-got = refl;
   out = λ x p m z k.
-      let same : y ≡ m = written-back y m f (ap readAs (out-is (bytesOf y) x p) ∙ z) in
+      let same : y ≡ m = written-back y m o f (ap readAs (out-is (bytesOf y) x p) ∙ z) in
       rw same at h;
 }
 
 -- ---- Fire
 
--- a name whose cue is held is one of the eight times 64, and its record is sound
+-- a name of which something is kept is one of the eight hosts' numbers in first..last
 pub record There (e : End) (name : Name) : Type 0 where
   pub source : name .source .0 < 8
-  pub number : name .number .0 < 64
+  pub number : name .number .0 < 65536
   pub inside : within (sourceAt e (name .source) .span) (name .number .0) ≡ true
 
-held-there : (e : End) → Facts e → (name : Name) → isHeld (recordAt (sourceAt e (name .source)) (name .number .0) .slot) ≡ true → There e name
-held-there e f name h =
+abbrev isEmpty : Slot → Bool
+isEmpty Empty = true
+isEmpty (Held reply) = false
+isEmpty (Waiting q) = false
+
+kept-there : (e : End) → Facts e → (name : Name) → isEmpty (recordAt (sourceAt e (name .source)) (name .number .0) .slot) ≡ false → There e name
+kept-there e f name h =
     let s = sourceAt e (name .source) in
     let n = name .number .0 in
     by-order (name .source .0) 8
-    (λ hs. inside-of (within (s .span) n) refl (λ i. record { source = hs; number = within-small (s .span) n (f .spans (name .source .0) hs) i; inside = i })
-    (λ o. clash′ (sym (ap (λ (r : Record). isHeld (r .slot)) (at-outside s n o)) ∙ h)))
+    (λ hs. byTest (within (s .span) n)
+    (λ i. record { source = hs; number = within-small (s .span) n (f .spans (name .source .0) hs) i; inside = i })
+    (λ o. clash (sym (ap (λ (r : Record). isEmpty (r .slot)) (at-outside s n o)) ∙ h)))
     (λ hs.
     let none : s ≡ noSource = List·getD-eq-default (e .sources) noSource (omega (arith, f .sources)) in
-    clash′ (sym (ap (λ (r : Record). isHeld (r .slot)) (at-outside s n (ap (λ (x : Source). within (x .span) n) none))) ∙ h))
-  where
-    inside-of : {C : Type 0} (b : Bool) → within (sourceAt e (name .source) .span) (name .number .0) ≡ b
-        → (within (sourceAt e (name .source) .span) (name .number .0) ≡ true → C) → (within (sourceAt e (name .source) .span) (name .number .0) ≡ false → C) → C
-    inside-of true p f g = f p
-    inside-of false p f g = g p
+    clash (sym (ap (λ (r : Record). isEmpty (r .slot)) (at-outside s n (ap (λ (x : Source). within (x .span) n) none))) ∙ h))
 
 module _ (us : List ℕ) (e : End) (f : Facts e) (name : Name) where
   abbrev s : Source
@@ -120,29 +122,37 @@ module _ (us : List ℕ) (e : End) (f : Facts e) (name : Name) where
   unfolding heldAt
   slot-held x p = ap (λ (y : Slot). heldIn y (r .cue)) p
 
-  round-same : (k : ℕ) → heldAt s (name .number .0) ≡ none → Same e (onSource e (name .source) (setRound (momentOf e) us (name .number .0) k))
-  unfolding heldIn
-  round-same k h = same-source e (name .source) _ (same-record s (name .number .0) (asking r (requestAt (momentOf e) us (s .distance) (name .number .0) k)) (sym h))
+  module _ (there : There e name) where
+    wide : Narrow (s .span)
+    wide = narrow (s .span) (f .spans (name .source .0) (there .source))
 
-  quiet-same : (d : ℕ) → Same e (onSource e (name .source) (quietReply (momentOf e) (name .number .0) d))
-  unfolding heldAt
-  quiet-same d = same-source e (name .source) _ (same-record s (name .number .0) (quieted r (quietAfterReply (momentOf e) d)) (any-reply No (r .slot) (r .cue)))
+    stored-same : (x : Record) → heldIn (x .slot) (x .cue) ≡ heldAt s (name .number .0) → Same e (withSource e (name .source) (withRecord s (name .number .0) x))
+    stored-same x h = same-source e (name .source) _ (same-record s (name .number .0) x wide (there .inside) (f .names (name .source .0) (there .source)) h)
 
-  repair-fits : (k : Host) → isHeld (r .slot) ≡ true → Fits 1 (repairMessage (momentOf e) name k (r .cue))
-  repair-fits k p =
-      let there = held-there e f name p in
-      let raw = at-inside s (name .number .0) (there .inside) in
-      let cue = held-cue (e .host) (name .source) (s .span) (name .number .0) r (rw raw (f .records (name .source .0) (name .number .0) (there .source) (there .number))) p in
-      let small : name .number .0 < 256 = omega (arith, there .number) in
-      record { stamp = f .clock; names = some small none; cues = some (cue .0) none; reports = none; echoes = none }
+    round-same : (k : ℕ) → heldAt s (name .number .0) ≡ none → Same e (onSource e (name .source) (setRound (momentOf e) us (name .number .0) k))
+    unfolding heldIn
+    round-same k h = stored-same (asking r (requestAt (momentOf e) us (s .distance) (name .number .0) k)) (sym h)
+
+    quiet-same : (d : ℕ) → Same e (onSource e (name .source) (quietReply (momentOf e) (name .number .0) d))
+    unfolding heldAt
+    quiet-same d = stored-same (quieted r (quietAfterReply (momentOf e) d)) (any-reply No (r .slot) (r .cue))
+
+    repair-fits : (k : Host) → isHeld (r .slot) ≡ true → Fits 2 (repairMessage (momentOf e) name k (r .cue))
+    repair-fits k p =
+        let raw = at-inside s (name .number .0) (there .inside) in
+        let cue = held-cue (e .host) (name .source) (s .span) (name .number .0) r (rw raw (f .records (name .source .0) (name .number .0) (there .source) (there .inside))) p in
+        let small : name .number .0 < 65536 = there .number in
+        record { stamp = f .clock; names = some small none; cues = some (cue .0) none; reports = none; echoes = none }
 
   fire-quiet : (x : Slot) → r .slot ≡ x → Quiet e (fireAt us name e x)
   unfolding fireAt heldIn holds
   fire-quiet Empty p = nothing-quiet e
-  fire-quiet (Waiting q) p = bare-quiet e _ (requestMessage (momentOf e) name) refl (round-same (nextRound (q .round)) (slot-held (Waiting q) p))
+  fire-quiet (Waiting q) p =
+      bare-quiet e _ (requestMessage (momentOf e) name) refl refl (round-same (kept-there e f name (ap isEmpty p)) (nextRound (q .round)) (slot-held (Waiting q) p))
   fire-quiet (Held No) p = nothing-quiet e
   fire-quiet (Held (Due due k)) p =
-      carrying-quiet e _ (repairMessage (momentOf e) name k (r .cue)) (repair-fits k (ap isHeld p)) (slot-held (Held (Due due k)) p) (quiet-same (distanceTo e k))
+      let there = kept-there e f name (ap isEmpty p) in
+      carrying-quiet e _ (repairMessage (momentOf e) name k (r .cue)) refl (repair-fits there k (ap isHeld p)) (slot-held (Held (Due due k)) p) (quiet-same there (distanceTo e k))
 
 fired-quiet : (us : List ℕ) (e : End) → Facts e → (x : Earliest) → Quiet e (fired us e x)
 unfolding fired
@@ -152,46 +162,99 @@ fired-quiet us e f (First w) = fire-quiet us e f (w .name) _ refl
 -- the events that the book says nothing of: one clause each
 pub others : (us : List ℕ) (o : Other) (e : End) → Facts e → Quiet e (otherOf us o e)
 others us Fire e f = fired-quiet us e f (earliest e 8)
-others us Report e f = bare-quiet e e (sessionMessage e) refl (same-refl e)
+others us Report e f = bare-quiet e e (sessionMessage e) refl refl (same-refl e)
 
 -- ---- SESS
 
--- first..last of every source is in order, and there is a record for each number: what a rise needs, and keeps
+-- first..last of every source has at most 64 numbers, and there is a place for each: what a rise needs, and keeps
 abbrev Laid : Source → Type 0
-Laid s = SpanIn (s .span) × (length (s .names) ≡ 64)
+Laid s = Narrow (s .span) × (length (s .names) ≡ 64)
 
-rise-laid : (t : Moment) (us : List ℕ) (n : ℕ) (s : Source) (x : Span) → s .span ≡ x → n < 64 → Laid s → Laid (rise t us n s x)
-unfolding rise
-rise-laid t us n s Closed p l q = q
-rise-laid t us n s (Open first last) p l q =
-    let in-order : SpanIn (Open first last) = rw p at (q .0) in
-    ((omega (arith, in-order .0), omega (arith, in-order .1)), rise-length t us n s (Open first last) ∙ q .1)
+reported-source : (t : Moment) (us : List ℕ) (r : ReportEntry) (s : Source) → Laid s
+    → RoseSource (not (sameHost (r .source) (t .me))) s (reportedSource t us r s) (r .last .0) × Laid (reportedSource t us r s)
+reported-source t us r s q =
+    let another = not (sameHost (r .source) (t .me)) in
+    let new = asked t us (s .distance) in
+    let n = r .last .0 in
+    byCond (λ z. RoseSource another s z n × Laid z) (another && isAbove (s .span) n)
+    (λ _. (rose new (λ m. refl) n s (q .1) another, (rise-narrow new n s (s .span) refl (q .0), rise-length new n s (s .span) ∙ q .1)))
+    (λ h. (same-rose another s s n (q .0) (λ a. sym (ap (λ (x : Bool). x && isAbove (s .span) n) a) ∙ h) (same-refl-source s), q))
 
-reported-source : (t : Moment) (us : List ℕ) (r : ReportEntry) (s : Source) → Laid s → r .last .0 < 64 → SameSource s (reportedSource t us r s) × Laid (reportedSource t us r s)
-reported-source t us r s q l =
-    let room : r .last .0 < length (s .names) = omega (arith, q .1) in
-    byCond (λ z. SameSource s z × Laid z) (not (sameHost (r .source) (t .me)) && isAbove (s .span) (r .last .0))
-    (λ _. (same-rise t us (r .last .0) s (s .span) refl (last-ordered (s .span) (q .0)) room, rise-laid t us (r .last .0) s (s .span) refl l q))
-    (λ _. (same-refl-source s, q))
+-- numbers brought, and then more of them
+rose-trans : {a b c : End} {f g : ℕ → Option ℕ → Option ℕ} → ((s : ℕ) (top : Option ℕ) → Grown top (g s top)) → Rose f a b → Rose g b c → Rose (λ s top. g s (f s top)) a c
+rose-trans {a} {b} {c} {f} {g} up p q = record {
+  host = q .host ∙ p .host;
+  status = q .status ∙ p .status;
+  next = q .next ∙ p .next;
+  firsts = λ s hs d.
+      let d′ : eqb (b .host .0) s ≡ false = ap (λ (h : ℕ). eqb h s) (p .host) ∙ d in
+      q .firsts s hs d′ ∙ ap (λ x. windowed x (lastAt c s)) (p .firsts s hs d)
+      ∙ window-twice (firstAt a s) (lastAt b s) (lastAt c s) (rw (q .lasts s hs d′) (up s (lastAt b s)));
+  lasts = λ s hs d.
+      let d′ : eqb (b .host .0) s ≡ false = ap (λ (h : ℕ). eqb h s) (p .host) ∙ d in
+      q .lasts s hs d′ ∙ ap (g s) (p .lasts s hs d);
+  up = λ s n hs h. p .up s n hs (q .up s n hs h);
+  holding = λ s n hs h. q .holding s n hs h ∙ p .holding s n hs (q .up s n hs h);
+}
 
-all-keep : (t : Moment) (us : List ℕ) (rs : List ReportEntry) (e : End) → all reportIn rs ≡ true → ((s : ℕ) → s < 8 → Laid (getD (e .sources) s noSource)) → Same e (allReported t us rs e)
-unfolding allReported all
-all-keep t us [] e h q = same-refl e
-all-keep t us (r ∷ rs) e h q =
-    let both = and-both (reportIn r) (all reportIn rs) h in
-    let name = and-both (hostIn (r .source)) (numberIn (r .last)) (both .0) in
-    let k = reported-source t us r (sourceAt e (r .source)) (q (r .source .0) (ltb-true (r .source .0) 8 (name .0))) (ltb-true (r .last .0) 64 (name .1)) in
-    same-trans (same-source e (r .source) _ (k .0))
-    (all-keep t us rs (onSource e (r .source) (reportedSource t us r)) (both .1)
+rose-then : {top : ℕ → Option ℕ → Option ℕ} {a b c : End} → Rose top a b → Same b c → Rose top a c
+rose-then {top} {a} {b} {c} p q = record {
+  host = q .host ∙ p .host;
+  status = q .status ∙ p .status;
+  next = q .next ∙ p .next;
+  firsts = λ s hs d. q .firsts s hs ∙ p .firsts s hs d ∙ ap (windowed (firstAt a s)) (sym (q .lasts s hs));
+  lasts = λ s hs d. q .lasts s hs ∙ p .lasts s hs d;
+  up = λ s n hs h. p .up s n hs (ap (λ o. notBelow o n) (sym (q .firsts s hs)) ∙ h);
+  holding = λ s n hs h. q .holding s n hs ∙ p .holding s n hs (ap (λ o. notBelow o n) (sym (q .firsts s hs)) ∙ h);
+}
+
+-- no number brought
+none-rose : (e : End) → Narrows e → Rose (λ s top. top) e e
+unfolding firstAt lastAt
+none-rose e o = record {
+  host = refl;
+  status = refl;
+  next = refl;
+  firsts = λ s hs d. sym (still-window (getD (e .sources) s noSource .span) (o s hs));
+  lasts = λ s hs d. refl;
+  up = λ s n hs h. h;
+  holding = λ s n hs h. refl;
+}
+
+-- the reports, one after the other
+all-rose : (t : Moment) (us : List ℕ) (rs : List ReportEntry) (e : End) → t .me .0 ≡ e .host .0 → length (e .sources) ≡ 8 → all (reportIn 65535) rs ≡ true
+    → ((s : ℕ) → s < 8 → Laid (getD (e .sources) s noSource)) → Rose (λ s. reportedTo s rs) e (allReported t us rs e)
+unfolding allReported all reportedTo
+all-rose t us [] e i l h q = none-rose e (λ s hs. q s hs .0)
+all-rose t us (r ∷ rs) e i l h q =
+    let both = and-both (reportIn 65535 r) (all (reportIn 65535) rs) h in
+    let hs : r .source .0 < 8 = ltb-true (r .source .0) 8 (and-both (hostIn (r .source)) (numberIn 65535 (r .last)) (both .0) .0) in
+    let k = reported-source t us r (sourceAt e (r .source)) (q (r .source .0) hs) in
+    let own : sameHost (r .source) (t .me) ≡ eqb (r .source .0) (e .host .0) = ap (eqb (r .source .0)) i in
+    let x : Source = reportedSource t us r (sourceAt e (r .source)) in
+    rose-trans (λ s top. reported-grows s rs top)
+    (rose-source e (r .source) x (omega arith) (r .last .0) (λ s hs. q s hs .0)
+    (subst (λ (b : Bool). RoseSource (not b) (sourceAt e (r .source)) x (r .last .0)) own (k .0)))
+    (all-rose t us rs (onSource e (r .source) (reportedSource t us r)) i (length-set (e .sources) (r .source .0) _ ∙ l) (both .1)
     (λ s hs. set-elim Laid (e .sources) (r .source .0) s (reportedSource t us r (sourceAt e (r .source))) noSource (λ _. k .1) (q s hs)))
 
 -- the sender's stamp and distance are none of the service's business
 heard-same : (t : Moment) (m : Meaning) (e : End) → Same e (onSource e (m .sender) (heardFrom t m))
 unfolding heldAt recordAt
-heard-same t m e = same-source e (m .sender) (heardFrom t m (sourceAt e (m .sender))) (record { first = refl; holding = λ n. refl })
+heard-same t m e = same-source e (m .sender) (heardFrom t m (sourceAt e (m .sender))) (record { first = refl; last = refl; holding = λ n. refl })
 
-pub session-quiet : (us : List ℕ) (m : Meaning) (e : End) → Facts e → all reportIn (m .reports) ≡ true → Quiet e (sessionOf (momentOf e) us m e)
-unfolding sessionOf
-session-quiet us m e f h =
-    untouched-quiet e _ Done refl (same-trans (all-keep (momentOf e) us (m .reports) e h (λ s hs. (f .spans s hs, f .names s hs)))
-    (heard-same (momentOf e) m (allReported (momentOf e) us (m .reports) e)))
+pub session-quiet : (us : List ℕ) (m : Meaning) (e : End) → Facts e → isAboutName m ≡ false → eqb (m .kind) SESS ≡ true → all (reportIn 65535) (m .reports) ≡ true
+    → QuietBy (Rose (broughtTo m) e) e (sessionOf (momentOf e) us m e)
+unfolding sessionOf broughtTo
+session-quiet us m e f a k h =
+    let rose-all = rose-then (all-rose (momentOf e) us (m .reports) e refl (f .sources) h (λ s hs. (narrow (getD (e .sources) s noSource .span) (f .spans s hs), f .names s hs)))
+    (heard-same (momentOf e) m (allReported (momentOf e) us (m .reports) e)) in
+    untouched-quiet (Rose (broughtTo m) e) e _ Done refl (record {
+      host = rose-all .host;
+      status = rose-all .status;
+      next = rose-all .next;
+      firsts = rose-all .firsts;
+      lasts = λ s hs d. rw (a, k) (rose-all .lasts s hs d);
+      up = rose-all .up;
+      holding = rose-all .holding;
+    })

@@ -1,18 +1,19 @@
 -- What the service sees of a message about a name: by the decision, a line each.
-use mathlib.Core.Path.{_≡_, refl, sym, ap, _∙_}
-use Prim.Native.Nat.{ℕ, _<_, max}
+use mathlib.Core.Path.{_≡_, refl, sym, ap, _∙_, subst}
+use Prim.Native.Nat.{ℕ, _<_}
 use native.Mathlib.Omega.{arith}
 use mathlib.Core.Bool.{Bool, true, false, not, _&&_, _||_, and-false}
 use mathlib.Core.List.{List}
 use mathlib.Core.Option.{none, some}
-use lib.ListN.{length}
+use lib.ListN.{length, getD}
 use lib.Dec.{eqb, leb}
-use borrow.Author.Tests.{eqb-true, eqb-false, eq-eqb, not-true, lt-ltb, le-ltb, lt-leb, le-leb}
+use borrow.Author.Tests.{eqb-true, eq-eqb, not-true, ltb-true, lt-ltb, le-ltb, lt-leb, le-leb}
 use Rattle.numbers.proofs.Cases.{by-order}
 use Rattle.message.specs.Message.{Meaning}
 use Rattle.message.specs.Question.{sameHost}
 use Rattle.message.proofs.QuestionLaws.{and-both}
 use Rattle.end.specs.declared.Reply.the-variants.{No, Due}
+use Rattle.end.specs.declared.Request.{Request}
 use Rattle.end.specs.declared.Slot.{Slot}
 use Rattle.end.specs.declared.Slot.the-variants.{Empty, Held, Waiting}
 use Rattle.end.specs.declared.Record.{Record}
@@ -24,25 +25,28 @@ use Rattle.end.specs.declared.Moment.{Moment}
 use Rattle.end.specs.declared.Says.{Says}
 use Rattle.end.specs.declared.Says.the-variants.{Data, Rqst, Repl}
 use Rattle.end.specs.declared.Word.{Word}
+use Rattle.end.specs.declared.Reason.{Reason}
 use Rattle.end.specs.declared.Reason.the-variants.{Crashed, WrongStatus, OwnMessage, NotOpen, BelowFirst, OwnAboveLast, AlreadyHeld, ReplyWaiting, ReplyQuiet, RequestQuiet}
 use Rattle.end.specs.declared.Decision.{Decision}
 use Rattle.end.specs.declared.Decision.the-variants.{Ignores, Opens, Takes, Repairs, Hushes, Replies, Learns, BacksOff, Clashes}
-use Rattle.end.specs.State.{sourceAt, isMember, withSource, momentOf}
-use Rattle.end.specs.Records.{isClosed, within, isBelow, isHeld}
+use Rattle.end.specs.State.{noSource, sourceAt, isMember, withSource, momentOf}
+use Rattle.end.specs.Records.{isClosed, within, isBelow, isAbove, recordAt, isHeld}
+use Rattle.end.specs.Reasons.{holds as holdsFor}
 use Rattle.end.specs.Round.{nextRound, requestAt, quietAfterReply, replyDue}
-use Rattle.end.specs.Names.{setRound, asking, quieted, replying, rise}
+use Rattle.end.specs.Names.{setRound, hold, asking, holding, quieted, replying, asked as askedFor, riseWith}
 use Rattle.end.specs.Answer.{Effect, Got, give, classOf, Untouched}
 use Rattle.end.specs.Decide.{number, known, decide, risen, apply, effectOf, stepAt}
 use Rattle.end.specs.Arrival.{messageName, messageCue, wordOf, wordStep}
-use Rattle.end.specs.Book.{source, isSome, notBelow, isOriginal, isRepair}
+use Rattle.end.specs.Book.{source, isSome, notBelow, isOriginal, isRepair, isAboutName, broughtTo}
 use Rattle.end.proofs.Tools.{byTest, clash, clash′, eqb-flip}
-use Rattle.end.proofs.RecordLaws.{Ordered, within-in, within-below, within-above, at-inside, at-outside, rise-length}
-use Rattle.end.proofs.Facts.{Facts, last-ordered}
+use Rattle.end.proofs.RecordLaws.{Narrow, inside, at-inside, at-outside, stored-length}
+use Rattle.end.proofs.RiseLaws.{rise-length, rise-narrow, rise-reaches}
+use Rattle.end.proofs.Facts.{Facts, narrow}
 use Rattle.end.proofs.Grounds.{Grounds, Missing, isData, isRequest, grounds, wanted-other}
-use Rattle.end.proofs.Service.View.{heldIn, firstIn, heldAt, orElse, SameSource, TookSource, holds, firstAt}
-use Rattle.end.proofs.Service.Booked.{fresh, takes, Hears, untouched-quiet}
-use Rattle.end.proofs.Service.Sources.{not-held-is, any-reply, same-refl-source, same-then, same-took, took-same, same-record, took-held, same-rise}
-use Rattle.end.proofs.Service.Steps.{same-source, took-source}
+use Rattle.end.proofs.Service.View.{heldIn, firstIn, heldAt, SameSource, RoseSource, TookSource, holds, firstAt, Rose}
+use Rattle.end.proofs.Service.Booked.{fresh, takes, heeds, Hears, untouched-quiet}
+use Rattle.end.proofs.Service.Sources.{not-held-is, any-reply, within-not-below, same-refl-source, same-rose, rose-same, took-same, same-record, took-opened, rose, took-risen}
+use Rattle.end.proofs.Service.Steps.{Narrows, broughtOf, rose-source, took-source}
 
 -- a decision that hands the cue out
 unfoldable pub hands : Decision → Bool
@@ -56,65 +60,123 @@ hands Learns = false
 hands (BacksOff k) = false
 hands Clashes = false
 
--- ---- the source: it has taken the cue, or looks the same
-unfoldable pub Seen : Bool → Word → Source → Source → Type 0
-Seen true w s s′ = TookSource s s′ (number w) (w .cue)
-Seen false w s s′ = SameSource s s′
+abbrev isEmpty : Slot → Bool
+isEmpty Empty = true
+isEmpty (Held reply) = false
+isEmpty (Waiting q) = false
 
--- only n itself lies in n..n
-pub one-more : (n j : ℕ) → eqb j n ≡ false → leb n j && leb j n ≡ false
-one-more n j d = by-order j n (λ l. within-below n n j l) (λ l. within-above n n j (omega (arith, eqb-false j n d)))
+-- ---- the source: it has taken the cue, or has risen to the number
+unfoldable pub Seen : Bool → Bool → Word → Source → Source → Type 0
+Seen true another w s s′ = TookSource s s′ (number w) (w .cue)
+Seen false another w s s′ = RoseSource another s s′ (number w)
 
--- a number above first lies in a span that has risen to it
-risen-within : (t : Moment) (us : List ℕ) (w : Word) (s : Source) (x : Span) → s .span ≡ x → Missing w (known w s) x → within (rise t us (number w) s x .span) (number w) ≡ true
-unfolding rise
-risen-within t us w s Closed p g = clash (ap isClosed (g .span))
-risen-within t us w s (Open first last) p g =
-    let e : first .0 ≡ g .first .0 = ap start-of (g .span) in
-    within-in (first .0) (max (last .0) (number w)) (number w) (omega (arith, g .least)) (omega arith)
+-- what waits or is held lies in first..last
+slot-within : (s : Source) (n : ℕ) → isEmpty (recordAt s n .slot) ≡ false → within (s .span) n ≡ true
+slot-within s n h = byTest (within (s .span) n) (λ w. w) (λ w. clash (sym (ap (λ (r : Record). isEmpty (r .slot)) (at-outside s n w)) ∙ h))
+
+pub held-within : (s : Source) (n : ℕ) → isHeld (recordAt s n .slot) ≡ true → within (s .span) n ≡ true
+held-within s n h = slot-within s n (not-empty (recordAt s n .slot) h)
   where
-    start-of : Span → ℕ
-    start-of Closed = 0
-    start-of (Open f l) = f .0
+    not-empty : (x : Slot) → isHeld x ≡ true → isEmpty x ≡ false
+    not-empty Empty p = clash′ p
+    not-empty (Held reply) p = refl
+    not-empty (Waiting q) p = refl
 
-module _ (t : Moment) (us : List ℕ) (w : Word) (s : Source) (o : Ordered (s .span)) (room : number w < length (s .names)) where
-  rises : SameSource s (risen t us w s)
-  rises = same-rise t us (number w) s (s .span) refl o room
+within-not-above : (x : Span) (n : ℕ) → within x n ≡ true → isAbove x n ≡ false
+within-not-above Closed n h = refl
+within-not-above (Open first last) n h = le-ltb (last .0) n (inside (first .0) (last .0) n h .high)
+
+below-not-above : (x : Span) (n : ℕ) → Narrow x → isBelow x n ≡ true → isAbove x n ≡ false
+below-not-above Closed n o h = refl
+below-not-above (Open first last) n o h = le-ltb (last .0) n (omega (arith, o .0, ltb-true n (first .0) h))
+
+-- the number of a name that is missing lies in first..last once it has risen to it
+risen-within : (t : Moment) (us : List ℕ) (w : Word) (s : Source) → Narrow (s .span) → Missing w (known w s) (s .span) → within (risen t us w s .span) (number w) ≡ true
+risen-within t us w s o g =
+    let new = askedFor t us (s .distance) in
+    let is = g .span in
+    ap (λ (x : Span). within (riseWith new (number w) s x .span) (number w)) is ∙ rise-reaches new (number w) s (g .first) (g .last) (subst Narrow is o) (g .least)
+
+module _ (t : Moment) (us : List ℕ) (w : Word) (s : Source) (o : Narrow (s .span)) (long : length (s .names) ≡ 64) where
+  abbrev another : Bool
+  another = not (sameHost (w .name .source) (t .me))
+
+  rises : RoseSource another s (risen t us w s) (number w)
+  rises = rose (askedFor t us (s .distance)) (λ m. refl) (number w) s long another
+
+  narrow-risen : Narrow (risen t us w s .span)
+  narrow-risen = rise-narrow (askedFor t us (s .distance)) (number w) s (s .span) refl o
+
+  long-risen : length (risen t us w s .names) ≡ 64
+  long-risen = rise-length (askedFor t us (s .distance)) (number w) s (s .span) ∙ long
 
   took : Missing w (known w s) (s .span) → TookSource s (apply t us w Takes s) (number w) (w .cue)
-  unfolding apply firstIn orElse
-  took g =
-      let x = risen t us w s in
-      let first-now : firstIn (x .span) ≡ some (g .first .0) = rises .first ∙ ap firstIn (g .span) in
-      same-took rises (took-held x (x .span) (number w) (w .cue) (omega (arith, rise-length t us (number w) s (s .span)))
-      (risen-within t us w s (s .span) refl g) (λ j d. refl) (rw first-now))
+  unfolding apply
+  took g = took-risen (askedFor t us (s .distance)) (λ m. refl) (number w) s long o (ap isClosed (g .span)) (risen-within t us w s o g) (w .cue)
 
   -- a record with its cue as it was
-  quiets : (s′ : Source) → SameSource s′ (apply t us w Hushes s′)
+  quiets : (s′ : Source) → Narrow (s′ .span) → within (s′ .span) (number w) ≡ true → length (s′ .names) ≡ 64 → SameSource s′ (apply t us w Hushes s′)
   unfolding apply heldAt
-  quiets s′ = same-record s′ (number w) (quieted (known w s′) (quietAfterReply t (w .distance))) (any-reply No (known w s′ .slot) (known w s′ .cue))
+  quiets s′ n i l = same-record s′ (number w) (quieted (known w s′) (quietAfterReply t (w .distance))) n i l (any-reply No (known w s′ .slot) (known w s′ .cue))
 
-  asks : (s′ : Source) (k : ℕ) → heldAt s′ (number w) ≡ none → SameSource s′ (setRound t us (number w) k s′)
+  asks : (s′ : Source) (k : ℕ) → Narrow (s′ .span) → within (s′ .span) (number w) ≡ true → length (s′ .names) ≡ 64 → heldAt s′ (number w) ≡ none
+      → SameSource s′ (setRound t us (number w) k s′)
   unfolding heldAt heldIn
-  asks s′ k h = same-record s′ (number w) (asking (known w s′) (requestAt t us (s′ .distance) (number w) k)) (sym h)
+  asks s′ k n i l h = same-record s′ (number w) (asking (known w s′) (requestAt t us (s′ .distance) (number w) k)) n i l (sym h)
 
   lacking : isHeld (known w s .slot) ≡ false → heldAt s (number w) ≡ none
   unfolding heldAt
   lacking l = not-held-is (known w s .slot) (known w s .cue) l
 
-  pub seen : (d : Decision) → Grounds t w (known w s) (s .span) d → Seen (hands d) w s (apply t us w d s)
-  unfolding Grounds Seen hands apply heldAt heldIn firstIn orElse
-  seen (Ignores why) g = same-refl-source s
-  seen Opens g = took-held s (Open (w .name .number) (w .name .number)) (number w) (w .cue) room (within-in (number w) (number w) (number w) (omega arith) (omega arith))
-      (λ j d. one-more (number w) j d ∙ sym (ap (λ (x : Span). within x j) (g .1))) (ap (λ (x : Span). some (orElse (firstIn x) (number w))) (sym (g .1)))
-  seen Takes g = took (g .1)
-  seen Repairs g = took-same (took (g .1 .missing)) (quiets (apply t us w Takes s))
-  seen Hushes g = quiets s
-  seen Replies g = same-record s (number w) (replying (known w s) (replyDue t us (w .distance) (number w)) (w .requester))
+  -- a source that looks the same, where the number is not above last
+  stays : (s′ : Source) → (another ≡ true → isAbove (s .span) (number w) ≡ false) → SameSource s s′ → RoseSource another s s′ (number w)
+  stays s′ low v = same-rose another s s′ (number w) o low v
+
+  held-low : isHeld (known w s .slot) ≡ true → isAbove (s .span) (number w) ≡ false
+  held-low h = within-not-above (s .span) (number w) (held-within s (number w) h)
+
+  -- where a message is ignored, its number is not above last, but for an own one
+  ignored-low : (why : Reason) → holdsFor (w .says) t w (known w s) (s .span) why ≡ true → another ≡ true → isAbove (s .span) (number w) ≡ false
+  ignored-low Crashed g a = clash′ g
+  ignored-low WrongStatus g a = clash′ g
+  ignored-low OwnMessage g a = clash′ g
+  ignored-low NotOpen g a = closed-low (s .span) (and-both (not (isData (w .says))) (isClosed (s .span)) g .1)
+    where
+      closed-low : (x : Span) → isClosed x ≡ true → isAbove x (number w) ≡ false
+      closed-low Closed p = refl
+      closed-low (Open first last) p = clash′ p
+  ignored-low BelowFirst g a = below-not-above (s .span) (number w) o g
+  ignored-low OwnAboveLast g a = clash (sym (and-both (sameHost (w .name .source) (t .me)) _ (and-both (not (isData (w .says))) _ g .1) .0) ∙ not-true (sameHost (w .name .source) (t .me)) a)
+  ignored-low AlreadyHeld g a = held-low (and-both (isHeld (known w s .slot)) _ (and-both (isData (w .says)) _ g .1) .0)
+  ignored-low ReplyWaiting g a = held-low (and-both (isHeld (known w s .slot)) _ (and-both (isRequest (w .says)) _ g .1) .0)
+  ignored-low ReplyQuiet g a = held-low (and-both (isHeld (known w s .slot)) _ (and-both (isRequest (w .says)) _ g .1) .0)
+  ignored-low RequestQuiet g a = not-true (isAbove (s .span) (number w)) (and-both (not (isAbove (s .span) (number w))) _ (and-both (not (isHeld (known w s .slot))) _ (and-both (isRequest (w .says)) _ g .1) .1) .0)
+
+  waits-within : (q : Request) → known w s .slot ≡ Waiting q → within (s .span) (number w) ≡ true
+  waits-within q p = slot-within s (number w) (ap isEmpty p)
+
+  replies : isHeld (known w s .slot) ≡ true → SameSource s (apply t us w Replies s)
+  unfolding apply heldAt
+  replies h = same-record s (number w) (replying (known w s) (replyDue t us (w .distance) (number w)) (w .requester)) o (held-within s (number w) h) long
       (any-reply (Due (replyDue t us (w .distance) (number w)) (w .requester)) (known w s .slot) (known w s .cue))
-  seen Learns g = same-then rises (asks (risen t us w s) 2 (rises .holding (number w) ∙ lacking (g .1 .missing .lacks)))
-  seen (BacksOff k) g = asks s (nextRound k) (lacking (ap isHeld (g .1 .waits)))
-  seen Clashes g = same-refl-source s
+
+  pub seen : (d : Decision) → Grounds t w (known w s) (s .span) d → Seen (hands d) another w s (apply t us w d s)
+  unfolding Grounds Seen hands apply
+  seen (Ignores why) g = stays s (ignored-low why g) (same-refl-source s)
+  seen Opens g = took-opened s (number w) (w .cue) (g .1) long
+  seen Takes g = took (g .1)
+  seen Repairs g = took-same (took (g .1 .missing)) (quiets (hold (number w) (w .cue) (risen t us w s)) narrow-risen (risen-within t us w s o (g .1 .missing))
+      (stored-length (risen t us w s) (number w) (holding (recordAt (risen t us w s) (number w)) (w .cue)) ∙ long-risen))
+  seen Hushes g = stays _ (λ _. held-low (g .1)) (quiets s o (held-within s (number w) (g .1)) long)
+  seen Replies g = stays _ (λ _. held-low (g .1 .held)) (replies (g .1 .held))
+  seen Learns g =
+      let x = risen t us w s in
+      let i = risen-within t us w s o (g .1 .missing) in
+      rose-same rises (asks x 2 narrow-risen i long-risen (rises .holding (number w) (within-not-below (x .span) (number w) i) ∙ lacking (g .1 .missing .lacks)))
+  seen (BacksOff k) g =
+      let i = waits-within (g .1 .request) (g .1 .waits) in
+      stays _ (λ _. within-not-above (s .span) (number w) i) (asks s (nextRound k) o i long (lacking (ap isHeld (g .1 .waits))))
+  seen Clashes g = stays s (λ _. held-low (g .1)) (same-refl-source s)
 
 -- ---- the book: whether the cue is handed out, from the word, first and last, and what is known of the name
 abbrev pub isRepairing : Says → Bool
@@ -181,11 +243,31 @@ told w Clashes = refl
 
 -- ---- the lift
 module _ (says : Says) (m : Meaning) (e : End) where
-  lifted : source m < length (e .sources) → (b : Bool) (s : Source) (a : Effect) → Seen b (wordOf says m e) (sourceAt e (messageName m .source)) s → Told b (wordOf says m e) a
+  lifted : source m < length (e .sources) → Narrows e → isAboutName m ≡ true → heeds (e .host .0) e m ≡ true → (b : Bool) (s : Source) (a : Effect)
+      → Seen b (not (sameHost (messageName m .source) (e .host))) (wordOf says m e) (sourceAt e (messageName m .source)) s → Told b (wordOf says m e) a
       → takes (e .host .0) e m ≡ b → Hears (e .host .0) e m (give a (withSource e (messageName m .source) s))
-  unfolding Seen Told
-  lifted there true s a v k x = record { hands = λ _. (k, refl, took-source e (messageName m .source) s (number (wordOf says m e)) (messageCue m) there v); else = λ y. clash (sym x ∙ y) }
-  lifted there false s a v k x = record { hands = λ y. clash (sym y ∙ x); else = λ _. untouched-quiet e _ a k (same-source e (messageName m .source) s v) }
+  unfolding Seen Told broughtTo
+  lifted there o about heard true s a v k x = record {
+    hands = λ _. (k, refl, took-source e (messageName m .source) s there (number (wordOf says m e)) (messageCue m) v);
+    brings = λ y. clash (sym x ∙ y);
+    else = λ y. clash (sym heard ∙ y);
+  }
+  lifted there o about heard false s a v k x = record {
+    hands = λ y. clash (sym y ∙ x);
+    brings = λ _ _. untouched-quiet (Rose (broughtTo m) e) e _ a k (brought-as (rose-source e (messageName m .source) s there (number (wordOf says m e)) o v));
+    else = λ y. clash (sym heard ∙ y);
+  }
+    where
+      brought-as : {e′ : End} → Rose (broughtOf (source m) (messageName m .number .0)) e e′ → Rose (broughtTo m) e e′
+      brought-as r = record {
+        host = r .host;
+        status = r .status;
+        next = r .next;
+        firsts = r .firsts;
+        lasts = λ j hj d. rw about (r .lasts j hj d);
+        up = r .up;
+        holding = r .holding;
+      }
 
 -- what the book asks, in the word's terms
 some-open : (x : Span) → isSome (firstIn x) ≡ not (isClosed x)
@@ -209,9 +291,9 @@ some-held (Waiting q) c = refl
 eqb-turn : (a b : ℕ) → eqb a b ≡ eqb b a
 eqb-turn a b = byTest (eqb b a) (λ t. eq-eqb a b (sym (eqb-true b a t)) ∙ sym t) (λ t. eqb-flip b a t ∙ sym t)
 
-module _ (says : Says) (m : Meaning) (original : isOriginal m ≡ isData says) (repair : isRepair m ≡ isRepairing says)
+module _ (says : Says) (m : Meaning) (about : isAboutName m ≡ true) (original : isOriginal m ≡ isData says) (repair : isRepair m ≡ isRepairing says)
     (e : End) (f : Facts e) (us : List ℕ) (member : isMember (e .status) ≡ true) (looped : eqb (m .sender .0) (e .host .0) ≡ false)
-    (hs : source m < 8) (hn : messageName m .number .0 < 64) (data-other : says ≡ Data → sameHost (messageName m .source) (e .host) ≡ false) where
+    (hs : source m < 8) (data-other : says ≡ Data → sameHost (messageName m .source) (e .host) ≡ false) where
   abbrev t : Moment
   t = momentOf e
 
@@ -231,7 +313,7 @@ module _ (says : Says) (m : Meaning) (original : isOriginal m ≡ isData says) (
   mine (Ignores why) g h = clash′ h
   mine Opens g h = data-other (g .0)
   mine Takes g h = data-other (g .0)
-  mine Repairs g h = wanted-other t w (known w s) (s .span) (λ i. rw (at-inside s (number w) i) (f .records (source m) (number w) hs hn)) (g .1)
+  mine Repairs g h = wanted-other t w (known w s) (s .span) (λ i. rw (at-inside s (number w) i) (f .records (source m) (number w) hs i)) (g .1)
   mine Hushes g h = clash′ h
   mine Replies g h = clash′ h
   mine Learns g h = clash′ h
@@ -242,10 +324,10 @@ module _ (says : Says) (m : Meaning) (original : isOriginal m ≡ isData says) (
   closed-bare p = ap (λ (r : Record). isHeld (r .slot)) (at-outside s (number w) (ap (λ (x : Span). within x (number w)) p))
 
   pub word-hears : Hears (e .host .0) e m (wordStep us says m e)
-  unfolding stepAt
+  unfolding stepAt heeds
   word-hears =
       let d = decide t w s in
       let g = grounds t w (known w s) (s .span) in
-      lifted says m e (omega (arith, f .sources)) (hands d) (apply t us w d s) (effectOf w d)
-      (seen t us w s (last-ordered (s .span) (f .spans (source m) hs)) (omega (arith, f .names (source m) hs, hn)) d g) (told w d)
+      lifted says m e (omega (arith, f .sources)) (λ k hk. narrow (getD (e .sources) k noSource .span) (f .spans k hk)) about (rw (member, looped)) (hands d) (apply t us w d s) (effectOf w d)
+      (seen t us w s (narrow (s .span) (f .spans (source m) hs)) (f .names (source m) hs) d g) (told w d)
       (takes-word ∙ right t w (known w s) (s .span) d g (mine d g) closed-bare)

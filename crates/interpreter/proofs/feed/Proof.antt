@@ -22,7 +22,10 @@ sub-loop : tie.Need-sub-loop Inv-loop μ-loop
 sub-loop c = let i = c .loop .inv in omega (arith, i .inside, i .same)
 
 -- the loop's test in a turn
-test : (t : tie.In-loop Inv-loop μ-loop) → let l = t .before .loop in Goes (l .at) (t .before .before .before .before .before .before .args .piece .now) (l .used) (l .out) (l .stopped)
+test : (t : tie.In-loop Inv-loop μ-loop)
+    → let b = t .before in
+    let l = b .loop in
+    Goes (l .at) (b .before .before .before .before .before .args .piece .now) (l .used) (l .out) (l .stopped)
 test t = let l = t .before .loop in goes-on (l .at) _ (l .used) (l .out) (l .stopped) (t .loop-test .taken)
 
 turn-requires : tie.Need-turn-requires Inv-loop μ-loop

@@ -10,7 +10,8 @@ returns c =
     let p = b .before .before .before in
     let y = p .before .before .before in
     let e = y .before .before .before in
-    let s = e .before .before .before .before .before .before .before .before in
+    let m = e .before .before .before .before in
+    let s = m .before .before .before .before in
     called (s .args .pair) (s .args .call)
     (e .chosen .ensures) (y .play .ensures) (p .put-printed .ensures) (b .is-bad .ensures) (c .before .chosen2 .ensures) (c .chosen3 .ensures)
 

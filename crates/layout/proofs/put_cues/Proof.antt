@@ -9,7 +9,8 @@ use Rattle.layout.proofs.put_cues.Tie as tie
 returns : tie.Need-returns
 returns c =
     let cue = c .before .before in
-    let count = cue .before .before .before .before .before .before in
+    let one = cue .before .before .before in
+    let count = one .before .before .before in
     put-one cueBytes cueWidth _ (omega arith) (omega arith) (omega arith) (search needs) (count .put-byte .ensures) (cue .put-bytes .ensures)
 
 returns-2 : tie.Need-returns-2

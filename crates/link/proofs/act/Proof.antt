@@ -21,7 +21,8 @@ send-requires : tie.Need-send-requires
 send-requires c κs =
     let start = c .before .before .before .before .before in
     let pre = start .pre in
-    record { host = pre .settled .host; next = subst (λ (w : Event). OwnGiven w (start .args .end) (start .args .message)) (c .before .enum-told .given .1) (pre .own); room = pre .room }
+    let own = subst (λ (w : Event). OwnGiven w (start .args .end) (start .args .message)) (c .before .enum-told .given .1) (pre .own) in
+    record { settled = pre .settled; next = own; draws = pre .draws; room = pre .room }
 
 enum-told-2 : tie.Need-enum-told-2
 enum-told-2 c = search needs
@@ -31,7 +32,11 @@ arrival-requires c κs =
     let start = c .before .before .before .before .before in
     let pre = start .pre in
     let own = subst (λ (w : Event). OwnGiven w (start .args .end) (start .args .message)) (c .before .enum-told2 .given .1) (pre .own) in
-    record { ready = pre .settled .ready; passed = record { draws-in = pre .draws; room-in = omega (arith, pre .room); counts-in = own .counts-in; ranges-in = own .ranges-in } }
+    record {
+      ready = pre .settled .ready;
+      counts = pre .settled .counts;
+      passed = record { draws-in = pre .draws; room-in = omega (arith, pre .room); counts-in = own .counts-in; ranges-in = own .ranges-in };
+    }
 
 enum-told-3 : tie.Need-enum-told-3
 enum-told-3 c = search needs

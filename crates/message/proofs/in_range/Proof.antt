@@ -14,7 +14,8 @@ unfolding inRange
 returns c =
     let cue = c .before .before in
     let names = cue .before .before .before in
-    let m = names .before .before .before .before .before .before .before .before .args .m in
+    let start = names .before .before .before .before in
+    let m = start .before .before .before .before .args .m in
     let one = ap (λ (t : Bool). eqb (m .counts .cues) 0 || t) (cue .cue-in .ensures) ∙ all-one cueIn (m .counts .cues) (m .cue) in
     λ i. hostIn (m .sender)
     && (ticksIn (m .stamp) && (names .names-in .ensures i && (one i && (c .before .reports-in .ensures i && c .echoes-in .ensures i))))

@@ -11,10 +11,10 @@ use Rattle.message.proofs.names_in.Statement.{statement}
 use Rattle.message.proofs.names_in.Tie as tie
 
 abbrev Inv-loop : tie.InvT-loop
-Inv-loop count names n ok₀ i₀ ok i = Tested (all nameIn) names count namePlaces n ok i
+Inv-loop most count names n ok₀ i₀ ok i = Tested (all (nameIn most)) names count namePlaces n ok i
 
 abbrev μ-loop : tie.MeasureT-loop
-μ-loop count names n ok₀ i₀ ok i = n - i
+μ-loop most count names n ok₀ i₀ ok i = n - i
 
 loop-holds : tie.Need-loop-holds Inv-loop μ-loop
 unfolding all

@@ -11,10 +11,10 @@ use Rattle.message.proofs.reports_in.Statement.{statement}
 use Rattle.message.proofs.reports_in.Tie as tie
 
 abbrev Inv-loop : tie.InvT-loop
-Inv-loop count reports n ok₀ i₀ ok i = Tested (all reportIn) reports count reportPlaces n ok i
+Inv-loop most count reports n ok₀ i₀ ok i = Tested (all (reportIn most)) reports count reportPlaces n ok i
 
 abbrev μ-loop : tie.MeasureT-loop
-μ-loop count reports n ok₀ i₀ ok i = n - i
+μ-loop most count reports n ok₀ i₀ ok i = n - i
 
 loop-holds : tie.Need-loop-holds Inv-loop μ-loop
 unfolding all

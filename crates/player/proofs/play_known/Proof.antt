@@ -6,7 +6,7 @@ use Rattle.player.proofs.play_known.Statement.{statement}
 use Rattle.player.proofs.play_known.Tie as tie
 
 abbrev start : tie.After-event-in → tie.Start
-start f = f .before .before .before .before .before .before
+start f = let m = f .before .before .before in m .before .before .before
 
 event-in-requires : tie.Need-event-in-requires
 event-in-requires c κs =
@@ -25,7 +25,8 @@ tell-requires c κs =
 returns : tie.Need-returns
 returns c =
     let t = c .before in
-    let f = t .before .before .before .before .before .before in
+    let m = t .before .before .before in
+    let f = m .before .before .before in
     let s = start f in
     let a = s .args in
     played (a .explains) (a .e) (a .verb) (a .clock) (a .used) (a .places .now) (a .lengths .now) (s .pre .0) _ _

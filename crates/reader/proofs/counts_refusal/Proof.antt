@@ -21,7 +21,7 @@ bytes c = start c .args .s .now
 
 -- the place where question 8 was asked
 abbrev asked : tie.After-kind-has-counts → tie.Else1
-asked c = c .before .before
+asked c = c .before .before .before
 
 -- the test of question 8 is its definition
 whole : (c : tie.After-size-of) → (leb 12 (length (bytes c)) && eqb (c .size-of .result) (length (bytes c))) ≡ Whole (bytes c)
@@ -34,8 +34,8 @@ returns c = rw (sym (whole (c .before)) ∙ not-true _ (c .if1 .taken))
 passed : (c : tie.Else1) → Whole (bytes (c .before)) ≡ true
 passed c = sym (whole (c .before)) ∙ not-false _ (c .if1 .left)
 
-shared-slice-read-kind-has-counts : tie.Need-shared-slice-read-kind-has-counts
-shared-slice-read-kind-has-counts c =
+shared-slice-read-kind-of : tie.Need-shared-slice-read-kind-of
+shared-slice-read-kind-of c =
     let e = c .before in
     let s = bytes (e .before) in
     let h : 12 ≤ length s = leb-true 12 (length s) (and-both (leb 12 (length s)) _ (passed e) .0) in
@@ -45,7 +45,7 @@ shared-slice-read-kind-has-counts c =
 counts : (c : tie.After-kind-has-counts) → c .kind-has-counts .result ≡ HasCounts (bytes (asked c .before))
 counts c =
     let z = asked c .before in
-    c .kind-has-counts .ensures ∙ counts-are (bytes z) (start z .pre .0) (start z .pre .1)
+    c .kind-has-counts .ensures ∙ counts-are (bytes z) (start z .pre .0) (start z .pre .1) (c .before .kind-of .ensures)
 
 returns-2 : tie.Need-returns-2
 returns-2 c =
@@ -63,7 +63,8 @@ counts-refusal-spec =
     (tie.spec
     (λ c κs. search needs)
     returns
-    shared-slice-read-kind-has-counts
+    shared-slice-read-kind-of
+    (λ c κs. search needs)
     (λ c κs. search needs)
     returns-2
     returns-3)

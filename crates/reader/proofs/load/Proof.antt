@@ -13,10 +13,12 @@ returns c =
     let cue = reports .before in
     let names = cue .before in
     let stamp = names .before in
-    let a = stamp .before .before .before .before .before .before .before in
+    let kind = stamp .before .before in
+    let counts = kind .before .before in
+    let a = counts .before .before .before .before in
     let s = a .args .s .now in
     (λ i. record {
-      kind = getD s 0 0;
+      kind = kind .kind-of .ensures i;
       sender = asHost (getD s 1 0);
       stamp = stamp .read-be .ensures .number i;
       counts = a .args .c;
@@ -38,6 +40,7 @@ load-spec =
     (λ c. search needs)
     (λ c. search needs)
     (λ c. search needs)
+    (λ c κs. search needs)
     (λ c. search needs)
     (λ c κs. search needs)
     (λ c κs. search needs)

@@ -49,21 +49,21 @@ held c =
     c .load .ensures ∙ ap (λ (w : ℕ). heldAs (meaningWith w (bytes f))) (f .before .before .width-in .ensures .width)
 
 -- questions 10 and 11 decide
-decided : (c : tie.After-meaning-refusal) → readRefusal (bytes (asked (c .before))) ≡ c .meaning-refusal .result
+decided : (c : tie.After-meaning-refusal) → readRefusal (bytes (asked (c .before .before))) ≡ c .meaning-refusal .result
 decided c =
-    let l = c .before in
+    let l = c .before .before in
     refused-by (bytes (asked l)) (long (asked l)) (both (l .before)) (l .load .result) (held l) ∙ sym (c .meaning-refusal .ensures)
 
 returns-2 : tie.Need-returns-2
 returns-2 c =
     let d = c .before .before in
-    let f = asked (d .before) in
+    let f = asked (d .before .before) in
     no (bytes f) (long f) (d .meaning-refusal .result) (c .refused2 .result) (omega arith) (decided d) (c .refused2 .ensures)
 
 returns-3 : tie.Need-returns-3
 returns-3 c =
     let d = c .before in
-    let l = d .before in
+    let l = d .before .before in
     let z : d .meaning-refusal .result ≡ 0 = omega arith in
     yes-read (bytes (asked l)) (long (asked l)) (l .load .result) (decided d ∙ z) (held l)
 
@@ -77,6 +77,7 @@ read-message-spec =
     (λ c κs. search needs)
     returns
     load-requires
+    (λ c. search needs)
     (λ c κs. search needs)
     (λ c κs. search needs)
     returns-2

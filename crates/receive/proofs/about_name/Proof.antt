@@ -22,11 +22,12 @@ same-length c = search needs
 
 returns : tie.Need-returns
 returns c =
-    let step = c .before .before .before .before .before .before in
+    let emitted = c .before .before in
+    let step = emitted .before .before .before .before in
     let a = step .before .before .before .args in
     let out = a .out .now in (
       step .step .ensures,
-      c .before .before .emit .ensures
+      emitted .emit .ensures
           ∙ ap (λ (x : Change). cond (isGot (x .answer)) (a .w .cue ++ drop (length (a .w .cue)) out) out) (step .step .ensures)
           ∙ sym (handed (a .w) (decide (a .t) (a .w) (a .s)) out),
     )

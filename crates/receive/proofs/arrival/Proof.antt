@@ -3,18 +3,20 @@ use mathlib.Core.Path.{_≡_, refl}
 use Prim.Native.Nat.{_-_, _≤_, _<_}
 use native.Mathlib.Omega.{arith}
 use lib.ListN.{length, take}
+use Rattle.message.specs.Limit.{numberLimit}
 use Rattle.message.specs.Message.{meaningOf}
 use Rattle.end.specs.State.{distanceTo}
 use Rattle.end.specs.Session.{allReported}
+use Rattle.receive.specs.Hearing.{AllCounted}
 use Rattle.receive.proofs.Arriving.{Known, known, turn-in, turn-ranges, hearing-on, gives}
 use Rattle.receive.proofs.Passes.{asker-in, subject-in}
-use Rattle.receive.proofs.Reports.{reports-turn}
+use Rattle.receive.proofs.Reports.{reports-turn, report-counts}
 use borrow.Author.Needs.{needs}
 use Rattle.receive.proofs.arrival.Statement.{statement}
 use Rattle.receive.proofs.arrival.Tie as tie
 
 abbrev Inv-loop : tie.InvT-loop
-Inv-loop draws m out t count reports end₀ to d i₀ end i = (i ≤ count) × (end ≡ allReported t draws (take i reports) end₀)
+Inv-loop draws m out t count reports end₀ to d i₀ end i = (i ≤ count) × (end ≡ allReported t draws (take i reports) end₀) × AllCounted end
 
 abbrev μ-loop : tie.MeasureT-loop
 μ-loop draws m out t count reports end₀ to d i₀ end i = count - i
@@ -76,13 +78,13 @@ element-copy-out-asked c = asker (c .before .before .before)
 -- ---- the reports, one by one
 loop-holds : tie.Need-loop-holds Inv-loop μ-loop
 unfolding allReported
-loop-holds c = (omega arith, refl)
+loop-holds c = (omega arith, refl, facts c .hearing .counts)
 
 report-at-requires : tie.Need-report-at-requires Inv-loop μ-loop
 report-at-requires c κs = omega (arith, facts (c .before .before) .most)
 
 -- the report of a turn is in range
-turn : (c : tie.After-report-at Inv-loop μ-loop) → (c .report-at .result .source .0 < 8) × (c .report-at .result .last .0 < 64)
+turn : (c : tie.After-report-at Inv-loop μ-loop) → (c .report-at .result .source .0 < 8) × (c .report-at .result .last .0 < numberLimit)
 turn c = turn-in _ _ _ _ _ _ _ (facts (around c)) _ (c .report-at .result) (c .before .loop-test .taken) (c .report-at .ensures)
 
 cast-at : tie.Need-cast-at Inv-loop μ-loop
@@ -98,7 +100,10 @@ report-requires : tie.Need-report-requires Inv-loop μ-loop
 report-requires c κs =
     let at = c .before .before in
     let k = facts (around at) in
-    (turn-ranges _ _ _ _ _ _ _ k _ _ _ (at .before .before .loop .inv .1) _ (turn at .0), record { number = turn at .1; draws-in = k .hearing .passed .draws-in })
+    let inv = at .before .before .loop .inv in (
+      turn-ranges _ _ _ _ _ _ _ k _ _ _ (inv .1) _ (turn at .0),
+      (record { number = turn at .1; draws-in = k .hearing .passed .draws-in }, inv .2 _ (turn at .0)),
+    )
 
 mul-s1 : tie.Need-mul-s1 Inv-loop μ-loop
 mul-s1 c = omega (arith, turn (turned c))
@@ -115,11 +120,18 @@ loop-less c = omega arith
 loop-again : tie.Need-loop-again Inv-loop μ-loop
 loop-again c =
     let r = turned c .report-at in
-    let reports = call (asked (around (turned c))) .args .m .reports in
+    let first = asked (around (turned c)) in
+    let t = first .before .moment-of .result in
+    let us = call first .args .draws .now in
+    let reports = call first .args .m .reports in
     let few = facts (around (turned c)) .most in
     let test = turned c .before in
-    let loop = test .before .loop in
-    (omega arith, reports-turn _ _ reports (loop .i) (r .result) _ (loop .end) (c .report .result) (omega (arith, few, test .loop-test .taken, r .ensures .1)) (r .ensures .0) (loop .inv .1) (c .report .ensures))
+    let loop = test .before .loop in (
+      omega arith,
+      reports-turn t us reports (loop .i) (r .result) _ (loop .end) (c .report .result) (omega (arith, few, test .loop-test .taken, r .ensures .1))
+          (r .ensures .0) (loop .inv .1) (c .report .ensures),
+      report-counts t us (r .result) (loop .end) (c .report .result) (turn (turned c)) (loop .inv .2) (c .report .ensures),
+    )
 
 -- ---- the source that the message is about
 subject-of-requires : tie.Need-subject-of-requires Inv-loop μ-loop
@@ -138,7 +150,9 @@ element-copy-out-s-2 : tie.Need-element-copy-out-s-2 Inv-loop μ-loop
 element-copy-out-s-2 c = subject (c .before)
 
 step-source-requires : tie.Need-step-source-requires Inv-loop μ-loop
-step-source-requires c κs = hearing-on _ _ _ _ _ _ _ (facts (ended (aimed c))) _ _ _ (aimed c .before .before .loop .inv .1) _ (subject (aimed c))
+step-source-requires c κs =
+    let inv = aimed c .before .before .loop .inv in
+    hearing-on _ _ _ _ _ _ _ (facts (ended (aimed c))) _ _ _ (inv .1) _ (subject (aimed c)) (inv .2)
 
 mul-s1-2 : tie.Need-mul-s1-2 Inv-loop μ-loop
 mul-s1-2 c = omega (arith, subject (aimed (stepped c .before)))

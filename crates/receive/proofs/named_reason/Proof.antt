@@ -12,12 +12,11 @@ moment-of-requires c κs = search needs
 word-in-requires : tie.Need-word-in-requires
 word-in-requires c κs = search needs
 
--- the name's source is a host, and its number has a place
-there : (c : tie.After-word-in) → (c .word-in .result .name .source .0 < 8) × (c .word-in .result .name .number .0 < 64)
+-- the name's source is a host
+there : (c : tie.After-word-in) → c .word-in .result .name .source .0 < 8
 there c =
     let start = c .before .before in
-    let k = in-range (meaningOf (start .args .m)) (start .pre) in
-    rw (c .word-in .ensures) (k .source, k .number)
+    rw (c .word-in .ensures) (in-range (meaningOf (start .args .m)) (start .pre) .source)
 
 cast-at : tie.Need-cast-at
 cast-at c = search needs
@@ -26,10 +25,10 @@ mul-s : tie.Need-mul-s
 mul-s c = search needs
 
 element-copy-out-s : tie.Need-element-copy-out-s
-element-copy-out-s c = there (c .before) .0
+element-copy-out-s c = there (c .before)
 
 record-at-requires : tie.Need-record-at-requires
-record-at-requires c κs = there (c .before .before) .1
+record-at-requires c κs = search needs
 
 decide-requires : tie.Need-decide-requires
 decide-requires c κs = search needs

@@ -20,8 +20,9 @@ unchanged-requires c κs = search needs
 
 returns : tie.Need-returns
 returns c =
-    let a = c .before .before .before .before .before .before .args in
-    own-gives (a .t) (a .draws .now) (a .d) (meaningOf (a .m)) (a .s) (a .out .now) _ (c .before .if1 .taken) (c .unchanged .ensures)
+    let own = c .before in
+    let a = own .before .before .before .before .before .args in
+    own-gives (a .t) (a .draws .now) (a .d) (meaningOf (a .m)) (a .s) (a .out .now) _ (own .if1 .taken) (c .unchanged .ensures)
 
 is-named-requires : tie.Need-is-named-requires
 is-named-requires c κs = search needs

@@ -3,6 +3,9 @@ use borrow.Author.Needs.{needs}
 use Rattle.records.proofs.draw_at.Statement.{statement}
 use Rattle.records.proofs.draw_at.Tie as tie
 
+cast-place : tie.Need-cast-place
+cast-place c = search needs
+
 place-requires : tie.Need-place-requires
 place-requires c κs = search needs
 
@@ -17,4 +20,4 @@ returns : tie.Need-returns
 returns c = rw (c .before .place .ensures)
 
 pub draw-at-spec : {M : Type 1} → statement M
-draw-at-spec = tie.close (tie.spec place-requires mul-result shared-slice-read-result returns)
+draw-at-spec = tie.close (tie.spec cast-place place-requires mul-result shared-slice-read-result returns)

@@ -7,6 +7,9 @@ use Rattle.records.proofs.record_at.Tie as tie
 is-within-requires : tie.Need-is-within-requires
 is-within-requires c κs = search needs
 
+cast-place : tie.Need-cast-place
+cast-place c = search needs
+
 place-requires : tie.Need-place-requires
 place-requires c κs = search needs
 
@@ -26,5 +29,5 @@ returns-2 : tie.Need-returns-2
 returns-2 c = search at-out
 
 pub record-at-spec : {M : Type 1} → statement M
-record-at-spec = tie.close (tie.spec is-within-requires place-requires mul-result element-copy-out-result blank-record-requires returns
+record-at-spec = tie.close (tie.spec is-within-requires cast-place place-requires mul-result element-copy-out-result blank-record-requires returns
     returns-2)

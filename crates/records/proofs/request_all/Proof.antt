@@ -3,13 +3,13 @@ use borrow.Author.Needs.{needs}
 use mathlib.Core.Path.{_≡_, refl, sym, _∙_}
 use Prim.Native.Nat.{_-_}
 use native.Mathlib.Omega.{arith}
-use Rattle.end.specs.Names.{requested}
-use Rattle.end.proofs.NameLaws.{requested-none, requested-more}
+use Rattle.end.specs.Names.{asked, filled}
+use Rattle.end.proofs.RiseLaws.{filled-none, filled-more}
 use Rattle.records.proofs.request_all.Statement.{statement}
 use Rattle.records.proofs.request_all.Tie as tie
 
 abbrev Inv-loop : tie.InvT-loop
-Inv-loop t draws d from to out₀ i₀ out i = requested t draws d (to - i) i out ≡ requested t draws d (to - i₀) i₀ out₀
+Inv-loop t draws d from to out₀ i₀ out i = filled (asked t draws d) (to - i) i out ≡ filled (asked t draws d) (to - i₀) i₀ out₀
 
 abbrev μ-loop : tie.MeasureT-loop
 μ-loop t draws d from to out₀ i₀ out i = to - i
@@ -47,14 +47,14 @@ loop-again c =
     let a = turn .before .before .args in
     let l = turn .loop in
     rw (c .place .ensures, fresh .fresh-record .ensures)
-    (sym (requested-more (a .t) (a .draws .now) (a .d) (a .to) (l .i) (l .out) (omega arith)) ∙ l .inv)
+    (sym (filled-more (asked (a .t) (a .draws .now) (a .d)) (a .to) (l .i) (l .out) (omega arith)) ∙ l .inv)
 
 returns : tie.Need-returns Inv-loop μ-loop
 returns c =
     let turn = c .before in
     let a = turn .before .before .args in
     let l = turn .loop in
-    sym (requested-none (a .t) (a .draws .now) (a .d) (a .to) (l .i) (l .out) (omega arith)) ∙ l .inv
+    sym (filled-none (asked (a .t) (a .draws .now) (a .d)) (a .to) (l .i) (l .out) (omega arith)) ∙ l .inv
 
 pub request-all-spec : {M : Type 1} → statement M
 request-all-spec = tie.close (tie.spec Inv-loop μ-loop loop-holds cast-k fresh-record-requires place-requires mul-out array-set-from-out

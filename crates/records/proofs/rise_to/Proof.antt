@@ -1,6 +1,7 @@
 -- `records::rise_to` meets its contract: the span is the one that was matched.
-use Rattle.end.specs.Names.{rise}
+use Rattle.end.specs.Names.{riseWith}
 use borrow.Author.Needs.{needs}
+use Rattle.state.proofs.Counted.{count-small}
 use Rattle.records.proofs.Steps.{rise-open}
 use Rattle.records.proofs.rise_to.Statement.{statement}
 use Rattle.records.proofs.rise_to.Tie as tie
@@ -12,10 +13,10 @@ enum-known-span : tie.Need-enum-known-span
 enum-known-span c = search needs
 
 risen-requires : tie.Need-risen-requires
-risen-requires c κs = search needs
+risen-requires c κs = search (count-small, needs)
 
 returns : tie.Need-returns
-unfolding rise
+unfolding riseWith
 returns c = rw (c .enum-told .given .1)
 
 returns-2 : tie.Need-returns-2

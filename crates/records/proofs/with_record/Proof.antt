@@ -3,6 +3,9 @@ use borrow.Author.Needs.{needs}
 use Rattle.records.proofs.with_record.Statement.{statement}
 use Rattle.records.proofs.with_record.Tie as tie
 
+cast-place : tie.Need-cast-place
+cast-place c = search needs
+
 place-requires : tie.Need-place-requires
 place-requires c κs = search needs
 
@@ -16,4 +19,4 @@ returns : tie.Need-returns
 returns c = rw (c .place .ensures)
 
 pub with-record-spec : {M : Type 1} → statement M
-with-record-spec = tie.close (tie.spec place-requires mul-r element-set-from-r returns)
+with-record-spec = tie.close (tie.spec cast-place place-requires mul-r element-set-from-r returns)

@@ -13,7 +13,9 @@ returns : tie.Need-returns
 returns c = search needs
 
 returns-2 : tie.Need-returns-2
-returns-2 c = rw (c .before .before .before .before .before .before .reply .given .1)
+returns-2 c =
+    let tests = c .before .before .before in
+    rw (tests .before .before .before .reply .given .1)
 
 pub reply-sound-spec : {M : Type 1} → statement M
 reply-sound-spec = tie.close (tie.spec enum-told enum-known-reply returns returns-2)

@@ -9,18 +9,30 @@ enum-told c = search needs
 enum-known-span : tie.Need-enum-known-span
 enum-known-span c = search needs
 
+cast-low : tie.Need-cast-low
+cast-low c = search needs
+
+cast-high : tie.Need-cast-high
+cast-high c = search needs
+
 cast-result : tie.Need-cast-result
 cast-result c = search needs
 
 add-result : tie.Need-add-result
 add-result c = search needs
 
+sub-result : tie.Need-sub-result
+sub-result c = search needs
+
+add-result-2 : tie.Need-add-result-2
+add-result-2 c = search needs
+
 returns : tie.Need-returns
-returns c = search needs
+returns c = rw (c .enum-told .given .1)
 
 returns-2 : tie.Need-returns-2
-returns-2 c = rw (c .before .before .before .before .before .span .given .1)
+returns-2 c = rw (c .before .before .before .span .given .1)
 
 pub span-sound-spec : {M : Type 1} → statement M
-span-sound-spec =
-    tie.close (tie.spec enum-told enum-known-span cast-result add-result returns returns-2)
+span-sound-spec = tie.close (tie.spec enum-told enum-known-span cast-low cast-high cast-result add-result sub-result add-result-2 returns
+    returns-2)

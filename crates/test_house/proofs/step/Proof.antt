@@ -14,7 +14,7 @@ room = length-replicate {A = ℕ} 4096 0
 
 -- where the call was made from
 abbrev start : tie.After-feed → tie.Start
-start f = f .before .before .before .before .before .before
+start f = let m = f .before .before .before in m .before .before .before
 
 further-requires-2 : tie.Need-further-requires-2
 further-requires-2 c κs = start (c .before .before) .pre .0
@@ -34,7 +34,8 @@ array-share-prefix-out c =
 
 slice-aggregate-put-bytes : tie.Need-slice-aggregate-put-bytes
 slice-aggregate-put-bytes c =
-    let e = c .before .before .before .before .before .before .feed .ensures in
+    let m = c .before .before .before in
+    let e = m .before .before .before .feed .ensures in
     sym (length-take-le _ _ (omega (arith, e .inside, output-size e)))
 
 put-bytes-requires : tie.Need-put-bytes-requires

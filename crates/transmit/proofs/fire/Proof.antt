@@ -38,7 +38,7 @@ element-copy-out-s : tie.Need-element-copy-out-s
 element-copy-out-s c = name-in (c .before) .0
 
 record-of-requires : tie.Need-record-of-requires
-record-of-requires c κs = found (c .before .before .before) .1
+record-of-requires c κs = search needs
 
 asker-in-requires : tie.Need-asker-in-requires
 asker-in-requires c κs = search needs

@@ -29,8 +29,8 @@ enum-told-3 c = search needs
 
 quiet-reply-requires : tie.Need-quiet-reply-requires
 quiet-reply-requires c κs =
-    let pre = c .before .before .before .before .before .before .pre in
-    (pre .asker, pre .numbered .number)
+    let reply = c .before .before .before in
+    reply .before .before .before .pre .asker
 
 returns : tie.Need-returns
 returns c = rw (c .enum-told .given .1)

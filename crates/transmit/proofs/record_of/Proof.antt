@@ -1,8 +1,4 @@
 -- `transmit::record_of` meets its contract: the wait is the one that was matched.
-use mathlib.Core.Path.{subst}
-use Prim.Native.Nat.{_<_}
-use Rattle.end.specs.declared.Earliest.{Earliest}
-use Rattle.transmit.specs.Fired.{nameOf}
 use borrow.Author.Needs.{needs}
 use Rattle.transmit.proofs.record_of.Statement.{statement}
 use Rattle.transmit.proofs.record_of.Tie as tie
@@ -17,7 +13,7 @@ enum-known-first : tie.Need-enum-known-first
 enum-known-first c = search needs
 
 record-at-requires : tie.Need-record-at-requires
-record-at-requires c κs = subst (λ (w : Earliest). nameOf w .number .0 < 64) (c .before .first .given .1) (c .before .before .before .pre)
+record-at-requires c κs = search needs
 
 returns : tie.Need-returns
 returns c = search needs

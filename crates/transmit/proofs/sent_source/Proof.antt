@@ -1,4 +1,4 @@
--- `transmit::sent_source` meets its contract: the own source with first and last extended and the cue held.
+-- `transmit::sent_source` meets its contract: the own source with its last risen and the cue held.
 use borrow.Author.Needs.{needs}
 use Rattle.transmit.proofs.sent_source.Statement.{statement}
 use Rattle.transmit.proofs.sent_source.Tie as tie
@@ -6,15 +6,11 @@ use Rattle.transmit.proofs.sent_source.Tie as tie
 extend-requires : tie.Need-extend-requires
 extend-requires c κs = search needs
 
-with-span-requires : tie.Need-with-span-requires
-with-span-requires c κs = search needs
-
 hold-cue-requires : tie.Need-hold-cue-requires
 hold-cue-requires c κs = search needs
 
 returns : tie.Need-returns
-returns c = rw (c .hold-cue .ensures, c .before .with-span .ensures, c .before .before .extend .ensures)
+returns c = rw (c .hold-cue .ensures, c .before .extend .ensures)
 
 pub sent-source-spec : {M : Type 1} → statement M
-sent-source-spec =
-    tie.close (tie.spec extend-requires with-span-requires hold-cue-requires returns)
+sent-source-spec = tie.close (tie.spec extend-requires hold-cue-requires returns)

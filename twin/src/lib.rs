@@ -13,6 +13,7 @@ pub mod digest;
 pub mod end;
 pub mod house;
 pub mod message;
+pub mod panel;
 pub mod picture;
 pub mod random;
 pub mod reason;

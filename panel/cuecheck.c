@@ -50,6 +50,8 @@ static const char *kind(uint8_t byte)
         return "REPL";
     case 20:
         return "SESS";
+    case 21:
+        return "XPRS";
     default:
         return NULL;
     }

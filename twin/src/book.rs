@@ -172,7 +172,9 @@ impl Book {
     }
 
     /// P7: "for each member and source from the first hand-out since joining, the highest number L
-    /// that unlooped DATA, RQST, REPL and SESS [...] brought".
+    /// that unlooped DATA, RQST, REPL and SESS (and what later counts as RQST) brought": P8's kind 21
+    /// too, of which every message counts. Who answers one at once holds its cue, so it brings no
+    /// number above L.
     fn raise_highest(&mut self, reader: u8, message: &Message) {
         let host = usize::from(reader);
         if self.status[host] != Status::Member || message.sender == reader {

@@ -24,6 +24,7 @@ branches! {
     OutRqst "out RQST",
     OutRepl "out REPL",
     OutSess "out SESS",
+    OutXprs "out XPRS",
     Got "got",
     Clash "clash",
     Done "done",
@@ -50,6 +51,7 @@ branches! {
     Refused11 "refused 11",
     Refused12 "refused 12",
     Refused13 "refused 13",
+    Refused14 "refused 14",
     Reader8 "reader: refused 8",
     Reader9 "reader: refused 9",
     Reader10 "reader: refused 10",
@@ -76,6 +78,7 @@ branches! {
     // A state is sound if: question 3
     SoundHost "sound: fields are in range: own host",
     SoundParams "sound: fields are in range: parameters",
+    SoundExpress "sound: fields are in range: E",
     SoundClock "sound: fields are in range: clock",
     SoundNext "sound: fields are in range: next own cue number",
     SoundOwnDistance "sound: fields are in range: distance to oneself",
@@ -84,6 +87,8 @@ branches! {
     SoundCue "sound: fields are in range: held cue",
     SoundRound "sound: fields are in range: round",
     SoundRequester "sound: fields are in range: requester",
+    SoundPairRequester "sound: fields are in range: a kept pair's requester",
+    SoundPairSender "sound: fields are in range: a kept pair's sender",
     SoundOwnLast "sound: own last, if any, is next−1",
     SoundFirst "sound: first ≤ last",
     SoundSpan "sound: last − first at most 63",
@@ -97,12 +102,16 @@ branches! {
     SoundNotSource "sound: a requester is not the source",
     SoundDue "sound: due times are below 2^48+2^32: request",
     SoundReplyDue "sound: due times are below 2^48+2^32: reply",
+    SoundExpressDue "sound: due times are below 2^48+2^32: express wait",
     SoundQuiet "sound: quiet times are below 2^48+2^32: request",
     SoundReplyQuiet "sound: quiet times are below 2^48+2^32: reply",
     SoundHeardTime "sound: heard times are at most the clock",
     SoundHeardOneself "sound: no stamp is heard from oneself",
     SoundNoFirst "sound: a non-member has no first",
     SoundNoHeard "sound: a non-member has no heard stamp",
+    SoundPairOneself "sound: a kept pair's sender is always another",
+    SoundExpressPair "sound: an express wait only with a kept pair",
+    SoundNoPair "sound: non-members keep no pair",
     SoundForty "sound: a non-member has distances to others at 40",
 
     // Questions 2, 7
@@ -122,12 +131,13 @@ branches! {
     NewSizesMissed "8: every other kind byte in the old sizes: refused",
 
     // Question 9
-    KindUnknown "9: kind 17 to 20, or 1 to 4",
+    KindUnknown "9: kind 17 to 21, or 1 to 4",
     OldNotWritten "9: kinds 1 to 4 are no longer written",
     CountsOfData "9: DATA has 1,1,0,0",
     CountsOfRqst "9: RQST has 1,0,0,0",
     CountsOfRepl "9: REPL has 1,1,0,0",
     CountsOfSess "9: SESS has 0,0,0..8,0..7",
+    CountsOfXprs "9: kind 21 is laid out as kind 18",
 
     // Question 10
     SenderRange "10: sender",
@@ -149,6 +159,8 @@ branches! {
     RqstSource "11: RQST: not the source",
     ReplSender "11: REPL: not the sender",
     ReplSource "11: REPL: nor the source",
+    XprsHost "11: kind 21: host differs from its own sender",
+    XprsSource "11: kind 21: source differs from its own sender",
     ReportsRise "11: reports rise strictly by source",
     EchoesRise "11: echoes by host",
     EchoOfSender "11: no echo names the sender",
@@ -210,11 +222,14 @@ branches! {
     RetiredMissing "rise: a number retired without a cue is counted, with its wait",
     RetiredReply "rise: a freed place had a waiting reply",
     RetiredQuiet "rise: a freed place had a reply-quiet time",
+    RetiredExpress "rise: a freed place had an express wait: it goes with its request",
     PassedOver "rise: numbers passed over in one rise are counted",
     PassedNone "rise: retired, none passed over",
     RiseAll "rise: all of first..last are retired",
     RiseSome "rise: some of first..last are retired",
     LeaveMissed "Leave or Crash clears the count",
+    LeavePair "Leave or Crash: a pair is kept until then",
+    LeaveExpress "Leave or Crash: an express wait goes with its request",
     DrawAgain "draw n mod 64: of a number above 63",
 
     // Setting the next round
@@ -239,6 +254,10 @@ branches! {
     DataWaiting "DATA: otherwise hold it, drop its request, Got",
     DataNext "DATA: above last, none between",
     DataGap "DATA: above last, each number between gets round 1",
+    DataGapExpress "DATA: gap, the kept requester: also an express wait, due E ticks on",
+    DataGapExpressAtOnce "DATA: gap, the kept requester: also an express wait, E is 0",
+    DataGapOtherRequester "DATA: gap, another is the kept requester: no express wait",
+    HeldExpress "DATA or REPL: hold it: its express wait goes with its request",
 
     // RQST
     RqstNoFirst "RQST: no first: Ignored",
@@ -253,6 +272,8 @@ branches! {
     RqstGap "RQST: not held and above last, numbers between get round 1",
     RqstLater "RQST: clock above quiet-until sets the next round",
     RqstSixteen "RQST: clock above quiet-until sets round 16 again",
+    RqstGapNoExpress "RQST: numbers between get round 1, the kept requester: no express wait",
+    RqstExpressStays "RQST: sets the next round: the express wait stays",
     RqstQuiet "RQST: clock below quiet-until: Ignored",
     RqstAtQuiet "RQST: clock at quiet-until: Ignored",
 
@@ -272,12 +293,32 @@ branches! {
     ClashReplyStays "Clash: its waiting reply stays",
     ReplDropsReply "REPL: its waiting reply goes",
     ReplForOneself "REPL: requester is oneself",
+    ReplGapNoExpress "REPL: numbers between get round 1, the kept requester: no express wait",
+
+    // The kept pair: document 02, P8
+    PairFirst "pair: none kept: this REPL's is kept",
+    PairEqual "pair: the kept one's number: this REPL's is kept",
+    PairHigher "pair: above the kept one's number: this REPL's is kept",
+    PairLower "pair: below the kept one's number: the kept one stays",
+    PairOwn "pair: of a REPL of an own cue",
+    PairNotOfIgnored "pair: a REPL that is Ignored leaves it",
+    PairNotOfClash "pair: a REPL that clashes leaves it",
+
+    // Kind 21
+    XprsAtOnce "kind 21: the named sender holds the cue: Out REPL in that call",
+    XprsDropsReply "kind 21: the named sender holds the cue: drops its waiting reply, Out REPL",
+    XprsAtQuiet "kind 21: the named sender, at reply-quiet: Out REPL",
+    XprsReplyQuiet "kind 21: the named sender, clock below reply-quiet: as RQST",
+    XprsNotHeld "kind 21: the named sender does not hold the cue: as RQST",
+    XprsToAnother "kind 21: another is named: as RQST",
+    XprsToAnotherHeld "kind 21: another is named, the cue is held: as RQST",
 
     // SESS
     SessOwn "SESS: report of oneself",
     SessNoFirst "SESS: report of another source, not opened",
     SessAtMost "SESS: report at most last",
     SessRises "SESS: report above last: new numbers get round 1",
+    SessRisesNoExpress "SESS: report above last, the kept requester: no express wait",
     SessEchoOther "SESS: echo of another",
     SessEchoAhead "SESS: echo of oneself with e < 0",
     SessEchoOne "SESS: distance brought up to 1",
@@ -297,10 +338,16 @@ branches! {
     // Fire
     FireRequest "Fire: a request goes out, its next round is set",
     FireSixteen "Fire: a request of round 16 goes out",
+    FireExpressToSource "Fire: an express wait goes out, to the source",
+    FireExpressToOther "Fire: an express wait goes out, to another than the source",
+    FireRequestExpressStays "Fire: a request goes out, its express wait stays",
     FireReply "Fire: a reply goes out, is dropped, reply-quiet is set",
     FireNoWait "Fire: nothing waits: Nothing",
     FireNotDue "Fire: none due: Nothing",
     FireEarliest "Fire: another is due too: the earliest",
+    FireExpressOwnRequest "Fire: ties: express wait before its own request",
+    FireExpressKind "Fire: ties: express wait before a later name's request or reply",
+    FireExpressLaterName "Fire: ties: express wait before an earlier name's request or reply",
     FireKind "Fire: ties: request before reply",
     FireSource "Fire: ties: then lower source",
     FireNumber "Fire: ties: lower number",

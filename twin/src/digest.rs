@@ -31,6 +31,7 @@ impl Digest {
         for parameter in [p.c1, p.c2, p.c3, p.d1, p.d2, p.d3] {
             self.mix(parameter);
         }
+        self.mix(p.e);
         self.mix(end.clock);
         self.mix(match end.status {
             Status::Idle => 0u8,
@@ -55,6 +56,15 @@ impl Digest {
             _ => self.mix(0u8),
         }
         self.mix(source.missed);
+        match source.pair {
+            Some(pair) => {
+                self.mix(1u8);
+                self.mix(pair.requester);
+                self.mix(pair.sender);
+                self.mix(pair.number);
+            }
+            None => self.mix(0u8),
+        }
         self.mix(source.distance);
         match source.heard {
             Some(heard) => {
@@ -78,6 +88,13 @@ impl Digest {
                 self.mix(request.round);
                 self.mix(request.due);
                 self.mix(request.quiet_until);
+                match request.express {
+                    Some(due) => {
+                        self.mix(1u8);
+                        self.mix(due);
+                    }
+                    None => self.mix(0u8),
+                }
             }
         }
         for word in record.cue.0.chunks_exact(8) {

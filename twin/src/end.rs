@@ -24,7 +24,7 @@ pub enum Status {
 }
 
 /// "Parameters C1, C2, C3, D1, D2, D3", in quarters, "so parameter times distance
-/// is ticks": a quarter of a millisecond is a tick.
+/// is ticks": a quarter of a millisecond is a tick; and document 02, P8's E, in ticks.
 #[derive(Clone, Copy, Debug, PartialEq, Eq)]
 pub struct Params {
     pub c1: u8,
@@ -33,14 +33,27 @@ pub struct Params {
     pub d1: u8,
     pub d2: u8,
     pub d3: u8,
+    pub e: u16,
 }
 
-/// A waiting request.
+/// A waiting request, perhaps with document 02, P8's express wait, of which only the due time is
+/// kept: "An express wait goes with its request; a sound state has one only beside a request".
 #[derive(Clone, Copy, Debug, PartialEq, Eq)]
 pub struct Request {
     pub round: u8,
     pub due: u64,
     pub quiet_until: u64,
+    pub express: Option<u64>,
+}
+
+/// Document 02, P8: "Per source an end keeps, until Leave or Crash, the requester and sender of
+/// the latest REPL answered Got or Done that named a number at least as high as the kept one's":
+/// with them "the kept one's" number.
+#[derive(Clone, Copy, Debug, PartialEq, Eq)]
+pub struct Pair {
+    pub requester: u8,
+    pub sender: u8,
+    pub number: u16,
 }
 
 /// A waiting reply.
@@ -78,12 +91,13 @@ pub struct Heard {
 /// "For each of the eight hosts an end keeps first and last (both or neither),
 /// distance, the latest stamp heard from it and when", and its names; by document 02, P7, "the
 /// latest 64 numbers of each source" and the count of "the numbers retired without a cue since
-/// joining".
+/// joining"; by P8, "Per source", the pair.
 #[derive(Clone, Copy, Debug, PartialEq, Eq)]
 pub struct Source {
     pub first: Option<u16>,
     pub last: Option<u16>,
     pub missed: u32,
+    pub pair: Option<Pair>,
     pub distance: u64,
     pub heard: Option<Heard>,
     pub names: [Record; PLACES as usize],
@@ -145,6 +159,9 @@ const OWN_DISTANCE: u64 = 0;
 /// "Parameters C1, C2, C3, D1, D2, D3 are 0..32 quarters".
 const PARAM_MAX: u8 = 32;
 
+/// Document 02, P8: "Opening with E above 1000 is refused as 14".
+const EXPRESS_MAX: u16 = 1000;
+
 /// "the next own cue number, 0..64", with P7's numbers 0..65536.
 const NEXT_MAX: u32 = NUMBERS;
 
@@ -187,12 +204,19 @@ impl Params {
         d1: 4,
         d2: 4,
         d3: 8,
+        // P8: "E is 0 in house and in a refused opening."
+        e: 0,
     };
 
     /// "Parameters C1, C2, C3, D1, D2, D3 are 0..32 quarters".
     fn in_range(&self) -> bool {
         let all = [self.c1, self.c2, self.c3, self.d1, self.d2, self.d3];
         all.iter().all(|&parameter| parameter <= PARAM_MAX)
+    }
+
+    /// Document 02, P8: "Opening with E above 1000 is refused".
+    fn express_in_range(&self) -> bool {
+        self.e <= EXPRESS_MAX
     }
 
     /// "C3 < C1, D1+D2+8 < 2×C1, D1+D2+D3 < 2×C1."
@@ -211,6 +235,9 @@ impl Request {
         unless((1..=LAST_ROUND).contains(&self.round), Branch::SoundRound)
             && unless(self.due < TIME_LIMIT, Branch::SoundDue)
             && unless(self.quiet_until < TIME_LIMIT, Branch::SoundQuiet)
+            && self
+                .express
+                .is_none_or(|due| unless(due < TIME_LIMIT, Branch::SoundExpressDue))
     }
 
     /// "After 16 comes 16."
@@ -219,9 +246,11 @@ impl Request {
     }
 }
 
-/// What waits at a name; the order is Fire's: "request before reply".
+/// What waits at a name; the order is Fire's: "request before reply", and document 02, P8's:
+/// "Express waits come before requests in ties."
 #[derive(Clone, Copy, Debug, PartialEq, Eq, PartialOrd, Ord)]
 enum Wait {
+    Express,
     Request,
     Reply,
 }
@@ -252,12 +281,23 @@ impl Record {
             && unless(self.reply_quiet == 0, Branch::SoundOutsideQuiet)
     }
 
-    /// What waits here, and when it is due. In a sound state it is one wait at most: a
-    /// request stands in the place of a held cue, a reply only "with a held cue".
-    fn wait(&self) -> Option<(u64, Wait)> {
-        match (self.body, self.reply) {
-            (Body::Waiting(request), _) => Some((request.due, Wait::Request)),
-            (_, Some(reply)) => Some((reply.due, Wait::Reply)),
+    /// What waits here, and when it is due. In a sound state it is one wait at most, or a request
+    /// and its express wait: a request stands in the place of a held cue, a reply only "with a
+    /// held cue".
+    fn waits(&self) -> impl Iterator<Item = (u64, Wait)> {
+        let (express, other) = match (self.body, self.reply) {
+            (Body::Waiting(request), _) => (request.express, Some((request.due, Wait::Request))),
+            (_, Some(reply)) => (None, Some((reply.due, Wait::Reply))),
+            _ => (None, None),
+        };
+        let express = express.map(|due| (due, Wait::Express));
+        express.into_iter().chain(other)
+    }
+
+    /// The express wait here, if any.
+    fn express(&self) -> Option<u64> {
+        match self.body {
+            Body::Waiting(request) => request.express,
             _ => None,
         }
     }
@@ -270,6 +310,7 @@ impl Source {
             first: None,
             last: None,
             missed: 0,
+            pair: None,
             distance,
             heard: None,
             names: [Record::EMPTY; PLACES as usize],
@@ -322,6 +363,12 @@ impl Source {
         self.last.is_some_and(|last| number > last)
     }
 
+    /// Is there a last, and a number between it and this one?
+    fn has_gap_before(&self, number: u16) -> bool {
+        self.last
+            .is_some_and(|last| number > last && number - last > 1)
+    }
+
     /// The window is full: first is L−63, and not for being the least number.
     fn is_full(&self) -> bool {
         let span = self.first.zip(self.last);
@@ -365,6 +412,7 @@ impl Source {
             let record = self.names[place_of(number)];
             when(record.reply.is_some(), Branch::RetiredReply);
             when(record.reply_quiet > 0, Branch::RetiredQuiet);
+            when(record.express().is_some(), Branch::RetiredExpress);
             if unless(!record.is_held(), Branch::RetiredHeld) {
                 take(Branch::RetiredMissing);
                 self.missed += 1;
@@ -419,7 +467,7 @@ impl End {
     /// "Opening: is the host below 8? 12. Are parameters in range and constrained as
     /// above? 13. It gives an idle end at clock 0 with next number 0; refused, it gives
     /// beside the number host 0's crashed end with parameters 9,8,4,4,4,8, otherwise
-    /// fresh."
+    /// fresh." P8: "E is 0 [...] in a refused opening."
     pub fn open(host: u8, params: Params) -> (Option<u8>, End) {
         match opening_questions(host, &params) {
             Ok(()) => (None, End::fresh(host, params, Status::Idle)),
@@ -450,11 +498,13 @@ fn questions_of_surroundings(draws: &[Draw], out: &[u8]) -> Result<(), u8> {
     message::ask(enough && unless(draws.len() <= DRAWS, Branch::ManyDraws), 2)
 }
 
-/// "is the host below 8? 12. Are parameters in range and constrained as above? 13."
+/// "is the host below 8? 12. Are parameters in range and constrained as above? 13." P8: "Opening
+/// with E above 1000 is refused as 14, checked after 13."
 fn opening_questions(host: u8, params: &Params) -> Result<(), u8> {
     message::ask(host < HOSTS, 12)?;
     let in_range = unless(params.in_range(), Branch::ParamRange);
-    message::ask(in_range && params.constrained(), 13)
+    message::ask(in_range && params.constrained(), 13)?;
+    message::ask(params.express_in_range(), 14)
 }
 
 /// Question 3.
@@ -476,6 +526,7 @@ impl End {
     fn own_fields_in_range(&self) -> bool {
         unless(self.host < HOSTS, Branch::SoundHost)
             && unless(self.params.in_range(), Branch::SoundParams)
+            && unless(self.params.express_in_range(), Branch::SoundExpress)
             && unless(self.clock <= CLOCK_MAX, Branch::SoundClock)
             && unless(self.next <= NEXT_MAX, Branch::SoundNext)
     }
@@ -490,9 +541,20 @@ impl End {
     fn source_sound(&self, source: u8) -> bool {
         let kept = self.source(source);
         kept.span_sound()
+            && self.pair_sound(source)
             && self.distance_sound(source)
             && self.heard_sound(source)
             && (0..PLACES).all(|place| self.record_sound(source, place))
+    }
+
+    /// Document 02, P8: "a kept pair's sender is always another"; "fields are in range". The
+    /// requester may be oneself: "is that requester".
+    fn pair_sound(&self, source: u8) -> bool {
+        self.source(source).pair.is_none_or(|pair| {
+            unless(pair.requester < HOSTS, Branch::SoundPairRequester)
+                && unless(pair.sender < HOSTS, Branch::SoundPairSender)
+                && unless(pair.sender != self.host, Branch::SoundPairOneself)
+        })
     }
 
     /// "A distance (half a round trip) is 1..1000 whole milliseconds, at first 40; to
@@ -538,9 +600,17 @@ impl End {
             Body::Nothing => unless(false, Branch::SoundInside),
             Body::Held => unless(record.cue.in_range(), Branch::SoundCue),
             Body::Waiting(request) => {
-                unless(source != self.host, Branch::SoundOwn) && request.in_range()
+                unless(source != self.host, Branch::SoundOwn)
+                    && request.in_range()
+                    && self.express_sound(source, &request)
             }
         }
+    }
+
+    /// P8: "a sound state has one only beside a request and with a kept pair".
+    fn express_sound(&self, source: u8, request: &Request) -> bool {
+        let paired = request.express.is_none() || self.source(source).pair.is_some();
+        unless(paired, Branch::SoundExpressPair)
     }
 
     /// "with a held cue perhaps one waiting reply (due, requester)"; "a requester is
@@ -556,12 +626,14 @@ impl End {
     }
 
     /// "a non-member has no first, request, reply or heard stamp, and distances to
-    /// others at 40": with no first every name is outside, so without request and reply.
+    /// others at 40": with no first every name is outside, so without request and reply. P8:
+    /// "non-members keep none", no pair.
     fn non_member_sound(&self) -> bool {
         (0..HOSTS).all(|source| {
             let kept = self.source(source);
             let at_forty = source == self.host || kept.distance == FIRST_DISTANCE;
             unless(kept.first.is_none(), Branch::SoundNoFirst)
+                && unless(kept.pair.is_none(), Branch::SoundNoPair)
                 && unless(kept.heard.is_none(), Branch::SoundNoHeard)
                 && unless(at_forty, Branch::SoundForty)
         })
@@ -667,12 +739,14 @@ impl End {
 
     /// "These give Done"; "Leave and Crash clear firsts, names and heard stamps and set
     /// distances to others to 40. The next own number stays." The count is one "since joining",
-    /// and "0 without" a first.
+    /// and "0 without" a first. P8: a pair is kept "until Leave or Crash", and "An express wait
+    /// goes with its request".
     fn move_to(&mut self, status: Status) -> Answer {
         self.status = status;
         if matches!(status, Status::Leaving | Status::Crashed) {
             let missed = self.sources.iter().any(|kept| kept.missed > 0);
             when(missed, Branch::LeaveMissed);
+            self.take_leave();
             self.sources = fresh_sources(self.host);
         }
         Answer::Done
@@ -731,6 +805,7 @@ impl End {
             Some(earliest @ (due, wait, source, number)) if due <= self.clock => {
                 self.take_others_due(earliest);
                 match wait {
+                    Wait::Express => self.fire_express(source, number, out),
                     Wait::Request => self.fire_request(source, number, draws, out),
                     Wait::Reply => self.fire_reply(source, number, out),
                 }
@@ -751,15 +826,20 @@ impl End {
         self.waits().min()
     }
 
+    /// When the first of all waits is due.
+    pub fn first_due(&self) -> Option<u64> {
+        self.waits().map(|(due, ..)| due).min()
+    }
+
     /// All waits.
     fn waits(&self) -> impl Iterator<Item = (u64, Wait, u8, u16)> + '_ {
         let names = (0..HOSTS).flat_map(|source| {
             let numbers = self.source(source).numbers();
             numbers.map(move |number| (source, number))
         });
-        names.filter_map(|(source, number)| {
-            let (due, wait) = self.record(source, number).wait()?;
-            Some((due, wait, source, number))
+        names.flat_map(|(source, number)| {
+            let waits = self.record(source, number).waits();
+            waits.map(move |(due, wait)| (due, wait, source, number))
         })
     }
 
@@ -768,11 +848,19 @@ impl End {
         if !branches::counting() {
             return;
         }
-        let (due, wait, source, _) = fired;
+        let (due, wait, source, number) = fired;
         let others = self.waits().filter(|&other| other != fired);
         for other in others.filter(|other| other.0 <= self.clock) {
             take(if other.0 != due {
                 Branch::FireEarliest
+            } else if wait == Wait::Express && (other.2, other.3) == (source, number) {
+                Branch::FireExpressOwnRequest
+            } else if wait == Wait::Express && other.1 != wait {
+                if (other.2, other.3) < (source, number) {
+                    Branch::FireExpressLaterName
+                } else {
+                    Branch::FireExpressKind
+                }
             } else if other.1 != wait {
                 Branch::FireKind
             } else if other.2 != source {
@@ -785,11 +873,32 @@ impl End {
         }
     }
 
+    /// Document 02, P8: "Fired, it is dropped and goes out as kind 21, laid out as kind 18, with
+    /// the sender then kept as host".
+    fn fire_express(&mut self, source: u8, number: u16, out: &mut [u8]) -> Answer {
+        let Some(Pair { sender, .. }) = self.source(source).pair else {
+            return Answer::Nothing;
+        };
+        take(if sender == source {
+            Branch::FireExpressToSource
+        } else {
+            Branch::FireExpressToOther
+        });
+        self.set_express(source, number, None);
+        let name = Name {
+            source,
+            number,
+            host: sender,
+        };
+        self.put_out(self.about(message::XPRS, name, None), out)
+    }
+
     /// "A request goes out as RQST and its next round is set."
     fn fire_request(&mut self, source: u8, number: u16, draws: &[Draw], out: &mut [u8]) -> Answer {
         if let Body::Waiting(request) = self.record(source, number).body {
             take(Branch::FireRequest);
             when(request.round == LAST_ROUND, Branch::FireSixteen);
+            when(request.express.is_some(), Branch::FireRequestExpressStays);
             self.set_next_round(source, number, request, draws);
         }
         let name = Name {
@@ -811,6 +920,18 @@ impl End {
             return Answer::Nothing;
         };
         take(Branch::FireReply);
+        self.repair(source, number, cue, requester, out)
+    }
+
+    /// "goes out as REPL, is dropped, and reply-quiet is set as above."
+    fn repair(
+        &mut self,
+        source: u8,
+        number: u16,
+        cue: Cue,
+        requester: u8,
+        out: &mut [u8],
+    ) -> Answer {
         self.quiet_reply(source, number, requester);
         let name = Name {
             source,
@@ -832,7 +953,8 @@ impl End {
         match (message.kind, &message.names[..], &message.cues[..]) {
             (message::DATA, [name], [cue]) => self.data(name, *cue, draws, out),
             (message::RQST, [name], []) => self.rqst(name, draws),
-            (message::REPL, [name], [cue]) => self.repl(name, *cue, draws, out),
+            (message::XPRS, [name], []) => self.xprs(name, message.sender, draws, out),
+            (message::REPL, [name], [cue]) => self.repl(name, *cue, message.sender, draws, out),
             _ => self.sess(message, draws),
         }
     }
@@ -855,7 +977,24 @@ impl End {
         } else {
             self.take_rise(name, TAKES);
         }
-        self.hand_out(name, cue, draws, out, Branch::RiseRetiresData)
+        let express = self.express_of_gap(name);
+        self.hand_out(name, cue, draws, out, Branch::RiseRetiresData, express)
+    }
+
+    /// Document 02, P8: "A member that sets round 1 by a gap before a DATA, not a REPL, and is that
+    /// requester also sets an express wait, due E ticks on."
+    fn express_of_gap(&self, name: &Name) -> Option<u64> {
+        let kept = self.source(name.source);
+        let pair = kept.pair.filter(|_| kept.has_gap_before(name.number))?;
+        if when(pair.requester != self.host, Branch::DataGapOtherRequester) {
+            return None;
+        }
+        take(if self.params.e == 0 {
+            Branch::DataGapExpressAtOnce
+        } else {
+            Branch::DataGapExpress
+        });
+        Some(self.clock + u64::from(self.params.e))
     }
 
     /// Document 02, P4: "DATA and REPL messages counted as the same cue when their names
@@ -894,9 +1033,12 @@ impl End {
         draws: &[Draw],
         out: &mut [u8],
         retires: Branch,
+        express: Option<u64>,
     ) -> Answer {
-        self.raise_last(name.source, name.number, draws, retires);
-        self.record_mut(name.source, name.number).hold(cue);
+        self.raise_last(name.source, name.number, draws, retires, express);
+        let record = self.record_mut(name.source, name.number);
+        when(record.express().is_some(), Branch::HeldExpress);
+        record.hold(cue);
         out[..cue.0.len()].copy_from_slice(&cue.0);
         Answer::Got {
             source: name.source,
@@ -971,7 +1113,14 @@ impl End {
     fn rqst_above(&mut self, name: &Name, draws: &[Draw]) -> Answer {
         // The name is above last, so the first of the three is never taken.
         self.take_rise(name, [Branch::RqstNext, Branch::RqstNext, Branch::RqstGap]);
-        self.raise_last(name.source, name.number, draws, Branch::RiseRetiresRqst);
+        when(self.gap_of_requester(name), Branch::RqstGapNoExpress);
+        self.raise_last(
+            name.source,
+            name.number,
+            draws,
+            Branch::RiseRetiresRqst,
+            None,
+        );
         self.set_round(name.source, name.number, 2, draws);
         Answer::Done
     }
@@ -986,14 +1135,23 @@ impl End {
         }
         take(Branch::RqstLater);
         when(request.round == LAST_ROUND, Branch::RqstSixteen);
+        when(request.express.is_some(), Branch::RqstExpressStays);
         self.set_next_round(name.source, name.number, request, draws);
         Answer::Done
     }
 
     /// "REPL: Ignored as RQST's first line has it; a repair never opens a source. Not
     /// held: as DATA, Got; held: Done. Either way its waiting reply goes and reply-quiet
-    /// = t + D3×d, d to the requester."; held with other bytes, P4's Clash.
-    fn repl(&mut self, name: &Name, cue: Cue, draws: &[Draw], out: &mut [u8]) -> Answer {
+    /// = t + D3×d, d to the requester."; held with other bytes, P4's Clash. By P8 the pair of one
+    /// "answered Got or Done" is kept.
+    fn repl(
+        &mut self,
+        name: &Name,
+        cue: Cue,
+        sender: u8,
+        draws: &[Draw],
+        out: &mut [u8],
+    ) -> Answer {
         const IGNORED: [Branch; 4] = [
             Branch::ReplNoFirst,
             Branch::ReplBelow,
@@ -1001,9 +1159,11 @@ impl End {
             Branch::ReplOwnAbove,
         ];
         if self.out_of_reach(name, IGNORED) {
+            when(self.pair_would_move(name, sender), Branch::PairNotOfIgnored);
             return Answer::Ignored;
         }
         if self.clashes(name, cue) {
+            when(self.pair_would_move(name, sender), Branch::PairNotOfClash);
             take(if name.source == self.host {
                 Branch::ReplClashOwn
             } else {
@@ -1021,13 +1181,72 @@ impl End {
         } else {
             const TAKES: [Branch; 3] = [Branch::ReplWaiting, Branch::ReplNext, Branch::ReplGap];
             self.take_rise(name, TAKES);
-            self.hand_out(name, cue, draws, out, Branch::RiseRetiresRepl)
+            when(self.gap_of_requester(name), Branch::ReplGapNoExpress);
+            self.hand_out(name, cue, draws, out, Branch::RiseRetiresRepl, None)
         };
         let record = self.record(name.source, name.number);
         when(record.reply.is_some(), Branch::ReplDropsReply);
         when(name.host == self.host, Branch::ReplForOneself);
         self.quiet_reply(name.source, name.number, name.host);
+        self.keep_pair(name, sender);
         answer
+    }
+
+    /// Document 02, P8: "the requester and sender of the latest REPL answered Got or Done that
+    /// named a number at least as high as the kept one's."
+    fn keep_pair(&mut self, name: &Name, sender: u8) {
+        let own = name.source == self.host;
+        let kept = &mut self.source_mut(name.source).pair;
+        let branch = match *kept {
+            Some(pair) if name.number < pair.number => return take(Branch::PairLower),
+            Some(pair) if name.number == pair.number => Branch::PairEqual,
+            Some(_) => Branch::PairHigher,
+            None => Branch::PairFirst,
+        };
+        take(branch);
+        when(own, Branch::PairOwn);
+        *kept = Some(Pair {
+            requester: name.host,
+            sender,
+            number: name.number,
+        });
+    }
+
+    /// Would keeping this REPL's pair change what is kept?
+    fn pair_would_move(&self, name: &Name, sender: u8) -> bool {
+        self.source(name.source).pair.is_none_or(|pair| {
+            name.number >= pair.number
+                && (pair.requester, pair.sender, pair.number) != (name.host, sender, name.number)
+        })
+    }
+
+    /// Document 02, P8: "The named sender, if it holds the cue and clock ≥ reply-quiet, drops its
+    /// waiting reply, sets reply-quiet as Fire does and answers Out REPL in that call, with kind
+    /// 21's sender as requester. Otherwise it, like every other end, treats kind 21 as RQST from
+    /// its sender."
+    fn xprs(&mut self, name: &Name, sender: u8, draws: &[Draw], out: &mut [u8]) -> Answer {
+        let as_rqst = Name {
+            host: sender,
+            ..*name
+        };
+        if when(name.host != self.host, Branch::XprsToAnother) {
+            when(self.is_held(name), Branch::XprsToAnotherHeld);
+            return self.rqst(&as_rqst, draws);
+        }
+        let held = self.kept(name).copied().filter(Record::is_held);
+        let Some(record) = held else {
+            take(Branch::XprsNotHeld);
+            return self.rqst(&as_rqst, draws);
+        };
+        if when(self.clock < record.reply_quiet, Branch::XprsReplyQuiet) {
+            return self.rqst(&as_rqst, draws);
+        }
+        take(match record.reply {
+            Some(_) => Branch::XprsDropsReply,
+            None => Branch::XprsAtOnce,
+        });
+        when(self.clock == record.reply_quiet, Branch::XprsAtQuiet);
+        self.repair(name.source, name.number, record.cue, sender, out)
     }
 
     /// "SESS: Done. For each report [...]. After that, an echo of oneself [...]. The
@@ -1061,7 +1280,15 @@ impl End {
             return;
         }
         take(Branch::SessRises);
-        self.raise_last(report.source, report.last, draws, Branch::RiseRetiresSess);
+        let requester = kept.pair.map(|pair| pair.requester);
+        when(requester == Some(self.host), Branch::SessRisesNoExpress);
+        self.raise_last(
+            report.source,
+            report.last,
+            draws,
+            Branch::RiseRetiresSess,
+            None,
+        );
         self.set_round(report.source, report.last, 1, draws);
     }
 
@@ -1083,14 +1310,30 @@ impl End {
 impl End {
     /// "each number between gets round 1 and last rises", where the source is opened and
     /// the number is above its last; else nothing. The new last's own record is the
-    /// caller's to fill: with an arrived cue, a request's round 2 or a report's round 1.
-    fn raise_last(&mut self, source: u8, to: u16, draws: &[Draw], retires: Branch) {
+    /// caller's to fill: with an arrived cue, a request's round 2 or a report's round 1. The
+    /// numbers between get P8's express wait too, where one is given.
+    fn raise_last(
+        &mut self,
+        source: u8,
+        to: u16,
+        draws: &[Draw],
+        retires: Branch,
+        express: Option<u64>,
+    ) {
         let Some(last) = self.source(source).last.filter(|&last| last < to) else {
             return;
         };
         self.source_mut(source).rise(to, retires);
         for number in (last + 1).max(window_start(to))..to {
             self.set_round(source, number, 1, draws);
+            self.set_express(source, number, express);
+        }
+    }
+
+    /// The express wait beside a number's request, or none.
+    fn set_express(&mut self, source: u8, number: u16, express: Option<u64>) {
+        if let Body::Waiting(request) = &mut self.record_mut(source, number).body {
+            request.express = express;
         }
     }
 
@@ -1107,7 +1350,7 @@ impl End {
     /// "Setting round k at clock t, F = 2^(k−1), d the distance to the source, u the draw
     /// at the cue number: due = t + F×C1×d + floor(F×C2×d×u/255); quiet-until = t +
     /// F×C3×d (001, lemma 4.24: for every round)." The share is P1's; by P7 "Cue number n uses
-    /// draw n mod 64."
+    /// draw n mod 64." P8: "An express wait goes with its request", so it stays while one waits.
     fn set_round(&mut self, source: u8, number: u16, round: u8, draws: &[Draw]) {
         const SHARES: [Branch; 3] = [
             Branch::RoundNoShare,
@@ -1122,6 +1365,7 @@ impl End {
             round,
             due: self.clock + fd * u64::from(self.params.c1) + share,
             quiet_until: self.clock + fd * u64::from(self.params.c3),
+            express: self.record(source, number).express(),
         };
         self.record_mut(source, number).body = Body::Waiting(request);
     }
@@ -1160,6 +1404,24 @@ impl End {
     /// untouched." A sound end's messages pass the writer's questions.
     fn put_out(&self, message: Message, out: &mut [u8]) -> Answer {
         message::write(&message, out).map_or_else(Answer::Refused, Answer::Out)
+    }
+
+    /// Is there a gap before this name, and oneself the kept requester?
+    fn gap_of_requester(&self, name: &Name) -> bool {
+        let kept = self.source(name.source);
+        let requester = kept.pair.map(|pair| pair.requester);
+        kept.has_gap_before(name.number) && requester == Some(self.host)
+    }
+
+    /// What Leave and Crash clear of P8's.
+    fn take_leave(&self) {
+        let paired = self.sources.iter().any(|kept| kept.pair.is_some());
+        when(paired, Branch::LeavePair);
+        let mut waits = self.waits();
+        when(
+            waits.any(|(_, wait, _, _)| wait == Wait::Express),
+            Branch::LeaveExpress,
+        );
     }
 
     /// How a name that is not held stands to its source's last: at most last, next after

@@ -10,6 +10,9 @@ pub const RQST: u8 = 18;
 pub const REPL: u8 = 19;
 pub const SESS: u8 = 20;
 
+/// Document 02, P8: "goes out as kind 21, laid out as kind 18".
+pub const XPRS: u8 = 21;
+
 /// "the old kinds are still read, numbers to 63, as the same meanings and no longer written".
 pub const OLD_DATA: u8 = 1;
 const OLD_SESS: u8 = 4;
@@ -287,6 +290,7 @@ fn counts_fit(message: &Message) -> bool {
         DATA => unless(counts == (1, 1, 0, 0), Branch::CountsOfData),
         RQST => unless(counts == (1, 0, 0, 0), Branch::CountsOfRqst),
         REPL => unless(counts == (1, 1, 0, 0), Branch::CountsOfRepl),
+        XPRS => unless(counts == (1, 0, 0, 0), Branch::CountsOfXprs),
         SESS => unless(matches!(counts, (0, 0, 0..=8, 0..=7)), Branch::CountsOfSess),
         _ => unless(false, Branch::KindUnknown),
     }
@@ -349,6 +353,11 @@ fn hosts_fit(message: &Message) -> bool {
         REPL => {
             unless(name.host != sender, Branch::ReplSender)
                 && unless(name.host != name.source, Branch::ReplSource)
+        }
+        // Document 02, P8: "host and source differ from its own sender, else 11".
+        XPRS => {
+            unless(name.host != sender, Branch::XprsHost)
+                && unless(name.source != sender, Branch::XprsSource)
         }
         _ => false,
     })

@@ -5,7 +5,7 @@ use std::fmt;
 
 use crate::branches::{self, take, Branch};
 use crate::end::{Body, End, Event, Record, Source, Status};
-use crate::message::{Datagram, Message, Name, DATA, REPL, RQST};
+use crate::message::{Datagram, Message, Name, DATA, REPL, RQST, XPRS};
 
 /// The ten reasons, in the request's order.
 #[derive(Clone, Copy, Debug, PartialEq, Eq)]
@@ -86,7 +86,7 @@ struct Asked<'a> {
     message: Option<Message>,
 }
 
-/// Each reason.
+/// Each reason. Document 02, P8: who does not answer kind 21 at once "treats kind 21 as RQST from its sender", so RQST's reasons are its own.
 impl Asked<'_> {
     fn holds(&self, reason: Reason) -> bool {
         match reason {
@@ -135,21 +135,22 @@ impl Asked<'_> {
 
     /// RQST and REPL: "no first".
     fn source_not_open(&self) -> bool {
-        self.named(&[RQST, REPL])
+        self.named(&[RQST, XPRS, REPL])
             .is_some_and(|(_, source, _)| source.first.is_none())
     }
 
     /// DATA, RQST and REPL: "Below first".
     fn below_first(&self) -> bool {
-        self.named(&[DATA, RQST, REPL])
+        self.named(&[DATA, RQST, XPRS, REPL])
             .is_some_and(|(name, source, _)| source.first.is_some_and(|first| name.number < first))
     }
 
     /// RQST and REPL: "own above last".
     fn own_above_last(&self) -> bool {
-        self.named(&[RQST, REPL]).is_some_and(|(name, source, _)| {
-            name.source == self.end.host && source.last.is_some_and(|last| name.number > last)
-        })
+        self.named(&[RQST, XPRS, REPL])
+            .is_some_and(|(name, source, _)| {
+                name.source == self.end.host && source.last.is_some_and(|last| name.number > last)
+            })
     }
 
     /// DATA: "held"; by P4 it "counted as the same cue" where "all 24 cue bytes" agree: "The reason call gives "none"" for a Clash.
@@ -162,21 +163,32 @@ impl Asked<'_> {
 
     /// RQST, "Held: with no reply waiting [...]; otherwise Ignored."
     fn reply_waiting(&self) -> bool {
-        self.named(&[RQST])
+        self.named(&[RQST, XPRS])
             .and_then(|(_, _, record)| record)
             .is_some_and(|record| record.body == Body::Held && record.reply.is_some())
+            && !self.answered_at_once()
+    }
+
+    /// Document 02, P8: of kind 21 "The named sender, if it holds the cue and clock ≥ reply-quiet, drops its waiting reply [...] and
+    /// answers Out REPL in that call": then no waiting reply has it Ignored.
+    fn answered_at_once(&self) -> bool {
+        let Some((name, _, Some(record))) = self.named(&[XPRS]) else {
+            return false;
+        };
+        let holds = record.body == Body::Held && self.clock >= record.reply_quiet;
+        name.host == self.end.host && holds
     }
 
     /// RQST, "Held: with [...] clock ≥ reply-quiet [...]; otherwise Ignored."
     fn reply_quiet(&self) -> bool {
-        self.named(&[RQST])
+        self.named(&[RQST, XPRS])
             .and_then(|(_, _, record)| record)
             .is_some_and(|record| record.body == Body::Held && self.clock < record.reply_quiet)
     }
 
     /// RQST, "Not held up to last: clock above quiet-until (lemma 4.24 is strict) [...]; otherwise Ignored."
     fn request_quiet(&self) -> bool {
-        self.named(&[RQST])
+        self.named(&[RQST, XPRS])
             .and_then(|(_, _, record)| record)
             .is_some_and(|record| match record.body {
                 Body::Waiting(request) => self.clock <= request.quiet_until,

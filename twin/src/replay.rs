@@ -512,6 +512,10 @@ impl Bench {
                 _ => "closed".to_string(),
             },
             Asked::Missed(of) => source(of).missed.to_string(),
+            Asked::Pair(of) => match source(of).pair {
+                Some(pair) => pair.to_string(),
+                None => "none".to_string(),
+            },
             Asked::Heard(of) => match source(of).heard {
                 Some(Heard { stamp, at }) => format!("{stamp} {at}"),
                 None => "unheard".to_string(),
@@ -587,6 +591,8 @@ pub(crate) fn set(end: &mut End, field: &Field) {
             (kept.first, kept.last) = (None, None);
         }
         Field::Missed(source, missed) => end.sources[usize::from(*source)].missed = *missed,
+        Field::Pair(source, pair) => end.sources[usize::from(*source)].pair = Some(*pair),
+        Field::NoPair(source) => end.sources[usize::from(*source)].pair = None,
         Field::Distance(source, distance) => {
             end.sources[usize::from(*source)].distance = *distance;
         }
@@ -616,10 +622,7 @@ pub(crate) fn set(end: &mut End, field: &Field) {
 /// What `ask record` answers.
 fn record_words(record: &Record) -> String {
     let body = match (record.body, record.reply) {
-        (Body::Waiting(request), _) => {
-            let (due, quiet) = (request.due, request.quiet_until);
-            format!("waits {} {due} {quiet}", request.round)
-        }
+        (Body::Waiting(request), _) => format!("waits {request}"),
         (Body::Held, Some(reply)) => format!("held reply {} {}", reply.due, reply.requester),
         (Body::Held, None) => "held".to_string(),
         (Body::Nothing, _) => "empty".to_string(),
@@ -649,9 +652,13 @@ pub fn in_words(end: &End) -> String {
             Some(Heard { stamp, at }) => format!("heard {stamp} {at}"),
             None => "unheard".to_string(),
         };
+        let pair = match source.pair {
+            Some(pair) => format!("pair {pair}"),
+            None => "nopair".to_string(),
+        };
         let (missed, distance) = (source.missed, source.distance);
         line(format!(
-            "source {place} {span} missed {missed} distance {distance} {heard}"
+            "source {place} {span} missed {missed} {pair} distance {distance} {heard}"
         ));
         for (at, record) in (0..PLACES).zip(&source.names) {
             if *record != Record::EMPTY {

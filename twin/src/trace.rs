@@ -3,7 +3,7 @@
 use std::fmt;
 
 use crate::cue::{Cue, CUE_LEN};
-use crate::end::{Heard, Params, Reply, Request, Status};
+use crate::end::{Heard, Pair, Params, Reply, Request, Status};
 use crate::message::{self, Echo, Message, Name, Report};
 use crate::text::{decimal, hexadecimal, signed, Hex};
 use crate::{Draw, HOSTS, PLACES};
@@ -112,6 +112,8 @@ pub enum Field {
     Span { source: u8, first: u16, last: u16 },
     Closed(u8),
     Missed(u8, u32),
+    Pair(u8, Pair),
+    NoPair(u8),
     Distance(u8, u64),
     Heard(u8, Heard),
     Unheard(u8),
@@ -134,6 +136,7 @@ pub enum Asked {
     Distance(u8),
     Span(u8),
     Missed(u8),
+    Pair(u8),
     Heard(u8),
     Record(At),
     Same(u8),
@@ -243,8 +246,10 @@ impl<'a> Words<'a> {
         })
     }
 
+    /// Six numbers; E is 0.
     fn params(&mut self) -> Option<Params> {
         Some(Params {
+            e: 0,
             c1: self.byte()?,
             c2: self.byte()?,
             c3: self.byte()?,
@@ -252,6 +257,49 @@ impl<'a> Words<'a> {
             d2: self.byte()?,
             d3: self.byte()?,
         })
+    }
+
+    /// Six numbers and E, which may be left out where nothing follows.
+    fn opening_params(&mut self) -> Option<Params> {
+        let params = self.params()?;
+        if self.are_over() {
+            return Some(params);
+        }
+        self.express_of(params)
+    }
+
+    /// E, 0..65535, after the other parameters.
+    fn express_of(&mut self, params: Params) -> Option<Params> {
+        let e = u16::try_from(self.number()?).ok()?;
+        Some(Params { e, ..params })
+    }
+
+    fn all_params(&mut self) -> Option<Params> {
+        let params = self.params()?;
+        self.express_of(params)
+    }
+
+    fn pair(&mut self) -> Option<Pair> {
+        Some(Pair {
+            requester: self.byte()?,
+            sender: self.byte()?,
+            number: self.cue_number()?,
+        })
+    }
+
+    /// `ROUND DUE QUIET`, and perhaps `express DUE`.
+    fn request(&mut self) -> Option<Request> {
+        let request = Request {
+            round: self.byte()?,
+            due: self.number()?,
+            quiet_until: self.number()?,
+            express: None,
+        };
+        if !self.takes("express") {
+            return Some(request);
+        }
+        let express = Some(self.number()?);
+        Some(Request { express, ..request })
     }
 
     /// `FOCUS`, or five fields, or `bytes` and its 24 bytes.
@@ -423,7 +471,7 @@ fn on_end(end: u8, words: &mut Words) -> Option<Does> {
         "open" => Does::Open {
             end,
             host: words.byte()?,
-            params: words.params()?,
+            params: words.opening_params()?,
         },
         "copy" => Does::Copy {
             end,
@@ -484,7 +532,7 @@ fn field(words: &mut Words) -> Option<Field> {
         "host" => Field::Host(words.byte()?),
         "clock" => Field::Clock(words.number()?),
         "next" => Field::Next(words.count()?),
-        "params" => Field::Params(words.params()?),
+        "params" => Field::Params(words.all_params()?),
         "status" => Field::Status(status(words.word()?)?),
         "span" => Field::Span {
             source: words.source()?,
@@ -493,6 +541,8 @@ fn field(words: &mut Words) -> Option<Field> {
         },
         "closed" => Field::Closed(words.source()?),
         "missed" => Field::Missed(words.source()?, words.count()?),
+        "pair" => Field::Pair(words.source()?, words.pair()?),
+        "nopair" => Field::NoPair(words.source()?),
         "distance" => Field::Distance(words.source()?, words.number()?),
         "heard" => Field::Heard(
             words.source()?,
@@ -504,14 +554,7 @@ fn field(words: &mut Words) -> Option<Field> {
         "unheard" => Field::Unheard(words.source()?),
         "empty" => Field::Empty(words.at()?),
         "held" => Field::Held(words.at()?),
-        "waits" => Field::Waits(
-            words.at()?,
-            Request {
-                round: words.byte()?,
-                due: words.number()?,
-                quiet_until: words.number()?,
-            },
-        ),
+        "waits" => Field::Waits(words.at()?, words.request()?),
         "reply" => Field::Reply(
             words.at()?,
             Reply {
@@ -535,6 +578,7 @@ fn asked(words: &mut Words) -> Option<Asked> {
         "distance" => Asked::Distance(words.source()?),
         "span" => Asked::Span(words.source()?),
         "missed" => Asked::Missed(words.source()?),
+        "pair" => Asked::Pair(words.source()?),
         "heard" => Asked::Heard(words.source()?),
         "record" => Asked::Record(words.at()?),
         "same" => Asked::Same(words.below(ENDS)?),
@@ -562,11 +606,12 @@ impl fmt::Display for Status {
     }
 }
 
-const KINDS: [(u8, &str); 4] = [
+const KINDS: [(u8, &str); 5] = [
     (message::DATA, "data"),
     (message::RQST, "rqst"),
     (message::REPL, "repl"),
     (message::SESS, "sess"),
+    (message::XPRS, "xprs"),
 ];
 
 fn kind(word: &str) -> Option<u8> {
@@ -704,7 +749,10 @@ impl fmt::Display for Cue {
     }
 }
 
-impl fmt::Display for Params {
+/// The parameters without E.
+struct Six<'a>(&'a Params);
+
+impl fmt::Display for Six<'_> {
     fn fmt(&self, f: &mut fmt::Formatter<'_>) -> fmt::Result {
         let Params {
             c1,
@@ -713,8 +761,33 @@ impl fmt::Display for Params {
             d1,
             d2,
             d3,
-        } = self;
+            e: _,
+        } = self.0;
         write!(f, "{c1} {c2} {c3} {d1} {d2} {d3}")
+    }
+}
+
+/// The parameters with E.
+impl fmt::Display for Params {
+    fn fmt(&self, f: &mut fmt::Formatter<'_>) -> fmt::Result {
+        write!(f, "{} {}", Six(self), self.e)
+    }
+}
+
+/// `ROUND DUE QUIET`, and ` express DUE` where there is such a wait.
+impl fmt::Display for Request {
+    fn fmt(&self, f: &mut fmt::Formatter<'_>) -> fmt::Result {
+        write!(f, "{} {} {}", self.round, self.due, self.quiet_until)?;
+        match self.express {
+            Some(due) => write!(f, " express {due}"),
+            None => Ok(()),
+        }
+    }
+}
+
+impl fmt::Display for Pair {
+    fn fmt(&self, f: &mut fmt::Formatter<'_>) -> fmt::Result {
+        write!(f, "{} {} {}", self.requester, self.sender, self.number)
     }
 }
 
@@ -759,7 +832,13 @@ impl fmt::Display for Does {
             }
             Does::Room(bytes) => write!(f, "room {bytes}"),
             Does::Fill(byte) => write!(f, "fill {byte}"),
-            Does::Open { end, host, params } => write!(f, "{end} open {host} {params}"),
+            Does::Open { end, host, params } => {
+                let six = Six(params);
+                match params.e {
+                    0 => write!(f, "{end} open {host} {six}"),
+                    e => write!(f, "{end} open {host} {six} {e}"),
+                }
+            }
             Does::Call { end, clock, verb } => {
                 write!(f, "{end} ")?;
                 print_event(*clock, verb, f)
@@ -820,6 +899,8 @@ impl fmt::Display for Field {
             } => write!(f, "span {source} {first} {last}"),
             Field::Closed(source) => write!(f, "closed {source}"),
             Field::Missed(source, missed) => write!(f, "missed {source} {missed}"),
+            Field::Pair(source, pair) => write!(f, "pair {source} {pair}"),
+            Field::NoPair(source) => write!(f, "nopair {source}"),
             Field::Distance(source, distance) => write!(f, "distance {source} {distance}"),
             Field::Heard(source, heard) => {
                 write!(f, "heard {source} {} {}", heard.stamp, heard.at)
@@ -827,10 +908,7 @@ impl fmt::Display for Field {
             Field::Unheard(source) => write!(f, "unheard {source}"),
             Field::Empty(at) => write!(f, "empty {at}"),
             Field::Held(at) => write!(f, "held {at}"),
-            Field::Waits(at, request) => {
-                let (due, quiet) = (request.due, request.quiet_until);
-                write!(f, "waits {at} {} {due} {quiet}", request.round)
-            }
+            Field::Waits(at, request) => write!(f, "waits {at} {request}"),
             Field::Reply(at, reply) => write!(f, "reply {at} {} {}", reply.due, reply.requester),
             Field::Cue(at, cue) => write!(f, "cue {at} {cue}"),
             Field::Hush(at, time) => write!(f, "hush {at} {time}"),
@@ -849,6 +927,7 @@ impl fmt::Display for Asked {
             Asked::Distance(source) => write!(f, "distance {source}"),
             Asked::Span(source) => write!(f, "span {source}"),
             Asked::Missed(source) => write!(f, "missed {source}"),
+            Asked::Pair(source) => write!(f, "pair {source}"),
             Asked::Heard(source) => write!(f, "heard {source}"),
             Asked::Record(at) => write!(f, "record {at}"),
             Asked::Same(other) => write!(f, "same {other}"),

@@ -18,6 +18,7 @@ fn params(all: [u8; 6]) -> Params {
         d1,
         d2,
         d3,
+        e: 0,
     }
 }
 
@@ -129,6 +130,7 @@ fn waiting(round: u8, due: u64, quiet_until: u64) -> Body {
         round,
         due,
         quiet_until,
+        express: None,
     })
 }
 

@@ -16,6 +16,7 @@ fn opened(host: u8) -> End {
         d1: 4,
         d2: 4,
         d3: 8,
+        express: 0,
     };
     let o = link::open(Host(host), params);
     o.end

@@ -12,6 +12,7 @@ use Rattle.cases.specs.Stage.{stageRows}
 use Rattle.cases.specs.Clashes.{clashRows}
 use Rattle.cases.specs.Probe.{probeRows}
 use Rattle.cases.specs.Season.{seasonRows}
+use Rattle.cases.specs.Express.{expressRows}
 use Rattle.cases.proofs.Opened.{opened}
 
 pub cases-hold : Hold rows
@@ -24,7 +25,7 @@ moves-hold = (refl, (refl, (refl, (refl, (refl, tt)))))
 
 pub wire-holds : Hold wireRows
 unfolding wireRows opened
-wire-holds = (refl, (refl, (refl, (refl, (refl, (refl, (refl, (refl, (refl, (refl, (refl, (refl, (refl, (refl, (refl, (refl, (refl, (refl, (refl, (refl, (refl, tt)))))))))))))))))))))
+wire-holds = (refl, (refl, (refl, (refl, (refl, (refl, (refl, (refl, (refl, (refl, (refl, (refl, (refl, (refl, (refl, (refl, (refl, (refl, (refl, (refl, (refl, (refl, (refl, (refl, (refl, (refl, (refl, (refl, (refl, (refl, tt))))))))))))))))))))))))))))))
 
 pub timed-hold : Hold timedRows
 unfolding timedRows opened
@@ -65,3 +66,7 @@ factors-hold = (refl, (refl, (refl, (refl, (refl, (refl, (refl, (refl, (refl, (r
 pub season-holds : Hold seasonRows
 unfolding seasonRows opened
 season-holds = (refl, (refl, (refl, (refl, (refl, (refl, (refl, (refl, (refl, (refl, (refl, (refl, (refl, (refl, (refl, (refl, (refl, (refl, (refl, (refl, (refl, (refl, (refl, (refl, tt))))))))))))))))))))))))
+
+pub express-holds : Hold expressRows
+unfolding expressRows opened
+express-holds = (refl, (refl, (refl, (refl, (refl, (refl, (refl, (refl, (refl, (refl, (refl, (refl, (refl, (refl, (refl, (refl, (refl, (refl, (refl, (refl, (refl, (refl, (refl, (refl, (refl, (refl, (refl, (refl, (refl, tt)))))))))))))))))))))))))))))

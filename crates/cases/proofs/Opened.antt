@@ -10,7 +10,7 @@ use Rattle.end.specs.Round.{factor, share}
 use Rattle.end.specs.Names.{filled, lacking, riseWith}
 use Rattle.end.specs.Messages.{reportsBelow, echoesBelow}
 use Rattle.end.specs.Records.{recordAt}
-use Rattle.end.specs.Decide.{sameCue, decideData, reached, decideReply, decideRound, decideRequest, decideRepair, decideAs, apply, effectOf, stepAt}
+use Rattle.end.specs.Decide.{sameCue, decideData, reached, decideReply, decideRound, decideRequest, decideExpress, decideRepair, decideAs, apply, effectOf, stepAt}
 use Rattle.end.specs.Session.{allReported, measured, sessionOf}
 use Rattle.end.specs.Arrival.{messageStep, arrivalOf}
 use Rattle.end.specs.Fire.{foldUp, earliest, fireAt, fired}
@@ -23,5 +23,5 @@ use Rattle.end.specs.Answer.{answerOf, bufferOf}
 use Rattle.cases.specs.Shown.{returned, readOff, onlooked}
 
 unfoldable pub opened : ℕ
-unfolding valueAfter digits cueIn cueWith entries flat section sectionFrom after all rises bytesWith meaningWith inRange hostsFit readRefusal readOf writeRefusal writtenOf outputOf allBelow soundOf factor share filled lacking riseWith reportsBelow echoesBelow recordAt sameCue decideData reached decideReply decideRound decideRequest decideRepair decideAs apply effectOf stepAt allReported measured sessionOf messageStep foldUp earliest fireAt fired movedEnd moveOf arrivalOf actOf stepOf questionOf eventOf whyOf openRefusal openingOf put readAs raisedTo reportedTo broughtTo among firstOf notBelow isSome kept limits gets dueMessage due clearedBy movedBook file higher hand bring hears afterMessage afterCall isGot bookAfter resultOf sentAfter worldAfter seen answerOf bufferOf returned readOff onlooked
+unfolding valueAfter digits cueIn cueWith entries flat section sectionFrom after all rises bytesWith meaningWith inRange hostsFit readRefusal readOf writeRefusal writtenOf outputOf allBelow soundOf factor share filled lacking riseWith reportsBelow echoesBelow recordAt sameCue decideData reached decideReply decideRound decideRequest decideExpress decideRepair decideAs apply effectOf stepAt allReported measured sessionOf messageStep foldUp earliest fireAt fired movedEnd moveOf arrivalOf actOf stepOf questionOf eventOf whyOf openRefusal openingOf put readAs raisedTo reportedTo broughtTo among firstOf notBelow isSome kept limits gets dueMessage due clearedBy movedBook file higher hand bring hears afterMessage afterCall isGot bookAfter resultOf sentAfter worldAfter seen answerOf bufferOf returned readOff onlooked
 opened = 0

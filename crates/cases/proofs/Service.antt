@@ -1,4 +1,5 @@
--- Demand 3 is not empty: it applies to the listing, to the rejoining lists, to a list with probes and to the list on host 7, whose answers are computed.
+-- Demand 3 is not empty: it applies to the listing, to the rejoining lists, to a list with probes, to the list on host 7 and to one with an
+-- express repair, whose answers are computed.
 use mathlib.Core.Path.{_≡_, refl}
 use mathlib.Core.List.{map}
 use borrow.Author.Tests.{lt-ltb}
@@ -11,6 +12,7 @@ use Rattle.cases.specs.Rejoin.{rejoining, rejoiningGives, afterOriginal,
 use Rattle.cases.specs.Probe.{probing, probingGives}
 use Rattle.cases.specs.Shown.{returned, onlooked}
 use Rattle.cases.specs.Stage.{stageParams, stage, play}
+use Rattle.cases.specs.Express.{expressParams, expressStage, exchange}
 use Rattle.cases.proofs.Opened.{opened}
 use Rattle.cases.proofs.Allowed.{tests, is-allowed}
 use Rattle.cases.proofs.Shown.{service-shown}
@@ -71,3 +73,12 @@ stage-fresh = record { ends = λ h hh. (stageParams, rw (lt-ltb h 8 hh)); sent =
 pub play-runs : RunFrom emptyBook (map onlooked (returned stage play))
 unfolding tests opened
 play-runs = service-shown stage stage-fresh play (is-allowed play stage refl)
+
+-- and the one in which a lost cue is repaired in one exchange
+pub express-fresh : Fresh expressStage
+unfolding opened
+express-fresh = record { ends = λ h hh. (expressParams, rw (lt-ltb h 8 hh)); sent = refl }
+
+pub exchange-runs : RunFrom emptyBook (map onlooked (returned expressStage exchange))
+unfolding tests opened
+exchange-runs = service-shown expressStage express-fresh exchange (is-allowed exchange expressStage refl)

@@ -16,3 +16,4 @@ pub mod CallLimits
 pub mod Reasons
 pub mod Probe
 pub mod Season
+pub mod Express

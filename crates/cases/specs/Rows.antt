@@ -65,9 +65,9 @@ rqstBytesNow = 0x12 ∷ 0x01 ∷ 0x00 ∷ 0x00 ∷ 0x00 ∷ 0x00 ∷ 0x01 ∷ 0x
 abbrev pub output : List ℕ
 output = replicate 128 170
 
--- parameters in the order C1, C2, C3, D1, D2, D3
+-- parameters in the order C1, C2, C3, D1, D2, D3, and E 0
 abbrev pub params : ℕ → ℕ → ℕ → ℕ → ℕ → ℕ → Params
-params c1 c2 c3 d1 d2 d3 = record { c1 = c1; c2 = c2; c3 = c3; d1 = d1; d2 = d2; d3 = d3 }
+params c1 c2 c3 d1 d2 d3 = record { c1 = c1; c2 = c2; c3 = c3; d1 = d1; d2 = d2; d3 = d3; express = 0 }
 
 -- host 0's member with a next number, of which nothing else is kept
 abbrev pub memberAt : ℕ → End

@@ -12,6 +12,7 @@ use Rattle.message.specs.Entry.{asHost, asNumber, blankCue}
 use Rattle.message.specs.declared.Report.{Report}
 use Rattle.end.specs.declared.Reply.the-variants.{No, Due}
 use Rattle.end.specs.declared.Slot.the-variants.{Empty, Held, Waiting}
+use Rattle.end.specs.declared.Pair.the-variants.{NoPair}
 use Rattle.end.specs.declared.Record.{Record}
 use Rattle.end.specs.declared.Span.{Span}
 use Rattle.end.specs.declared.Span.the-variants.{Closed, Open}
@@ -52,6 +53,7 @@ abbrev pub keeping : ℕ → ℕ → (ℕ → Bool) → Source
 keeping first last held = record {
   span = Open (asNumber first) (asNumber last);
   missed = 0;
+  pair = NoPair;
   distance = 40;
   heard = At 0 0;
   names = filled (λ n. cond (held n) heldRecord (asked now draws 40 n)) (last + 1 - first) first blankNames;
@@ -82,7 +84,15 @@ rises s n first last missed = case (edges (risenTo n s)) (some (first, last, mis
 
 -- a message of host 2 that names number n of host 0
 abbrev pub naming : Says → ℕ → Word
-naming says n = record { says = says; name = record { source = asHost 0; number = asNumber n }; requester = asHost 2; distance = 40; cue = blankCue }
+naming says n = record {
+  says = says;
+  name = record { source = asHost 0; number = asNumber n };
+  host = asHost 2;
+  sender = asHost 2;
+  requester = asHost 2;
+  distance = 40;
+  cue = blankCue;
+}
 
 -- the source after a rise from 10 to 80: 17..80 are kept, all of them asked for
 abbrev pub risen80 : Source

@@ -19,7 +19,7 @@ use Rattle.cases.specs.Timed.{members}
 use Rattle.cases.specs.Wire.{fiveCue, fullCue}
 
 abbrev pub stageParams : Params
-stageParams = record { c1 = 12; c2 = 5; c3 = 3; d1 = 2; d2 = 6; d3 = 7 }
+stageParams = record { c1 = 12; c2 = 5; c3 = 3; d1 = 2; d2 = 6; d3 = 7; express = 0 }
 
 -- the ends, freshly opened
 abbrev pub stage : World

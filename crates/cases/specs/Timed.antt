@@ -82,7 +82,7 @@ answeringGives due = Did (Out message0) ∷ Did Done ∷ repairOut due 0
 
 -- with D1 3, D2 5 and D3 8 quarters and u 32896 at 100 + 120 + 100; as it goes out "reply-quiet = t + D3×d"
 abbrev pub replyParams : Params
-replyParams = record { c1 = 9; c2 = 8; c3 = 4; d1 = 3; d2 = 5; d3 = 8 }
+replyParams = record { c1 = 9; c2 = 8; c3 = 4; d1 = 3; d2 = 5; d3 = 8; express = 0 }
 
 abbrev pub replied : List Call
 replied = call 0 10 (Send minusTwo) ∷ drawn 0 32896 (call 0 100 (asks 1 99 0)) ∷ fires 0 320 ++ asked 0 640 0

@@ -1,13 +1,13 @@
 -- Messages and cues as bytes, written and read, in which no two fields could change places unseen. Document 01, "Messages" and "The link
 -- and its edge". "Numbers are big-endian." Document 02, P7: "Cue numbers become 0..65535, two bytes in names and reports, under kinds 17 to 20
--- for 1 to 4; the old kinds are still read, numbers to 63, as the same meanings and no longer written".
+-- for 1 to 4; the old kinds are still read, numbers to 63, as the same meanings and no longer written". P8: "kind 21, laid out as kind 18".
 use Prim.Native.Nat.{ℕ}
 use mathlib.Core.List.{List, [], _∷_, _++_}
 use lib.ListN.{length, drop, replicate}
 use lib.IntN.{pos, negsuc}
 use Rattle.message.specs.Cue.{fieldsOf, cueWith}
 use Rattle.message.specs.Entry.{asHost, asNumber}
-use Rattle.message.specs.Message.{DATA, RQST, SESS, Meaning, Saying, heldAs}
+use Rattle.message.specs.Message.{DATA, RQST, SESS, XPRS, Meaning, Saying, heldAs}
 use Rattle.message.specs.Question.{blankMessage, readOf, writtenOf, outputOf}
 use Rattle.message.specs.declared.CueFields.{CueFields}
 use Rattle.message.specs.declared.Reading.{Reading}
@@ -35,17 +35,21 @@ stamp = 0x010203040506
 abbrev pub head : ℕ → ℕ → List ℕ
 head kind sender = kind ∷ sender ∷ 0x01 ∷ 0x02 ∷ 0x03 ∷ 0x04 ∷ 0x05 ∷ 0x06 ∷ []
 
--- "names (source, cue number, host ..)": an end asks for a name
-abbrev pub asks : ℕ → ℕ → ℕ → ℕ → ℕ → Meaning
-asks kind sender stamp source number = record {
+-- "names (source, cue number, host ..)": a message of one name and nothing else
+abbrev pub naming : ℕ → ℕ → ℕ → ℕ → ℕ → ℕ → Meaning
+naming kind sender stamp source number host = record {
   kind = kind;
   sender = asHost sender;
   stamp = stamp;
-  names = record { name = record { source = asHost source; number = asNumber number }; host = asHost sender } ∷ [];
+  names = record { name = record { source = asHost source; number = asNumber number }; host = asHost host } ∷ [];
   cues = [];
   reports = [];
   echoes = [];
 }
+
+-- an end asks for a name
+abbrev pub asks : ℕ → ℕ → ℕ → ℕ → ℕ → Meaning
+asks kind sender stamp source number = naming kind sender stamp source number sender
 
 -- a RQST of end 5 for name 2,33, whose number has two bytes, and one byte under the old kind
 abbrev pub request : Meaning
@@ -103,6 +107,13 @@ caseBytes = 0x02 ∷ 0x01 ∷ 0 ∷ 0 ∷ 0 ∷ 0 ∷ 0x01 ∷ 0x88 ∷ 1 ∷ 0 
 abbrev pub caseBytesNow : List ℕ
 caseBytesNow = 0x12 ∷ 0x01 ∷ 0 ∷ 0 ∷ 0 ∷ 0 ∷ 0x01 ∷ 0x88 ∷ 1 ∷ 0 ∷ 0 ∷ 1 ∷ 1 ∷ 0 ∷ 0 ∷ 0 ∷ []
 
+-- P8: end 5 asks for number 0x0221 of a source, of the host that answered it last
+abbrev pub express : ℕ → ℕ → Meaning
+express source host = naming XPRS 5 stamp source 0x0221 host
+
+abbrev pub expressBytes : ℕ → ℕ → List ℕ
+expressBytes source host = head 21 5 ++ (1 ∷ source ∷ 0x02 ∷ 0x21 ∷ host ∷ 0 ∷ 0 ∷ 0 ∷ [])
+
 -- what the reader answers: a message, or a refusal
 abbrev pub says : Meaning → Reading
 says m = record { verdict = Accepted; message = heldAs m }
@@ -117,6 +128,22 @@ bothWays m bytes =
     ∷ case (readOf bytes) (says m)
     ∷ []
 
+-- a message that both refuse
+abbrev pub neitherWay : ℕ → Meaning → List ℕ → List Case
+neitherWay k m bytes =
+    case (writtenOf (Saying (heldAs m)) (replicate 128 170)) (record { verdict = Refused k; len = 0 })
+    ∷ case (readOf bytes) (refuses k)
+    ∷ []
+
+-- P8: "host and source differ from its own sender, else 11"; nothing says that the host is not the source
+abbrev pub expressRows : List Case
+expressRows =
+    -- "laid out as kind 18": 16 bytes
+    case (writtenOf (Saying (heldAs (express 2 3))) (replicate 128 170)) (record { verdict = Accepted; len = 16 })
+    ∷ bothWays (express 2 3) (expressBytes 2 3)
+    ++ (bothWays (express 2 2) (expressBytes 2 2)
+    ++ (neitherWay 11 (express 2 5) (expressBytes 2 5) ++ neitherWay 11 (express 5 3) (expressBytes 5 3)))
+
 -- document 01's kinds, read and no longer written
 abbrev pub oldRows : List Case
 oldRows =
@@ -125,7 +152,7 @@ oldRows =
     ∷ case (readOf (oldRequest 63)) (says (asks RQST 5 stamp 2 63))
     ∷ case (readOf (oldRequest 64)) (refuses 10)
     ∷ case (readOf (head 4 3 ++ (0 ∷ 0 ∷ 1 ∷ 6 ∷ 64 ∷ 0 ∷ []))) (refuses 10)
-    -- "no longer written": the kind of a message is 17 to 20
+    -- "no longer written": 1 to 4 are the kind of no message
     ∷ case (writtenOf (Saying (heldAs (asks 2 5 stamp 2 33))) (replicate 128 170)) (record { verdict = Refused 9; len = 0 })
     ∷ []
 
@@ -147,4 +174,4 @@ wireRows =
     ∷ bothWays request requestBytes
     ++ (bothWays original originalBytes
     ++ (bothWays session sessionBytes
-    ++ (bothWays caseRequest caseBytesNow ++ (bothWays (asks RQST 5 stamp 2 65535) greatest ++ (oldRows ++ sizeRows)))))
+    ++ (bothWays caseRequest caseBytesNow ++ (bothWays (asks RQST 5 stamp 2 65535) greatest ++ (expressRows ++ (oldRows ++ sizeRows))))))

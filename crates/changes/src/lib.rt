@@ -1,6 +1,8 @@
 // `END set ..`: an end with a field changed, sound or not. Reading goes on at `at`, as the crate trace has it.
 use end::End;
+use end::Express;
 use end::Heard;
+use end::Pair;
 use end::Params;
 use end::Record;
 use end::Reply;
@@ -30,6 +32,7 @@ fn params(line: &[u8; 1000], end: usize, at: &mut usize) -> Params {
         d1: trace::small(line, end, at, 255),
         d2: trace::small(line, end, at, 255),
         d3: trace::small(line, end, at, 255),
+        express: trace::small(line, end, at, 65535),
     }
 }
 
@@ -79,6 +82,19 @@ fn span(old: Span, field: u64, line: &[u8; 1000], end: usize, at: &mut usize) ->
     }
 }
 
+fn pair(old: Pair, field: u64, line: &[u8; 1000], end: usize, at: &mut usize) -> Pair {
+    match field {
+        words::PAIR => {
+            let requester = trace::byte(line, end, at);
+            let sender = trace::byte(line, end, at);
+            let number = trace::cue_number(line, end, at);
+            Pair::Kept(Host(requester), Host(sender), number)
+        }
+        words::NOPAIR => Pair::NoPair,
+        _ => old,
+    }
+}
+
 fn heard(old: Heard, field: u64, line: &[u8; 1000], end: usize, at: &mut usize) -> Heard {
     match field {
         words::HEARD => {
@@ -104,9 +120,11 @@ fn set_source(e: End, field: u64, line: &[u8; 1000], end: usize, at: &mut usize)
     let h = trace::place(line, end, at, 7);
     let s = source(e, h);
     let old_span = s.span;
+    let old_pair = s.pair;
     let old_heard = s.heard;
     let names = s.names;
     let span = span(old_span, field, line, end, at);
+    let pair = pair(old_pair, field, line, end, at);
     let heard = heard(old_heard, field, line, end, at);
     let mut missed = s.missed;
     if field == words::MISSED {
@@ -119,6 +137,7 @@ fn set_source(e: End, field: u64, line: &[u8; 1000], end: usize, at: &mut usize)
     let changed = Source {
         span,
         missed,
+        pair,
         distance,
         heard,
         names,
@@ -140,11 +159,26 @@ fn reply(line: &[u8; 1000], end: usize, at: &mut usize) -> Reply {
     Reply::Due(due, Host(requester))
 }
 
+// `express DUE` behind a request, or nothing.
+fn express(line: &[u8; 1000], end: usize, at: &mut usize) -> Express {
+    if trace::peek(line, end, *at) == words::EXPRESS {
+        trace::key(line, end, at);
+        return Express::Soon(trace::number(line, end, at));
+    }
+    Express::Unset
+}
+
+fn waiting(line: &[u8; 1000], end: usize, at: &mut usize) -> Slot {
+    let q = request(line, end, at);
+    let x = express(line, end, at);
+    Slot::Waiting(q, x)
+}
+
 fn slot(old: Slot, field: u64, line: &[u8; 1000], end: usize, at: &mut usize) -> Slot {
     match field {
         words::EMPTY => Slot::Empty,
         words::HELD => Slot::Held(Reply::No),
-        words::WAITS => Slot::Waiting(request(line, end, at)),
+        words::WAITS => waiting(line, end, at),
         words::REPLY => Slot::Held(reply(line, end, at)),
         _ => old,
     }
@@ -185,6 +219,8 @@ pub fn set(e: End, line: &[u8; 1000], end: usize, at: &mut usize) -> End {
         words::SPAN
         | words::CLOSED
         | words::MISSED
+        | words::PAIR
+        | words::NOPAIR
         | words::DISTANCE
         | words::HEARD
         | words::UNHEARD => set_source(e, field, line, end, at),

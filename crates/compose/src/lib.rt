@@ -1,5 +1,6 @@
-// The messages that an end puts out, as the structs that the layout writes: `aboutName` and `sessionMessage` of the crate end,
-// specs/Messages.antt. They are helpers of the crates above and no calls of the product.
+// The messages that an end puts out, as the structs that the layout writes, `aboutName` and `sessionMessage` of the crate end,
+// specs/Messages.antt; and how one goes out. They are helpers of the crates above and no calls of the product.
+use end::Answer;
 use end::End;
 use end::Heard;
 use end::Moment;
@@ -17,10 +18,11 @@ ghost use mathlib.Core.Path.{_≡_};
 ghost use mathlib.Core.List.{[], _∷_};
 ghost use Prim.Native.Nat.{_+_, _≤_, _<_};
 ghost use lib.ListN.{length, take};
-ghost use Rattle.message.specs.Limit.{hostLimit};
+ghost use Rattle.message.specs.Limit.{hostLimit, roomNeeded};
 ghost use Rattle.message.specs.Entry.{blankName, blankReport, blankEcho};
-ghost use Rattle.message.specs.Message.{Small, numberWidth, reportPlaces, echoPlaces, meaningOf};
+ghost use Rattle.message.specs.Message.{Small, numberWidth, reportPlaces, echoPlaces, meaningOf, bytesOf};
 ghost use Rattle.end.specs.Messages.{aboutName, reportOn, echoOn, sessionMessage};
+ghost use Rattle.end.specs.Answer.{Out, Did, answerOf, bufferOf};
 ghost use Rattle.end.specs.Ready.{HeardBy};
 ghost use Rattle.state.specs.Settled.{Settled};
 ghost use Rattle.compose.specs.Entries.{entriesBelow, withReport, withEcho};
@@ -74,15 +76,8 @@ fn no_echo() -> Echo
     }
 }
 
-// A message about one name: DATA and REPL with one cue, RQST with none.
-pub fn about_name(
-    kind: u8,
-    t: Moment,
-    name: Name,
-    host: Host,
-    cues: usize,
-    cue: [u8; 24],
-) -> Message
+// A message about one name: DATA and REPL with one cue, RQST and XPRS with none.
+fn about_name(kind: u8, t: Moment, name: Name, host: Host, cues: usize, cue: [u8; 24]) -> Message
     requires { ⌜ cues ≤ 1 ⌝ }
     ensures { λ r. ⌜ meaningOf r ≡ aboutName kind t name host (take cues (cue ∷ [])) ⌝ }
     ensures { λ r. ⌜ Small (numberWidth (r .kind)) (r .counts) ⌝ }
@@ -207,4 +202,32 @@ pub fn session_message(e: End) -> Message
         reports: said,
         echoes: heard,
     }
+}
+
+// ---- a message goes out: it is the answer Out, and stands in the first output bytes
+
+pub fn put(m: Message, out: &mut [u8]) -> Answer
+    requires { ⌜ Small (numberWidth (m .kind)) (m .counts) × (roomNeeded ≤ length (now out)) ⌝ }
+    ensures { λ r. ⌜ r ≡ answerOf (Did (Out (bytesOf (meaningOf m)))) ⌝ }
+    ensures { λ _. ⌜ now (out .exit) ≡ bufferOf (Did (Out (bytesOf (meaningOf m)))) (now (out .entry)) ⌝ }
+{
+    let len = layout::put_message(out, m);
+    Answer::Out(len)
+}
+
+pub fn put_name(
+    kind: u8,
+    t: Moment,
+    name: Name,
+    host: Host,
+    cues: usize,
+    cue: [u8; 24],
+    out: &mut [u8],
+) -> Answer
+    requires { ⌜ (cues ≤ 1) × (roomNeeded ≤ length (now out)) ⌝ }
+    ensures { λ r. ⌜ r ≡ answerOf (Did (Out (bytesOf (aboutName kind t name host (take cues (cue ∷ [])))))) ⌝ }
+    ensures { λ _. ⌜ now (out .exit) ≡ bufferOf (Did (Out (bytesOf (aboutName kind t name host (take cues (cue ∷ [])))))) (now (out .entry)) ⌝ }
+{
+    let m = about_name(kind, t, name, host, cues, cue);
+    put(m, out)
 }

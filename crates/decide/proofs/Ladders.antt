@@ -10,7 +10,7 @@ use Rattle.end.specs.declared.Span.the-variants.{Closed, Open}
 use Rattle.end.specs.declared.Source.{Source}
 use Rattle.end.specs.declared.Moment.{Moment}
 use Rattle.end.specs.declared.Says.{Says}
-use Rattle.end.specs.declared.Says.the-variants.{Data, Rqst, Repl}
+use Rattle.end.specs.declared.Says.the-variants.{Data, Rqst, Repl, Xprs}
 use Rattle.end.specs.declared.Word.{Word}
 use Rattle.end.specs.declared.Reason.the-variants.{NotOpen, BelowFirst, OwnAboveLast, AlreadyHeld}
 use Rattle.end.specs.declared.Decision.{Decision}
@@ -19,7 +19,7 @@ use Rattle.end.specs.Records.{isClosed, isBelow, isAbove, isHeld}
 use Rattle.end.specs.Names.{asked, rise}
 use Rattle.end.specs.Ready.{Ranges}
 use Rattle.end.proofs.RiseLaws.{rise-distance}
-use Rattle.end.specs.Decide.{number, unless, ifSame, decideData, reached, decideRequest, decideRepair, decideAs}
+use Rattle.end.specs.Decide.{number, unless, ifSame, decideData, reached, decideRequest, decideExpress, decideRepair, decideAs}
 
 pub data-ladder : (w : Word) (r : Record) (x : Span)
     → decideData w r x ≡ cond (isClosed x) Opens (unless (isBelow x (number w)) BelowFirst (cond (isHeld (r .slot)) (ifSame w r (Ignores AlreadyHeld)) Takes))
@@ -46,6 +46,10 @@ module _ (t : Moment) (w : Word) (r : Record) (x : Span) where
   pub says-repair : (k : Says) → k ≡ Repl → decideAs k t w r x ≡ reached t w x (decideRepair w r)
   unfolding decideAs
   says-repair k e = rw e
+
+  pub says-express : (k : Says) → k ≡ Xprs → decideAs k t w r x ≡ reached t w x (decideExpress t w r x)
+  unfolding decideAs
+  says-express k e = rw e
 
 -- ---- a source whose last rose is as far as it was
 pub risen-ranges : (t : Moment) (us : List ℕ) (n : ℕ) (s x : Source) → x ≡ rise t us n s (s .span) → Ranges t (s .distance) → Ranges t (x .distance)

@@ -22,6 +22,7 @@ fn ask_source(
     let head = flat::head_of(s);
     match field {
         words::MISSED => text::number(text, n, head.missed),
+        words::PAIR => shown::pair(text, n, head),
         words::DISTANCE => text::number(text, n, head.distance),
         words::SPAN => shown::span(text, n, head),
         words::HEARD => shown::heard(text, n, head),

@@ -275,6 +275,14 @@ fn verdict(text: &mut [u8; 65536], n: &mut [usize; 20], v: Verdict) {
     }
 }
 
+// E, where there is a seventh number; otherwise 0.
+fn express(line: &[u8; 1000], end: usize, at: &mut usize) -> u64 {
+    if trace::whole(end, *at) {
+        return 0;
+    }
+    trace::small(line, end, at, 65535)
+}
+
 // An opening: answers its end, also beside a refusal.
 pub fn open(
     line: &[u8; 1000],
@@ -292,6 +300,7 @@ pub fn open(
         d1: trace::small(line, end, at, 255),
         d2: trace::small(line, end, at, 255),
         d3: trace::small(line, end, at, 255),
+        express: express(line, end, at),
     };
     crate::begin(n, out);
     let o = link::open(Host(host), params);

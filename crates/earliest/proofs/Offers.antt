@@ -2,28 +2,33 @@
 -- (`search`), so that it counts no positions.
 use mathlib.Core.Path.{_≡_}
 use Prim.Native.Nat.{ℕ}
-use mathlib.Core.Bool.{Bool, true, false, cond}
-use lib.Dec.{leb}
+use mathlib.Core.Bool.{Bool, true, false}
 use Rattle.message.specs.declared.Host.{Host}
 use Rattle.message.specs.declared.Name.{Name}
 use Rattle.end.specs.declared.Request.{Request}
 use Rattle.end.specs.declared.Slot.{Slot}
 use Rattle.end.specs.declared.Slot.the-variants.{Held, Waiting}
+use Rattle.end.specs.declared.Express.{Express}
+use Rattle.end.specs.declared.Express.the-variants.{Soon}
 use Rattle.end.specs.declared.Reply.{Reply}
 use Rattle.end.specs.declared.Reply.the-variants.{Due}
 use Rattle.end.specs.declared.Wait.{Wait}
 use Rattle.end.specs.declared.Earliest.{Earliest}
 use Rattle.end.specs.declared.Earliest.the-variants.{First}
-use Rattle.end.specs.Fire.{before, earlier, offered}
+use Rattle.end.specs.Fire.{expressRank, requestRank, replyRank, before, earlier, dueAt, expressAt, offered}
+
+-- the express wait that was matched
+pub offered-express : (name : Name) (clock : ℕ) (best : Earliest) {express : Express} {x : Earliest} {due : ℕ} → x ≡ dueAt name clock expressRank due best
+    → express ≡ Soon due → x ≡ expressAt name clock express best
+offered-express name clock best x e = rw (e, x)
 
 -- the slot that was matched, and the reply in it
 module _ (name : Name) (clock : ℕ) (best : Earliest) {slot : Slot} {x : Earliest} where
-  pub offered-request : {q : Request} → x ≡ cond (leb (q .due) clock) (earlier best (record { due = q .due; reply = false; name = name })) best
-      → slot ≡ Waiting q → x ≡ offered name clock slot best
-  offered-request x e = rw e x
+  pub offered-request : {q : Request} {express : Express} {soon : Earliest} → x ≡ dueAt name clock requestRank (q .due) soon
+      → soon ≡ expressAt name clock express best → slot ≡ Waiting q express → x ≡ offered name clock slot best
+  offered-request x soon e = rw (x, soon, e)
 
-  pub offered-reply : {reply : Reply} {due : ℕ} {requester : Host}
-      → x ≡ cond (leb due clock) (earlier best (record { due = due; reply = true; name = name })) best
+  pub offered-reply : {reply : Reply} {due : ℕ} {requester : Host} → x ≡ dueAt name clock replyRank due best
       → slot ≡ Held reply → reply ≡ Due due requester → x ≡ offered name clock slot best
   offered-reply x e f = rw (e, f) x
 

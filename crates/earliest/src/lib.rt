@@ -1,7 +1,11 @@
 // The wait that Fire sends next: each function is one definition of the crate end, specs/Fire.antt. The numbers first..last of
 // each source are gone through once, by rising source and number, so that ties go to the lower source and the lower number.
+use end::EXPRESS;
 use end::Earliest;
 use end::End;
+use end::Express;
+use end::REPLY;
+use end::REQUEST;
 use end::Reply;
 use end::Slot;
 use end::Source;
@@ -11,20 +15,18 @@ use message::CueNumber;
 use message::Host;
 use message::Name;
 ghost use mathlib.Core.Path.{_≡_};
-ghost use mathlib.Core.Bool.{cond};
 ghost use Prim.Native.Nat.{_+_, _≤_};
-ghost use lib.Dec.{leb};
 ghost use Rattle.message.specs.Limit.{hostLimit, numberLimit};
 ghost use Rattle.end.specs.Records.{start, width};
 ghost use Rattle.end.specs.Ready.{SpanIn};
-ghost use Rattle.end.specs.Fire.{before, earlier, offered, earliestName, earliest};
+ghost use Rattle.end.specs.Fire.{before, earlier, dueAt, expressAt, offered, earliestName, earliest};
 ghost use Rattle.state.specs.Settled.{Settled};
 
-// A wait comes before another if it is due earlier, or at the same time and is a request where the other is a reply.
+// A wait comes before another if it is due earlier, or at the same time and has the lower rank.
 fn is_before(w: Wait, v: Wait) -> bool
     ensures { λ r. ⌜ r ≡ before w v ⌝ }
 {
-    (w.due < v.due) | ((w.due == v.due) & (!w.reply & v.reply))
+    (w.due < v.due) | ((w.due == v.due) & (w.rank < v.rank))
 }
 
 // The earlier of the earliest so far and a wait.
@@ -44,26 +46,38 @@ fn earlier_of(best: Earliest, w: Wait) -> Earliest
 }
 
 // A wait joins the comparison once it is due.
-fn if_due(name: Name, clock: u64, due: u64, reply: bool, best: Earliest) -> Earliest
-    ensures { λ r. ⌜ r ≡ cond (leb due clock) (earlier best (record { due = due; reply = reply; name = name })) best ⌝ }
+fn if_due(name: Name, clock: u64, rank: u8, due: u64, best: Earliest) -> Earliest
+    ensures { λ r. ⌜ r ≡ dueAt name clock rank due best ⌝ }
 {
     if due <= clock {
-        earlier_of(best, Wait { due, reply, name })
+        earlier_of(best, Wait { due, rank, name })
     } else {
         best
     }
 }
 
-// What a record has waiting: its request, or the reply of a held cue.
+fn offer_express(name: Name, clock: u64, x: Express, best: Earliest) -> Earliest
+    ensures { λ r. ⌜ r ≡ expressAt name clock x best ⌝ }
+{
+    match x {
+        Express::Unset => best,
+        Express::Soon(due) => if_due(name, clock, EXPRESS, due, best),
+    }
+}
+
+// What a record has waiting: its request, beside it perhaps an express wait, or the reply of a held cue.
 fn offer(name: Name, clock: u64, slot: Slot, best: Earliest) -> Earliest
     ensures { λ r. ⌜ r ≡ offered name clock slot best ⌝ }
 {
     match slot {
         Slot::Empty => best,
-        Slot::Waiting(q) => if_due(name, clock, q.due, false, best),
+        Slot::Waiting(q, x) => {
+            let soon = offer_express(name, clock, x, best);
+            if_due(name, clock, REQUEST, q.due, soon)
+        }
         Slot::Held(reply) => match reply {
             Reply::No => best,
-            Reply::Due(due, _) => if_due(name, clock, due, true, best),
+            Reply::Due(due, _) => if_due(name, clock, REPLY, due, best),
         },
     }
 }

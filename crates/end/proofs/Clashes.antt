@@ -8,16 +8,16 @@ use lib.Seq.{set-getD}
 use lib.Dec.{eqb}
 use borrow.Author.Tests.{eqb-true, eq-eqb}
 use Rattle.message.specs.declared.Name.{Name}
-use Rattle.message.specs.Message.{DATA, RQST, REPL, Meaning, meaningFrom}
+use Rattle.message.specs.Message.{DATA, RQST, REPL, XPRS, Meaning, meaningFrom}
 use Rattle.message.specs.Question.{sameHost, messageQuestions, readQuestions}
 use Rattle.end.specs.declared.Move.{Move}
 use Rattle.end.specs.declared.Slot.{Slot}
 use Rattle.end.specs.declared.Slot.the-variants.{Empty, Held, Waiting}
 use Rattle.end.specs.declared.Reply.the-variants.{No, Due}
 use Rattle.end.specs.declared.Says.{Says}
-use Rattle.end.specs.declared.Says.the-variants.{Data, Rqst, Repl}
+use Rattle.end.specs.declared.Says.the-variants.{Data, Rqst, Repl, Xprs}
 use Rattle.end.specs.declared.Decision.{Decision}
-use Rattle.end.specs.declared.Decision.the-variants.{Ignores, Opens, Takes, Repairs, Hushes, Replies, Learns, BacksOff, Clashes}
+use Rattle.end.specs.declared.Decision.the-variants.{Ignores, Opens, Takes, Repairs, Hushes, Replies, Learns, BacksOff, Clashes, Expresses}
 use Rattle.end.specs.declared.Earliest.{Earliest}
 use Rattle.end.specs.declared.Earliest.the-variants.{NoWait, First}
 use Rattle.end.specs.declared.End.{End}
@@ -26,7 +26,7 @@ use Rattle.end.specs.Answer.{Effect, Out, Got, Done, Ignored, Nothing, C
 use Rattle.end.specs.Decide.{sameCue, decide, known, apply, effectOf, stepBy, stepAt}
 use Rattle.end.specs.Session.{sessionOf}
 use Rattle.end.specs.Arrival.{messageName, wordOf, wordStep, messageStep, arrivalOf}
-use Rattle.end.specs.Fire.{fireAt, fired, earliest}
+use Rattle.end.specs.Fire.{expressRank, fireAt, fired, earliest}
 use Rattle.end.specs.Event.{Other, Fire, Report, Action, Moves, Send, Arrival, Else, moves, moveOf, otherOf, ifMember, actOf, stepOf}
 use Rattle.end.specs.Clashes.{SameCueIsSameBytes, namedRecord, Clashing}
 use Rattle.end.proofs.Tools.{byCond, clash, clash′, and-left, and-right}
@@ -68,17 +68,17 @@ move-calm : (m : Move) (e : End) → isClash (moveOf m e .effect) ≡ false
 unfolding moveOf
 move-calm m e = byCond (λ (r : Step). isClash (r .effect) ≡ false) (moves m (e .status)) (λ _. refl) (λ _. refl)
 
-fire-calm : (us : List ℕ) (name : Name) (e : End) (x : Slot) → isClash (fireAt us name e x .effect) ≡ false
+fire-calm : (us : List ℕ) (rank : ℕ) (name : Name) (e : End) (x : Slot) → isClash (fireAt us rank name e x .effect) ≡ false
 unfolding fireAt
-fire-calm us name e Empty = refl
-fire-calm us name e (Waiting q) = refl
-fire-calm us name e (Held No) = refl
-fire-calm us name e (Held (Due due k)) = refl
+fire-calm us rank name e Empty = refl
+fire-calm us rank name e (Waiting q x) = byCond (λ (r : Step). isClash (r .effect) ≡ false) (eqb rank expressRank) (λ _. refl) (λ _. refl)
+fire-calm us rank name e (Held No) = refl
+fire-calm us rank name e (Held (Due due k)) = refl
 
 fired-calm : (us : List ℕ) (e : End) (x : Earliest) → isClash (fired us e x .effect) ≡ false
 unfolding fired
 fired-calm us e NoWait = refl
-fired-calm us e (First w) = fire-calm us (w .name) e _
+fired-calm us e (First w) = fire-calm us (w .rank) (w .name) e _
 
 other-calm : (us : List ℕ) (o : Other) (e : End) → isClash (otherOf us o e .effect) ≡ false
 other-calm us Fire e = fired-calm us e (earliest e 8)
@@ -103,6 +103,7 @@ module _ (us : List ℕ) (says : Says) (m : Meaning) (e : End) (member : isMembe
     cc,
     ap (withSources e) (set-getD (e .sources) (messageName m .source .0) noSource),
   )
+  decided Expresses g = never e m _ refl
 
   word-clashed : Clashed e m (wordStep us says m e)
   unfolding stepAt
@@ -118,7 +119,8 @@ message-clashed us m e member another =
     byCond (Clashed e m) (eqb (m .kind) DATA) (λ k. word-clashed us Data m e member another (λ _. rw k))
     (λ d. byCond (Clashed e m) (eqb (m .kind) RQST) (λ k. word-clashed us Rqst m e member another (λ q. clash q))
     (λ _. byCond (Clashed e m) (eqb (m .kind) REPL) (λ k. word-clashed us Repl m e member another (λ _. rw (d, k)))
-    (λ _. never e m _ refl)))
+    (λ _. byCond (Clashed e m) (eqb (m .kind) XPRS) (λ k. word-clashed us Xprs m e member another (λ q. clash q))
+    (λ _. never e m _ refl))))
 
 arrival-clashed : (us : List ℕ) (m : Meaning) (e : End) → Clashed e m (ifMember e (arrivalOf us m e))
 unfolding arrivalOf

@@ -28,7 +28,7 @@ pub record Facts (e : End) : Type 0 where
   pub names : (s : ℕ) → s < 8 → length (getD (e .sources) s noSource .names) ≡ 64
   pub spans : (s : ℕ) → s < 8 → SpanIn (getD (e .sources) s noSource .span)
   pub records : (s n : ℕ) → s < 8 → within (getD (e .sources) s noSource .span) n ≡ true
-      → recordSound (e .host) (asHost s) (getD (e .sources) s noSource .span) n (rawAt (getD (e .sources) s noSource .names) n) ≡ true
+      → recordSound (e .host) (asHost s) (getD (e .sources) s noSource .pair) (getD (e .sources) s noSource .span) n (rawAt (getD (e .sources) s noSource .names) n) ≡ true
   pub aside : isMember (e .status) ≡ false → (s : ℕ) → s < 8 → getD (e .sources) s noSource .span ≡ Closed
 
 pub last-in : (own : Bool) (next missed : ℕ) (x : Span) → allOf (spanTests own next missed x) ≡ true → SpanIn x

@@ -25,6 +25,7 @@ pub ready : (e : End) (t : ℕ) → soundOf e ≡ true → t < 281474976710656 �
 unfolding soundOf
 ready e t h l = record {
   params = nth (soundTests e) 2 h;
+  express = leb-true (e .params .express) 1000 (nth (soundTests e) 6 h);
   clock = l;
   distances = λ k hk.
       let s = getD (e .sources) k noSource in
@@ -43,6 +44,7 @@ ranges e r h l =
       d1 = leb-true (e .params .d1) 32 (p 3);
       d2 = leb-true (e .params .d2) 32 (p 4);
       d3 = leb-true (e .params .d3) 32 (p 5);
+      express = r .express;
       clock = r .clock;
       distance = r .distances (h .0) l;
     }

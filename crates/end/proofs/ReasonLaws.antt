@@ -9,7 +9,7 @@ use lib.ListN.{length, getD}
 use lib.Dec.{eqb, leb}
 use borrow.Author.Tests.{le-leb, eq-eqb, eqb-true}
 use Rattle.message.specs.Limit.{roomNeeded}
-use Rattle.message.specs.Message.{Meaning, DATA, RQST, REPL, Datagram, Probe, Saying, datagramFrom}
+use Rattle.message.specs.Message.{Meaning, DATA, RQST, REPL, XPRS, Datagram, Probe, Saying, datagramFrom}
 use Rattle.message.specs.Question.{sameHost}
 use Rattle.end.specs.declared.Slot.{Slot}
 use Rattle.end.specs.declared.Slot.the-variants.{Empty, Held, Waiting}
@@ -18,14 +18,15 @@ use Rattle.end.specs.declared.Record.{Record}
 use Rattle.end.specs.declared.Span.{Span}
 use Rattle.end.specs.declared.Span.the-variants.{Closed}
 use Rattle.end.specs.declared.Says.{Says}
-use Rattle.end.specs.declared.Says.the-variants.{Data, Rqst, Repl}
+use Rattle.end.specs.declared.Says.the-variants.{Data, Rqst, Repl, Xprs}
+use Rattle.end.specs.declared.Moment.{Moment}
 use Rattle.end.specs.declared.Word.{Word}
 use Rattle.end.specs.declared.Reason.{Reason}
 use Rattle.end.specs.declared.Reason.the-variants.{Crashed, WrongStatus, OwnMessage, NotOpen, BelowFirst, OwnAboveLast, AlreadyHeld, ReplyWaiting, ReplyQuiet, RequestQuiet}
 use Rattle.end.specs.declared.Why.{Why}
 use Rattle.end.specs.declared.Why.the-variants as why
 use Rattle.end.specs.declared.Decision.{Decision}
-use Rattle.end.specs.declared.Decision.the-variants.{Ignores, Opens, Takes, Repairs, Hushes, Replies, Learns, BacksOff, Clashes}
+use Rattle.end.specs.declared.Decision.the-variants.{Ignores, Opens, Takes, Repairs, Hushes, Replies, Learns, BacksOff, Clashes, Expresses}
 use Rattle.end.specs.declared.Earliest.{Earliest}
 use Rattle.end.specs.declared.Earliest.the-variants.{NoWait, First}
 use Rattle.end.specs.declared.Source.{Source}
@@ -40,7 +41,7 @@ use Rattle.end.specs.Decide.{number, known, decide, effectOf, stepAt}
 use Rattle.end.specs.Reasons.{nameReasons, reasons, firstThat, reasonOf}
 use Rattle.end.specs.Session.{sessionOf}
 use Rattle.end.specs.Arrival.{wordOf, namedIn, messageStep, arrivalOf}
-use Rattle.end.specs.Fire.{fireAt, fired, earliest}
+use Rattle.end.specs.Fire.{expressRank, fireAt, fired, earliest}
 use Rattle.end.specs.Event.{Other, Fire, Report, Action, Moves, Send, Arrival, Else, moves, moveOf, otherOf, hearingOf, actOf, stepOf, questionOf, eventOf}
 use Rattle.end.specs.Why.{wrongStatus, isOwn, ownMessage, namedOf, namedBy, holdsOf, reasonHolds, refusedAs, because, whyOf, reasonNumber, isIgnored, ReasonIsFirst, NoneHolds, NumberExactly, ReasonExactly, NoneExactly}
 use Rattle.end.proofs.Tools.{byCond, byTest, clash, clash′}
@@ -145,17 +146,18 @@ Foretells (why.Because reason) o = o ≡ Did Ignored
 Foretells why.NoReason o = (x : Effect) × (o ≡ Did x) × (isIgnored x ≡ false)
 
 -- a decision is ignored where it has a reason
-decided : (w : Word) (d : Decision) → Foretells (because (reasonOf d)) (Did (effectOf w d))
+decided : (t : Moment) (w : Word) (r : Record) (d : Decision) → Foretells (because (reasonOf d)) (Did (effectOf t w r d))
 unfolding effectOf
-decided w (Ignores reason) = refl
-decided w Opens = (_, refl, refl)
-decided w Takes = (_, refl, refl)
-decided w Repairs = (_, refl, refl)
-decided w Hushes = (_, refl, refl)
-decided w Replies = (_, refl, refl)
-decided w Learns = (_, refl, refl)
-decided w (BacksOff k) = (_, refl, refl)
-decided w Clashes = (_, refl, refl)
+decided t w r (Ignores reason) = refl
+decided t w r Opens = (_, refl, refl)
+decided t w r Takes = (_, refl, refl)
+decided t w r Repairs = (_, refl, refl)
+decided t w r Hushes = (_, refl, refl)
+decided t w r Replies = (_, refl, refl)
+decided t w r Learns = (_, refl, refl)
+decided t w r (BacksOff k) = (_, refl, refl)
+decided t w r Clashes = (_, refl, refl)
+decided t w r Expresses = (_, refl, refl)
 
 -- the reasons from the fourth on, by what is said of a name
 abbrev pub later : End → Option Word → Option Reason
@@ -173,14 +175,15 @@ later-decided e w =
 module _ (us : List ℕ) (m : Meaning) (e : End) where
   about : (says : Says) → Foretells (because (later e (some (wordOf says m e)))) (Did (stepAt (momentOf e) us (wordOf says m e) e .effect))
   unfolding stepAt
-  about says = rw (later-decided e (wordOf says m e)) (decided (wordOf says m e) (decide (momentOf e) (wordOf says m e) (sourceAt e (wordOf says m e .name .source))))
+  about says = rw (later-decided e (wordOf says m e)) (decided (momentOf e) (wordOf says m e) _ (decide (momentOf e) (wordOf says m e) (sourceAt e (wordOf says m e .name .source))))
 
   message-told : Foretells (because (later e (namedIn m e))) (Did (messageStep us m e .effect))
   unfolding messageStep sessionOf
   message-told = byTest (eqb (m .kind) DATA) (λ d. rw d (about Data))
       (λ d. byTest (eqb (m .kind) RQST) (λ r. rw (d, r) (about Rqst))
       (λ r. byTest (eqb (m .kind) REPL) (λ p. rw (d, r, p) (about Repl))
-      (λ p. rw (d, r, p) (_, refl, refl))))
+      (λ p. byTest (eqb (m .kind) XPRS) (λ x. rw (d, r, p, x) (about Xprs))
+      (λ x. rw (d, r, p, x) (_, refl, refl)))))
 
   arrival-told : Foretells (because (cond (sameHost (m .sender) (e .host)) (some OwnMessage) (later e (namedIn m e)))) (Did (arrivalOf us m e .effect))
   unfolding arrivalOf
@@ -198,9 +201,9 @@ unfolding fired fireAt
 fire-at us e NoWait = refl
 fire-at us e (First w) = go (recordAt (sourceAt e (w .name .source)) (w .name .number .0) .slot)
   where
-    go : (slot : Slot) → isIgnored (fireAt us (w .name) e slot .effect) ≡ false
+    go : (slot : Slot) → isIgnored (fireAt us (w .rank) (w .name) e slot .effect) ≡ false
     go Empty = refl
-    go (Waiting q) = refl
+    go (Waiting q x) = byCond (λ (r : Step). isIgnored (r .effect) ≡ false) (eqb (w .rank) expressRank) (λ _. refl) (λ _. refl)
     go (Held No) = refl
     go (Held (Due due requester)) = refl
 

@@ -16,6 +16,7 @@ use Rattle.message.proofs.QuestionLaws.{and-both}
 use Rattle.end.specs.declared.Slot.{Slot}
 use Rattle.end.specs.declared.Slot.the-variants.{Empty, Held, Waiting}
 use Rattle.end.specs.declared.Record.{Record}
+use Rattle.end.specs.declared.Pair.{Pair}
 use Rattle.end.specs.declared.Span.{Span}
 use Rattle.end.specs.declared.Span.the-variants.{Closed, Open}
 use Rattle.end.specs.declared.Source.{Source}
@@ -80,12 +81,12 @@ module _ (e : End) (h : Host) (s : Source) (sound : sourceSound (e .host) (e .ne
   names-length = eqb-true (length (s .names)) 64 (nth (sourceTests (e .host) (e .next) (e .clock) (isMember (e .status)) h s) 0 sound)
 
   -- of each of the 64 numbers from first on
-  pub record-sound : (n : ℕ) → start (s .span) ≤ n → n < start (s .span) + 64 → recordSound (e .host) h (s .span) n (rawAt (s .names) n) ≡ true
+  pub record-sound : (n : ℕ) → start (s .span) ≤ n → n < start (s .span) + 64 → recordSound (e .host) h (s .pair) (s .span) n (rawAt (s .names) n) ≡ true
   record-sound n a b =
       let low = start (s .span) in
       let i : low + (n - low) ≡ n = omega arith in
-      subst (λ (m : ℕ). recordSound (e .host) h (s .span) m (rawAt (s .names) m) ≡ true) i
-      (all-at (λ i. recordSound (e .host) h (s .span) (low + i) (rawAt (s .names) (low + i))) 64 (n - low)
+      subst (λ (m : ℕ). recordSound (e .host) h (s .pair) (s .span) m (rawAt (s .names) m) ≡ true) i
+      (all-at (λ i. recordSound (e .host) h (s .pair) (s .span) (low + i) (rawAt (s .names) (low + i))) 64 (n - low)
       (nth (sourceTests (e .host) (e .next) (e .clock) (isMember (e .status)) h s) 5 sound) (omega arith))
 
   closed-is : (x : Span) → isClosed x ≡ true → x ≡ Closed
@@ -103,12 +104,12 @@ module _ (e : End) (h : Host) (s : Source) (sound : sourceSound (e .host) (e .ne
       alone false p q = q
 
 -- ---- one name
-module _ (me source : Host) (span : Span) (n : ℕ) (r : Record) (sound : recordSound me source span n r ≡ true) where
-  inside : within span n ≡ true → insideSound me source r (r .slot) ≡ true
-  inside w = sym (ap (λ (t : Bool). cond t (insideSound me source r (r .slot)) (outsideSound r (r .slot))) w) ∙ sound
+module _ (me source : Host) (pair : Pair) (span : Span) (n : ℕ) (r : Record) (sound : recordSound me source pair span n r ≡ true) where
+  inside : within span n ≡ true → insideSound me source pair r (r .slot) ≡ true
+  inside w = sym (ap (λ (t : Bool). cond t (insideSound me source pair r (r .slot)) (outsideSound r (r .slot))) w) ∙ sound
 
   outside : within span n ≡ false → outsideSound r (r .slot) ≡ true
-  outside w = sym (ap (λ (t : Bool). cond t (insideSound me source r (r .slot)) (outsideSound r (r .slot))) w) ∙ sound
+  outside w = sym (ap (λ (t : Bool). cond t (insideSound me source pair r (r .slot)) (outsideSound r (r .slot))) w) ∙ sound
 
   -- outside first..last nothing is held
   pub outside-not-held : within span n ≡ false → isHeld (r .slot) ≡ false
@@ -117,25 +118,25 @@ module _ (me source : Host) (span : Span) (n : ℕ) (r : Record) (sound : record
       go : (x : Slot) → outsideSound r x ≡ true → isHeld x ≡ false
       go Empty p = refl
       go (Held reply) p = absurd (true≢false (sym p))
-      go (Waiting q) p = refl
+      go (Waiting q x) p = refl
 
   -- inside, own names are held
   pub own-held : within span n ≡ true → sameHost source me ≡ true → isHeld (r .slot) ≡ true
   own-held w same = go (r .slot) (inside w)
     where
-      go : (x : Slot) → insideSound me source r x ≡ true → isHeld x ≡ true
+      go : (x : Slot) → insideSound me source pair r x ≡ true → isHeld x ≡ true
       go Empty p = p
       go (Held reply) p = refl
-      go (Waiting q) p = absurd (true≢false (sym (and-both (not (sameHost source me)) _ p .0) ∙ ap not same))
+      go (Waiting q x) p = absurd (true≢false (sym (and-both (not (sameHost source me)) _ p .0) ∙ ap not same))
 
   -- a held cue is 24 bytes, with its fields in range
   pub held-cue : isHeld (r .slot) ≡ true → (length (r .cue) ≡ 24) × (cueIn (r .cue) ≡ true)
   held-cue p = go (within span n) refl
     where
-      held : (x : Slot) → insideSound me source r x ≡ true → isHeld x ≡ true → (length (r .cue) ≡ 24) × (cueIn (r .cue) ≡ true)
+      held : (x : Slot) → insideSound me source pair r x ≡ true → isHeld x ≡ true → (length (r .cue) ≡ 24) × (cueIn (r .cue) ≡ true)
       held Empty q h = absurd (true≢false (sym q))
       held (Held reply) q h = (eqb-true (length (r .cue)) 24 (nth (heldTests me source r reply) 0 q), nth (heldTests me source r reply) 1 q)
-      held (Waiting w) q h = absurd (true≢false (sym h))
+      held (Waiting w x) q h = absurd (true≢false (sym h))
 
       go : (t : Bool) → within span n ≡ t → (length (r .cue) ≡ 24) × (cueIn (r .cue) ≡ true)
       go true w = held (r .slot) (inside w) p

@@ -8,10 +8,10 @@ use lib.Dec.{eqb}
 use Rattle.message.specs.declared.Host.{Host}
 use Rattle.message.specs.declared.Name.{Name}
 use Rattle.message.specs.Entry.{blankName, blankCue}
-use Rattle.message.specs.Message.{DATA, RQST, REPL, Meaning}
+use Rattle.message.specs.Message.{DATA, RQST, REPL, XPRS, Meaning}
 use Rattle.message.specs.Question.{sameHost}
 use Rattle.end.specs.declared.Says.{Says}
-use Rattle.end.specs.declared.Says.the-variants.{Data, Rqst, Repl}
+use Rattle.end.specs.declared.Says.the-variants.{Data, Rqst, Repl, Xprs}
 use Rattle.end.specs.declared.Word.{Word}
 use Rattle.end.specs.declared.End.{End}
 use Rattle.end.specs.State.{distanceTo, momentOf}
@@ -29,16 +29,19 @@ messageHost m = getD (m .names) 0 blankName .host
 abbrev pub messageCue : Meaning → List ℕ
 messageCue m = getD (m .cues) 0 blankCue
 
--- who asked: of a RQST its sender, of a REPL the host in its name; a DATA has no requester, and no rule reads this of it
+-- who asked: of a RQST or XPRS its sender, of a REPL the host in its name; a DATA has no requester, and no rule reads this of it
 abbrev pub requesterIn : Says → Meaning → Host
 requesterIn Data m = m .sender
 requesterIn Rqst m = m .sender
 requesterIn Repl m = messageHost m
+requesterIn Xprs m = m .sender
 
 abbrev pub wordOf : Says → Meaning → End → Word
 wordOf says m e = record {
   says = says;
   name = messageName m;
+  host = messageHost m;
+  sender = m .sender;
   requester = requesterIn says m;
   distance = distanceTo e (requesterIn says m);
   cue = messageCue m;
@@ -50,7 +53,8 @@ namedIn m e =
     cond (eqb (m .kind) DATA) (some (wordOf Data m e))
     (cond (eqb (m .kind) RQST) (some (wordOf Rqst m e))
     (cond (eqb (m .kind) REPL) (some (wordOf Repl m e))
-    none))
+    (cond (eqb (m .kind) XPRS) (some (wordOf Xprs m e))
+    none)))
 
 -- ---- a message by its kind, at the moment of the end's clock
 abbrev pub wordStep : List ℕ → Says → Meaning → End → Step
@@ -61,7 +65,8 @@ messageStep us m e =
     cond (eqb (m .kind) DATA) (wordStep us Data m e)
     (cond (eqb (m .kind) RQST) (wordStep us Rqst m e)
     (cond (eqb (m .kind) REPL) (wordStep us Repl m e)
-    (sessionOf (momentOf e) us m e)))
+    (cond (eqb (m .kind) XPRS) (wordStep us Xprs m e)
+    (sessionOf (momentOf e) us m e))))
 
 -- "an arrival whose sender is oneself: Ignored"
 unfoldable pub arrivalOf : List ℕ → Meaning → End → Step

@@ -9,7 +9,7 @@ use lib.ListN.{length, getD, getElem?}
 use lib.Dec.{leb, eqb}
 use Rattle.message.specs.declared.Report.{Report}
 use Rattle.message.specs.Entry.{asHost, asNumber}
-use Rattle.message.specs.Message.{DATA, RQST, REPL, SESS, Meaning, Datagram, Probe, Saying, datagramFrom}
+use Rattle.message.specs.Message.{DATA, RQST, REPL, SESS, XPRS, Meaning, Datagram, Probe, Saying, datagramFrom}
 use Rattle.message.specs.Question.{readRefusal}
 use Rattle.end.specs.declared.Status.{Status}
 use Rattle.end.specs.declared.Status.the-variants.{Idle}
@@ -58,7 +58,8 @@ source m = messageName m .source .0
 abbrev pub number : Meaning → ℕ
 number m = messageName m .number .0
 
--- ---- the numbers that a message brings of a source: the number in the name of a DATA, RQST or REPL, the reported last ones of a SESS
+-- ---- the numbers that a message brings of a source: the number in the name of a DATA, RQST or REPL, and of "what later counts as RQST", an
+-- XPRS; the reported last ones of a SESS
 
 -- after a number: "the highest number L", once there is one
 unfoldable pub raisedTo : ℕ → Option ℕ → Option ℕ
@@ -70,7 +71,7 @@ reportedTo s [] top = top
 reportedTo s (r ∷ rs) top = reportedTo s rs (cond (eqb (r .source .0) s) (raisedTo (r .last .0) top) top)
 
 abbrev pub isAboutName : Meaning → Bool
-isAboutName m = isOriginal m || (eqb (m .kind) RQST || isRepair m)
+isAboutName m = isOriginal m || (eqb (m .kind) RQST || (isRepair m || eqb (m .kind) XPRS))
 
 unfoldable pub broughtTo : Meaning → ℕ → Option ℕ → Option ℕ
 broughtTo m s top =

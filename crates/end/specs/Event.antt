@@ -89,7 +89,7 @@ movesTo Left = Idle
 movesTo Crash = Crashed
 
 -- "Leave and Crash clear firsts, names and heard stamps and set distances to others to 40. The next own number stays." The count of the
--- numbers missed goes with its first: "0 without one" (document 02, P7)
+-- numbers missed goes with its first: "0 without one" (document 02, P7); and so does the kept pair: "until Leave or Crash" (P8)
 abbrev pub cleared : End → Status → End
 cleared e status = withSources (withStatus e status) (unheardSources (e .host .0))
 

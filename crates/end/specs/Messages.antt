@@ -8,7 +8,7 @@ use Rattle.message.specs.declared.Name.{Name}
 use Rattle.message.specs.declared.Report.{Report}
 use Rattle.message.specs.declared.Echo.{Echo}
 use Rattle.message.specs.Entry.{asHost}
-use Rattle.message.specs.Message.{DATA, RQST, REPL, SESS, Meaning}
+use Rattle.message.specs.Message.{DATA, RQST, REPL, SESS, XPRS, Meaning}
 use Rattle.end.specs.declared.Span.{Span}
 use Rattle.end.specs.declared.Span.the-variants.{Closed, Open}
 use Rattle.end.specs.declared.Heard.{Heard}
@@ -34,6 +34,10 @@ dataMessage t name cue = aboutName DATA t name (t .me) (cue ∷ [])
 
 abbrev pub requestMessage : Moment → Name → Meaning
 requestMessage t name = aboutName RQST t name (t .me) []
+
+-- document 02, P8: "goes out as kind 21, laid out as kind 18, with the sender then kept as host"
+abbrev pub expressMessage : Moment → Name → Host → Meaning
+expressMessage t name host = aboutName XPRS t name host []
 
 abbrev pub repairMessage : Moment → Name → Host → List ℕ → Meaning
 repairMessage t name requester cue = aboutName REPL t name requester (cue ∷ [])

@@ -1,12 +1,20 @@
--- What happens to the records of a source: a round is set, last rises, a cue is held, a reply is set or goes. Each changes only
--- what it says; a number that comes into first..last gets a record of its own. Document 01, "Events"; document 02, P7.
+-- What happens to the records of a source: a round is set, last rises, a cue is held, a reply or an express wait is set or goes; and to its
+-- kept pair. Each changes only what it says; a number that comes into first..last gets a record of its own. Document 01, "Events"; document
+-- 02, P7 and P8.
 use Prim.Native.Nat.{ℕ, zero, suc, _+_, _-_, min, max}
-use mathlib.Core.Bool.{Bool, cond}
+use mathlib.Core.Bool.{Bool, false, cond}
 use mathlib.Core.List.{List}
 use lib.ListN.{set}
+use lib.Dec.{leb}
 use Rattle.message.specs.declared.Host.{Host}
+use Rattle.message.specs.declared.CueNumber.{CueNumber}
 use Rattle.message.specs.Entry.{asNumber}
+use Rattle.message.specs.Question.{sameHost}
 use Rattle.end.specs.declared.Request.{Request}
+use Rattle.end.specs.declared.Express.{Express}
+use Rattle.end.specs.declared.Express.the-variants.{Unset, Soon}
+use Rattle.end.specs.declared.Pair.{Pair}
+use Rattle.end.specs.declared.Pair.the-variants.{NoPair, Kept}
 use Rattle.end.specs.declared.Slot.the-variants.{Held, Waiting}
 use Rattle.end.specs.declared.Reply.the-variants.{No, Due}
 use Rattle.end.specs.declared.Record.{Record}
@@ -14,15 +22,19 @@ use Rattle.end.specs.declared.Span.{Span}
 use Rattle.end.specs.declared.Span.the-variants.{Closed, Open}
 use Rattle.end.specs.declared.Source.{Source}
 use Rattle.end.specs.declared.Moment.{Moment}
-use Rattle.end.specs.State.{blankRecord, withSpan, withMissed, withNames}
-use Rattle.end.specs.Records.{place, recordAt, isHeld, withRecord, withReply}
+use Rattle.end.specs.State.{blankRecord, withSpan, withMissed, withPair, withNames}
+use Rattle.end.specs.Records.{place, recordAt, isHeld, withRecord, withReply, expressIn, withExpress}
 use Rattle.end.specs.Round.{requestAt, replyDue, quietAfterReply}
 
 -- ---- one record
 
--- a request waits for the name
+-- a request waits for the name; an express wait that stands beside one stays beside its next round
 abbrev pub asking : Record → Request → Record
-asking r q = record { slot = Waiting q; cue = r .cue; hush = r .hush }
+asking r q = record { slot = Waiting q (expressIn (r .slot)); cue = r .cue; hush = r .hush }
+
+-- an express wait is set beside the request, or dropped
+abbrev pub expressed : Express → Record → Record
+expressed x r = record { slot = withExpress x (r .slot); cue = r .cue; hush = r .hush }
 
 -- "hold it, drop its request"
 abbrev pub holding : Record → List ℕ → Record
@@ -51,6 +63,24 @@ setReply t us n d requester s = withRecord s n (replying (recordAt s n) (replyDu
 abbrev pub quietReply : Moment → ℕ → ℕ → Source → Source
 quietReply t n d s = withRecord s n (quieted (recordAt s n) (quietAfterReply t d))
 
+-- an express wait goes: "Fired, it is dropped" (document 02, P8)
+abbrev pub dropExpress : ℕ → Source → Source
+dropExpress n s = withRecord s n (expressed Unset (recordAt s n))
+
+-- ---- the kept pair. Document 02, P8: "Per source an end keeps, until Leave or Crash, the requester and sender of the latest REPL answered
+-- Got or Done that named a number at least as high as the kept one's."
+abbrev pub latest : Pair → Host → Host → CueNumber → Pair
+latest NoPair requester sender n = Kept requester sender n
+latest (Kept r s k) requester sender n = cond (leb (k .0) (n .0)) (Kept requester sender n) (Kept r s k)
+
+abbrev pub keepPair : Host → Host → CueNumber → Source → Source
+keepPair requester sender n s = withPair s (latest (s .pair) requester sender n)
+
+-- "is that requester"
+abbrev pub isRequester : Host → Pair → Bool
+isRequester me NoPair = false
+isRequester me (Kept requester sender n) = sameHost requester me
+
 -- ---- last rises. Document 02, P7: "when last rises to L, numbers below L−63 are retired with their waits, first becomes the greater of
 -- itself and L−63, and the freed places serve the new numbers. .. Per source the end counts the numbers retired without a cue since joining,
 -- those passed over in one rise included"
@@ -58,6 +88,11 @@ quietReply t n d s = withRecord s n (quieted (recordAt s n) (quietAfterReply t d
 -- a new number is asked for in round 1, and has nothing of what stood in its place
 abbrev pub asked : Moment → List ℕ → ℕ → ℕ → Record
 asked t us d n = asking blankRecord (requestAt t us d n 1)
+
+-- "A member that sets round 1 by a gap before a DATA, not a REPL, and is that requester also sets an express wait, due E ticks on." (P8)
+abbrev pub askedByData : Moment → List ℕ → Source → ℕ → Record
+askedByData t us s n =
+    expressed (cond (isRequester (t .me) (s .pair)) (Soon (t .clock + t .params .express)) Unset) (asked t us (s .distance) n)
 
 -- the k numbers from n on are new, each with its record
 unfoldable pub filled : (ℕ → Record) → ℕ → ℕ → List Record → List Record
@@ -98,6 +133,9 @@ riseWith new n s (Open first last) = raised new (first .0) (last .0) (firstAfter
 
 abbrev pub rise : Moment → List ℕ → ℕ → Source → Span → Source
 rise t us n s x = riseWith (asked t us (s .distance)) n s x
+
+abbrev pub riseByData : Moment → List ℕ → ℕ → Source → Span → Source
+riseByData t us n s x = riseWith (askedByData t us s) n s x
 
 -- a source with no first: "first = last = the number"
 abbrev pub openAt : ℕ → Source → Source

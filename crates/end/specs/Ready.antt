@@ -23,12 +23,14 @@ pub record Ranges (t : Moment) (d : ℕ) : Type 0 where
   pub d1 : t .params .d1 ≤ 32
   pub d2 : t .params .d2 ≤ 32
   pub d3 : t .params .d3 ≤ 32
+  pub express : t .params .express ≤ 1000
   pub clock : t .clock < ticksLimit
   pub distance : d ≤ 1000
 
 -- parameters, clock and distances in range
 pub record Ready (e : End) : Type 0 where
   pub params : allOf (paramsTests (e .params)) ≡ true
+  pub express : e .params .express ≤ 1000
   pub clock : e .clock < ticksLimit
   pub distances : (h : ℕ) → h < 8 → distanceTo e (asHost h) ≤ 1000
 

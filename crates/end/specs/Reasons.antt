@@ -14,30 +14,39 @@ use Rattle.end.specs.declared.Span.{Span}
 use Rattle.end.specs.declared.Span.the-variants.{Closed}
 use Rattle.end.specs.declared.Moment.{Moment}
 use Rattle.end.specs.declared.Says.{Says}
-use Rattle.end.specs.declared.Says.the-variants.{Data, Rqst, Repl}
+use Rattle.end.specs.declared.Says.the-variants.{Data, Rqst, Repl, Xprs}
 use Rattle.end.specs.declared.Word.{Word}
 use Rattle.end.specs.declared.Reason.{Reason}
 use Rattle.end.specs.declared.Reason.the-variants.{Crashed, WrongStatus, OwnMessage, NotOpen, BelowFirst, OwnAboveLast, AlreadyHeld, ReplyWaiting, ReplyQuiet, RequestQuiet}
 use Rattle.end.specs.declared.Decision.{Decision}
-use Rattle.end.specs.declared.Decision.the-variants.{Ignores, Opens, Takes, Repairs, Hushes, Replies, Learns, BacksOff, Clashes}
+use Rattle.end.specs.declared.Decision.the-variants.{Ignores, Opens, Takes, Repairs, Hushes, Replies, Learns, BacksOff, Clashes, Expresses}
 use Rattle.end.specs.Records.{isClosed, isBelow, isAbove, isHeld, isNo, replyIn}
-use Rattle.end.specs.Decide.{number, sameCue, decideAs}
+use Rattle.end.specs.Decide.{number, sameCue, atOnce, decideAs}
 
 abbrev pub isData : Says → Bool
 isData Data = true
 isData Rqst = false
 isData Repl = false
+isData Xprs = false
 
 abbrev pub isRequest : Says → Bool
 isRequest Data = false
 isRequest Rqst = true
 isRequest Repl = false
+isRequest Xprs = true
+
+-- an XPRS that the named sender answers at once is not ignored (document 02, P8)
+abbrev pub answered : Says → Moment → Word → Record → Bool
+answered Data t w r = false
+answered Rqst t w r = false
+answered Repl t w r = false
+answered Xprs t w r = atOnce t w r
 
 -- the quiet time of the request is not over; in a sound state a name up to last that is not held has one
 abbrev pub isQuiet : ℕ → Slot → Bool
 isQuiet clock Empty = true
 isQuiet clock (Held reply) = true
-isQuiet clock (Waiting q) = leb clock (q .quiet)
+isQuiet clock (Waiting q x) = leb clock (q .quiet)
 
 -- ---- the reasons that lie in the name's source, each a sentence about what the reader has of the name: `x` is first and last of its
 -- source, `r` its record
@@ -59,8 +68,8 @@ abbrev pub alreadyHeld : Says → Word → Record → Bool
 alreadyHeld says w r = isData says && (isHeld (r .slot) && sameCue (w .cue) (r .cue))
 
 -- "reply waiting, then reply-quiet (RQST of a held cue)"
-abbrev pub replyWaiting : Says → Record → Bool
-replyWaiting says r = isRequest says && (isHeld (r .slot) && not (isNo (replyIn (r .slot))))
+abbrev pub replyWaiting : Says → Moment → Word → Record → Bool
+replyWaiting says t w r = isRequest says && (not (answered says t w r) && (isHeld (r .slot) && not (isNo (replyIn (r .slot)))))
 
 abbrev pub replyQuiet : Says → Moment → Record → Bool
 replyQuiet says t r = isRequest says && (isHeld (r .slot) && ltb (t .clock) (r .hush))
@@ -78,7 +87,7 @@ holds says t w r x NotOpen = sourceNotOpen says x
 holds says t w r x BelowFirst = belowFirst w x
 holds says t w r x OwnAboveLast = ownNumberAboveLast says t w x
 holds says t w r x AlreadyHeld = alreadyHeld says w r
-holds says t w r x ReplyWaiting = replyWaiting says r
+holds says t w r x ReplyWaiting = replyWaiting says t w r
 holds says t w r x ReplyQuiet = replyQuiet says t r
 holds says t w r x RequestQuiet = requestQuiet says t w r x
 
@@ -104,6 +113,7 @@ reasonOf Replies = none
 reasonOf Learns = none
 reasonOf (BacksOff k) = none
 reasonOf Clashes = none
+reasonOf Expresses = none
 
 -- In a sound state a closed source holds nothing.
 abbrev pub IgnoredForTheFirstReason : Type 0

@@ -9,6 +9,8 @@ use lib.ListN.{getD, set}
 use lib.Dec.{ltb, leb}
 use Rattle.end.specs.declared.Slot.{Slot}
 use Rattle.end.specs.declared.Slot.the-variants.{Empty, Held, Waiting}
+use Rattle.end.specs.declared.Express.{Express}
+use Rattle.end.specs.declared.Express.the-variants.{Unset, Soon}
 use Rattle.end.specs.declared.Reply.{Reply}
 use Rattle.end.specs.declared.Reply.the-variants.{No, Due}
 use Rattle.end.specs.declared.Record.{Record}
@@ -67,7 +69,7 @@ withRecord s n r = withNames s (set (s .names) (place n) r)
 abbrev pub isHeld : Slot → Bool
 isHeld Empty = false
 isHeld (Held reply) = true
-isHeld (Waiting q) = false
+isHeld (Waiting q x) = false
 
 abbrev pub isNo : Reply → Bool
 isNo No = true
@@ -77,10 +79,21 @@ isNo (Due due requester) = false
 abbrev pub replyIn : Slot → Reply
 replyIn Empty = No
 replyIn (Held reply) = reply
-replyIn (Waiting q) = No
+replyIn (Waiting q x) = No
 
 -- the slot of a held cue with this reply; beside anything else there is none
 abbrev pub withReply : Reply → Slot → Slot
 withReply reply Empty = Empty
 withReply reply (Held was) = Held reply
-withReply reply (Waiting q) = Waiting q
+withReply reply (Waiting q x) = Waiting q x
+
+-- the express wait beside a request
+abbrev pub expressIn : Slot → Express
+expressIn Empty = Unset
+expressIn (Held reply) = Unset
+expressIn (Waiting q x) = x
+
+abbrev pub withExpress : Express → Slot → Slot
+withExpress x Empty = Empty
+withExpress x (Held reply) = Held reply
+withExpress x (Waiting q was) = Waiting q x

@@ -14,6 +14,10 @@ use Rattle.end.specs.declared.Params.{Params}
 use Rattle.end.specs.declared.Request.{Request}
 use Rattle.end.specs.declared.Slot.{Slot}
 use Rattle.end.specs.declared.Slot.the-variants.{Empty, Held, Waiting}
+use Rattle.end.specs.declared.Express.{Express}
+use Rattle.end.specs.declared.Express.the-variants.{Unset, Soon}
+use Rattle.end.specs.declared.Pair.{Pair}
+use Rattle.end.specs.declared.Pair.the-variants.{NoPair, Kept}
 use Rattle.end.specs.declared.Reply.{Reply}
 use Rattle.end.specs.declared.Reply.the-variants.{No, Due}
 use Rattle.end.specs.declared.Record.{Record}
@@ -64,21 +68,30 @@ replyTests me source (Due due requester) = timeIn due ∷ hostIn requester ∷ n
 abbrev pub heldTests : Host → Host → Record → Reply → List Bool
 heldTests me source r reply = eqb (length (r .cue)) 24 ∷ cueIn (r .cue) ∷ allOf (replyTests me source reply) ∷ timeIn (r .hush) ∷ []
 
+abbrev pub isNoPair : Pair → Bool
+isNoPair NoPair = true
+isNoPair (Kept requester sender n) = false
+
+-- document 02, P8: "a sound state has one only beside a request and with a kept pair"; a slot without a request has no place for one
+abbrev pub expressSound : Pair → Express → Bool
+expressSound pair Unset = true
+expressSound pair (Soon due) = timeIn due && not (isNoPair pair)
+
 -- "those inside have a cue or a request, own ones a cue"
-abbrev pub insideSound : Host → Host → Record → Slot → Bool
-insideSound me source r Empty = false
-insideSound me source r (Held reply) = allOf (heldTests me source r reply)
-insideSound me source r (Waiting q) = not (sameHost source me) && (allOf (requestTests q) && timeIn (r .hush))
+abbrev pub insideSound : Host → Host → Pair → Record → Slot → Bool
+insideSound me source pair r Empty = false
+insideSound me source pair r (Held reply) = allOf (heldTests me source r reply)
+insideSound me source pair r (Waiting q x) = not (sameHost source me) && (allOf (requestTests q) && (timeIn (r .hush) && expressSound pair x))
 
 -- "names outside first..last hold nothing and have reply-quiet 0"
 abbrev pub outsideSound : Record → Slot → Bool
 outsideSound r Empty = eqb (r .hush) 0
 outsideSound r (Held reply) = false
-outsideSound r (Waiting q) = false
+outsideSound r (Waiting q x) = false
 
 -- what stands in the place of a number, which is in first..last or not
-abbrev pub recordSound : Host → Host → Span → ℕ → Record → Bool
-recordSound me source span n r = cond (within span n) (insideSound me source r (r .slot)) (outsideSound r (r .slot))
+abbrev pub recordSound : Host → Host → Pair → Span → ℕ → Record → Bool
+recordSound me source pair span n r = cond (within span n) (insideSound me source pair r (r .slot)) (outsideSound r (r .slot))
 
 -- ---- one source
 
@@ -94,6 +107,11 @@ spanTests own next missed (Open first last) =
     ∷ leb missed (first .0)
     ∷ []
 
+-- P8: "a kept pair's sender is always another"
+abbrev pub pairTests : Host → Pair → List Bool
+pairTests me NoPair = []
+pairTests me (Kept requester sender n) = hostIn requester ∷ hostIn sender ∷ not (sameHost sender me) ∷ ltb (n .0) numberLimit ∷ []
+
 -- "A distance .. is 1..1000 whole milliseconds ..; to oneself it is 0."
 abbrev pub distanceSound : Bool → ℕ → Bool
 distanceSound own d = cond own (eqb d 0) (leb 1 d && leb d 1000)
@@ -108,14 +126,14 @@ isNever Never = true
 isNever (At stamp when) = false
 
 -- "a non-member has no first, request, reply or heard stamp, and distances to others at 40": a source with no first has neither
--- request nor reply
+-- request nor reply. P8: "non-members keep none"
 abbrev pub nonMemberTests : Bool → Source → List Bool
-nonMemberTests own s = isClosed (s .span) ∷ isNever (s .heard) ∷ (own || eqb (s .distance) firstDistance) ∷ []
+nonMemberTests own s = isClosed (s .span) ∷ isNever (s .heard) ∷ (own || eqb (s .distance) firstDistance) ∷ isNoPair (s .pair) ∷ []
 
 -- each place is that of one of the 64 numbers from first on, or from 0 where there is no first: those in first..last are inside, the
 -- rest are not
-abbrev pub namesSound : Host → Host → Span → List Record → ℕ → Bool
-namesSound me source span names k = allBelow (λ i. recordSound me source span (start span + i) (rawAt names (start span + i))) k
+abbrev pub namesSound : Host → Host → Pair → Span → List Record → ℕ → Bool
+namesSound me source pair span names k = allBelow (λ i. recordSound me source pair span (start span + i) (rawAt names (start span + i))) k
 
 -- of the end it takes its host, its next number, its clock and whether it is a member
 abbrev pub sourceTests : Host → ℕ → ℕ → Bool → Host → Source → List Bool
@@ -125,7 +143,8 @@ sourceTests me next clock member h s =
     ∷ distanceSound (sameHost h me) (s .distance)
     ∷ allOf (heardTests (sameHost h me) clock (s .heard))
     ∷ (member || allOf (nonMemberTests (sameHost h me) s))
-    ∷ namesSound me h (s .span) (s .names) places
+    ∷ namesSound me h (s .pair) (s .span) (s .names) places
+    ∷ allOf (pairTests me (s .pair))
     ∷ []
 
 abbrev pub sourceSound : Host → ℕ → ℕ → Bool → Host → Source → Bool
@@ -136,6 +155,10 @@ sourceSound me next clock member h s = allOf (sourceTests me next clock member h
 -- "Parameters .. are 0..32 quarters"
 abbrev pub paramsTests : Params → List Bool
 paramsTests p = leb (p .c1) 32 ∷ leb (p .c2) 32 ∷ leb (p .c3) 32 ∷ leb (p .d1) 32 ∷ leb (p .d2) 32 ∷ leb (p .d3) 32 ∷ []
+
+-- P8: "Opening with E above 1000 is refused": E is 0..1000
+abbrev pub delayIn : Params → Bool
+delayIn p = leb (p .express) 1000
 
 abbrev pub sourcesSound : End → ℕ → Bool
 sourcesSound e k = allBelow (λ h. sourceSound (e .host) (e .next) (e .clock) (isMember (e .status)) (asHost h) (getD (e .sources) h noSource)) k
@@ -150,6 +173,7 @@ soundTests e =
     ∷ ticksIn (e .clock)
     ∷ leb (e .next) numberLimit
     ∷ sourcesSound e 8
+    ∷ delayIn (e .params)
     ∷ []
 
 unfoldable pub soundOf : End → Bool

@@ -11,6 +11,8 @@ use Rattle.end.specs.declared.Status.{Status}
 use Rattle.end.specs.declared.Status.the-variants.{Idle, Joining, Member, Leaving, Crashed}
 use Rattle.end.specs.declared.Slot.the-variants.{Empty}
 use Rattle.end.specs.declared.Record.{Record}
+use Rattle.end.specs.declared.Pair.{Pair}
+use Rattle.end.specs.declared.Pair.the-variants.{NoPair}
 use Rattle.end.specs.declared.Span.{Span}
 use Rattle.end.specs.declared.Span.the-variants.{Closed}
 use Rattle.end.specs.declared.Heard.{Heard}
@@ -24,7 +26,7 @@ abbrev pub noRecord : Record
 noRecord = record { slot = Empty; cue = []; hush = 0 }
 
 abbrev pub noSource : Source
-noSource = record { span = Closed; missed = 0; distance = 0; heard = Never; names = [] }
+noSource = record { span = Closed; missed = 0; pair = NoPair; distance = 0; heard = Never; names = [] }
 
 -- ---- a fresh end
 
@@ -44,7 +46,7 @@ abbrev pub firstDistance : ℕ
 firstDistance = 40
 
 abbrev pub unheard : ℕ → Source
-unheard distance = record { span = Closed; missed = 0; distance = distance; heard = Never; names = blankNames }
+unheard distance = record { span = Closed; missed = 0; pair = NoPair; distance = distance; heard = Never; names = blankNames }
 
 -- the eight sources of which nothing is kept: 0 to oneself, 40 to the others
 abbrev pub unheardSources : ℕ → List Source
@@ -80,19 +82,22 @@ momentOf e = record { me = e .host; params = e .params; clock = e .clock }
 
 -- ---- changing a part of a source
 abbrev pub withSpan : Source → Span → Source
-withSpan s span = record { span = span; missed = s .missed; distance = s .distance; heard = s .heard; names = s .names }
+withSpan s span = record { span = span; missed = s .missed; pair = s .pair; distance = s .distance; heard = s .heard; names = s .names }
 
 abbrev pub withMissed : Source → ℕ → Source
-withMissed s missed = record { span = s .span; missed = missed; distance = s .distance; heard = s .heard; names = s .names }
+withMissed s missed = record { span = s .span; missed = missed; pair = s .pair; distance = s .distance; heard = s .heard; names = s .names }
+
+abbrev pub withPair : Source → Pair → Source
+withPair s pair = record { span = s .span; missed = s .missed; pair = pair; distance = s .distance; heard = s .heard; names = s .names }
 
 abbrev pub withDistance : Source → ℕ → Source
-withDistance s distance = record { span = s .span; missed = s .missed; distance = distance; heard = s .heard; names = s .names }
+withDistance s distance = record { span = s .span; missed = s .missed; pair = s .pair; distance = distance; heard = s .heard; names = s .names }
 
 abbrev pub withHeard : Source → Heard → Source
-withHeard s heard = record { span = s .span; missed = s .missed; distance = s .distance; heard = heard; names = s .names }
+withHeard s heard = record { span = s .span; missed = s .missed; pair = s .pair; distance = s .distance; heard = heard; names = s .names }
 
 abbrev pub withNames : Source → List Record → Source
-withNames s names = record { span = s .span; missed = s .missed; distance = s .distance; heard = s .heard; names = names }
+withNames s names = record { span = s .span; missed = s .missed; pair = s .pair; distance = s .distance; heard = s .heard; names = names }
 
 -- ---- changing a part of an end
 abbrev pub withClock : End → ℕ → End

@@ -47,7 +47,7 @@ ownMessage (Send cue) me = false
 ownMessage (Arrival bytes) me = isOwn (datagramFrom bytes) me
 ownMessage (Else o) me = false
 
--- what an event says about a name: only an arrival of a DATA, RQST or REPL does
+-- what an event says about a name: only an arrival of a DATA, RQST, REPL or XPRS does
 abbrev pub namedOf : Datagram Meaning → End → Option Word
 namedOf Probe e = none
 namedOf (Saying m) e = namedIn m e

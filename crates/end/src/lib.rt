@@ -21,7 +21,8 @@ pub const NUMBERS: u32 = 65536;
 // "due and quiet times are below 2^48+2^32"
 pub const TIME_LIMIT: u64 = 281479271677952;
 
-// C1, C2, C3 time a request and its quiet time, D1, D2, D3 a reply and its quiet time; each in quarters, 0..32.
+// C1, C2, C3 time a request and its quiet time, D1, D2, D3 a reply and its quiet time; each in quarters, 0..32. E, `express`, is how many
+// ticks an express wait waits, 0..1000.
 pub struct Params {
     pub c1: u64,
     pub c2: u64,
@@ -29,6 +30,7 @@ pub struct Params {
     pub d1: u64,
     pub d2: u64,
     pub d3: u64,
+    pub express: u64,
 }
 
 pub enum Status {
@@ -52,11 +54,18 @@ pub enum Reply {
     Due(u64, Host),
 }
 
-// What an end has of a name: nothing; its cue, and beside it perhaps a waiting reply; or a request for it.
+// Whether an express wait stands beside a request, and when it is due.
+pub enum Express {
+    Unset,
+    Soon(u64),
+}
+
+// What an end has of a name: nothing; its cue, and beside it perhaps a waiting reply; or a request for it, and beside that perhaps an
+// express wait.
 pub enum Slot {
     Empty,
     Held(Reply),
-    Waiting(Request),
+    Waiting(Request, Express),
 }
 
 // A name's record. The cue bytes count where the slot is Held; `hush` is the reply-quiet time, before which no reply is set.
@@ -78,11 +87,18 @@ pub enum Heard {
     At(u64, u64),
 }
 
+// The requester and the sender of the latest REPL answered Got or Done that named a number at least as high as the kept one's, and that number.
+pub enum Pair {
+    NoPair,
+    Kept(Host, Host, CueNumber),
+}
+
 // What an end keeps for one of the eight hosts, with a record for each of its latest 64 cue numbers: number n stands at place n mod 64.
 // `missed` is how many numbers were retired without a cue since joining.
 pub struct Source {
     pub span: Span,
     pub missed: u32,
+    pub pair: Pair,
     pub distance: u64,
     pub heard: Heard,
     pub names: [Record; 64],
@@ -128,13 +144,16 @@ pub enum Says {
     Data,
     Rqst,
     Repl,
+    Xprs,
 }
 
-// What a message about a name says to its reader. The requester is the sender of a RQST and the host in the name of a REPL (a DATA has
-// none, and its sender stands there unread); the distance is the reader's to the requester.
+// What a message about a name says to its reader. `host` is the host in the name. The requester is the sender of a RQST or XPRS and the host
+// in the name of a REPL (a DATA has none, and its sender stands there unread); the distance is the reader's to the requester.
 pub struct Word {
     pub says: Says,
     pub name: Name,
+    pub host: Host,
+    pub sender: Host,
     pub requester: Host,
     pub distance: u64,
     pub cue: [u8; 24],
@@ -163,8 +182,8 @@ pub enum Why {
     NoReason,
 }
 
-// What is decided on a message about a name: one for each thing that a DATA, RQST or REPL may do. BacksOff has the round that waits;
-// Clashes is where the name is held with other bytes.
+// What is decided on a message about a name: one for each thing that a DATA, RQST, REPL or XPRS may do. BacksOff has the round that waits;
+// Clashes is where the name is held with other bytes; Expresses is where the named sender repairs at once.
 pub enum Decision {
     Ignores(Reason),
     Opens,
@@ -175,6 +194,7 @@ pub enum Decision {
     Learns,
     BacksOff(u8),
     Clashes,
+    Expresses,
 }
 
 // What a call answers. A refusal gives only its number; Out gives the length of the message in the first output bytes; Got
@@ -189,12 +209,18 @@ pub enum Answer {
     Clash(Name),
 }
 
-// A wait that is due, as Fire compares it: a request, or a reply where `reply` is true, and for which name.
+// A wait that is due, as Fire compares it: its rank among waits due at one time (express, request, reply), and for which name.
 pub struct Wait {
     pub due: u64,
-    pub reply: bool,
+    pub rank: u8,
     pub name: Name,
 }
+
+pub const EXPRESS: u8 = 0;
+
+pub const REQUEST: u8 = 1;
+
+pub const REPLY: u8 = 2;
 
 // The earliest wait found so far.
 pub enum Earliest {

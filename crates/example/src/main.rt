@@ -50,6 +50,7 @@ fn params() -> Params {
         d1: 4,
         d2: 4,
         d3: 8,
+        express: 0,
     }
 }
 
@@ -112,11 +113,11 @@ fn carry(answer: Answer, out: &[u8], end: End, clock: u64) -> End {
     }
 }
 
-// At each tick: fires until nothing goes out. At one clock at most 512 messages do.
+// At each tick: fires until nothing goes out. At one clock at most 1024 messages do.
 fn fire_all(end: End, clock: u64) -> End {
     let mut end = end;
     let mut outs: u64 = 0;
-    while outs < 512 {
+    while outs < 1024 {
         let mut out = [0u8; 128];
         let s = link::fire(end, clock, &draws(), &mut out);
         let answer = s.answer;

@@ -12,17 +12,18 @@ use borrow.Author.Tests.{ltb-true, lt-ltb, eq-eqb}
 use Rattle.message.specs.declared.CueNumber.{CueNumber}
 use Rattle.message.specs.declared.Report.{Report}
 use Rattle.message.specs.Entry.{asHost, asNumber}
-use Rattle.message.specs.Message.{DATA, RQST, REPL, Meaning, meaningFrom}
+use Rattle.message.specs.Message.{DATA, RQST, REPL, XPRS, Meaning, meaningFrom}
 use Rattle.message.specs.Question.{sameHost}
 use Rattle.message.proofs.QuestionLaws.{and-both}
+use Rattle.end.specs.declared.Express.the-variants.{Unset}
 use Rattle.end.specs.declared.Record.{Record}
 use Rattle.end.specs.declared.Span.{Span}
 use Rattle.end.specs.declared.Span.the-variants.{Closed, Open}
 use Rattle.end.specs.declared.Source.{Source}
 use Rattle.end.specs.declared.End.{End}
 use Rattle.end.specs.declared.Moment.{Moment}
-use Rattle.end.specs.declared.Says.the-variants.{Data, Rqst, Repl}
-use Rattle.end.specs.State.{noSource, blankRecord, sourceAt, distanceTo, isMember, momentOf, onSource, withClock}
+use Rattle.end.specs.declared.Says.the-variants.{Data, Rqst, Repl, Xprs}
+use Rattle.end.specs.State.{noSource, sourceAt, distanceTo, isMember, momentOf, onSource, withClock}
 use Rattle.end.specs.Records.{within, isAbove, recordAt}
 use Rattle.end.specs.Round.{requestAt}
 use Rattle.end.specs.Names.{asked, firstAfter, riseWith, rise}
@@ -40,12 +41,12 @@ use Rattle.invariants.proofs.Facts.{SoundState, facts, span-in}
 use Rattle.invariants.proofs.Questions.{Passed}
 use Rattle.guarantees.specs.Calls.{momentAt}
 use Rattle.guarantees.specs.Records.{recordOf, StayOrRise, retires, retired}
-use Rattle.guarantees.specs.Arrivals.{SameEnd, isAbout, risen, reportedUp, hasName, touches, SpanAs, isDataOf, isSessionOf, hear, ProbeIsReport, ProbesAnswered, RefusedChangesNothing, ArrivalKeepsStatusAndNext, HeldStays, UntouchedStays, OtherSourcesStay, SlotsAsHeard, HeldIsCarried, RepliesAsHeard, ReplyQuietStays, SpansAsHeard, DistancesStay}
+use Rattle.guarantees.specs.Arrivals.{SameEnd, asks, expressBy, risen, reportedUp, hasName, touches, SpanAs, isDataOf, isSessionOf, hear, ProbeIsReport, ProbesAnswered, RefusedChangesNothing, ArrivalKeepsStatusAndNext, HeldStays, UntouchedStays, OtherSourcesStay, SlotsAsHeard, HeldIsCarried, RepliesAsHeard, ReplyQuietStays, SpansAsHeard, DistancesStay}
 use Rattle.guarantees.proofs.Calls.{call-cases, member-not-crashed}
 use Rattle.guarantees.proofs.Names.{held-inside, above-blank, source-of}
 use Rattle.guarantees.proofs.Retired.{rise-moves, moves-on, last-rises, retires-is, none-retired, retired-below, outside-before, inside-unretired, risen-above, risen-below}
-use Rattle.guarantees.proofs.Heard.{or-first, or-second, Heard, heard-asked, not-kind}
-use Rattle.guarantees.proofs.Messages.{span-rise, span-may, HeardSource, HeardEnd, same-end, source-none, heard-ignored, word-heard}
+use Rattle.guarantees.proofs.Heard.{or-first, or-second, Heard, inGap, heard-asked, not-kind, not-asked}
+use Rattle.guarantees.proofs.Messages.{span-rise, span-may, HeardSource, HeardEnd, same-end, source-none, heard-ignored, no-express, word-heard}
 
 -- ---- SESS
 
@@ -101,7 +102,8 @@ module _ (us : List ℕ) (m : Meaning) (e : End) (f : SoundState e) (unnamed : h
   was = source-of e h
 
   abbrev Becomes : ℕ → Record → Type 0
-  Becomes j p = Heard (momentOf e) us m (distanceTo e) (was .distance) h j (touches m h (was .span) j) (recordAt was j) p
+  Becomes j p = Heard (momentOf e) us m (distanceTo e) (was .distance) (expressBy (momentOf e) m h (was .pair)) h j (touches m h (was .span) j)
+      (inGap m (was .span) j) (recordAt was j) p
 
   record Risen (p : Source) : Type 0 where
     long : length (p .names) ≡ 64
@@ -124,8 +126,14 @@ module _ (us : List ℕ) (m : Meaning) (e : End) (f : SoundState e) (unnamed : h
   unfolding isDataOf
   undata = ap (λ (b : Bool). b && eqb (messageName m .source .0) h) (or-left (eqb (m .kind) DATA) _ unnamed)
 
-  unasked : (j : ℕ) → isAbout RQST m h j ≡ false
-  unasked j = not-kind RQST m h j (or-left (eqb (m .kind) RQST) (eqb (m .kind) REPL) (or-right (eqb (m .kind) DATA) _ unnamed))
+  unasked : (j : ℕ) → asks m h j ≡ false
+  unasked j =
+      let rest = or-right (eqb (m .kind) DATA) _ unnamed in
+      not-asked m h j (not-kind RQST m h j (or-left (eqb (m .kind) RQST) _ rest))
+      (not-kind XPRS m h j (or-right (eqb (m .kind) REPL) _ (or-right (eqb (m .kind) RQST) _ rest)))
+
+  unset : expressBy (momentOf e) m h (was .pair) ≡ Unset
+  unset = no-express m (momentOf e) h (was .pair) (or-left (eqb (m .kind) DATA) _ unnamed)
 
   -- the new numbers were above the last of before, so of them nothing was kept
   more : (n : ℕ) → ((j : ℕ) → risen (was .span) n j ≡ true → touches m h (was .span) j ≡ true) → (p : Source) → isAbove (p .span) n ≡ true → Risen p
@@ -145,8 +153,9 @@ module _ (us : List ℕ) (m : Meaning) (e : End) (f : SoundState e) (unnamed : h
         each = λ j kept. rise-elim (Becomes j) new n p (p .span) refl (q .long) j
             (λ a k.
             let a′ = span-lower (isDataOf m h) undata (was .span) (p .span) (q .span) j a in
-            heard-asked t us m (distanceTo e) (was .distance) h j _ (touched j (risen-above (was .span) n j a′ k))
-            (recordAt was j) (above-blank was j a′) blankRecord refl _ (λ i. requestAt t us (q .distance i) j (cond (sym (unasked j) i) 2 1)))
+            heard-asked t us m (distanceTo e) (was .distance) _ h j _ _ (touched j (risen-above (was .span) n j a′ k))
+            (recordAt was j) (above-blank was j a′) _ 0 refl _ (λ i. requestAt t us (q .distance i) j (cond (sym (unasked j) i) 2 1))
+            Unset (sym unset) (λ due set. absurd (let z : _≡_ {A = ℕ} 0 1 = cc in omega arith)))
             (λ w. q .each j (rise-keeps new n p (was .span) (p .span) j w))
             (λ out.
             let before = outside-before (was .span) (now .span) j (span-may false (isDataOf m h) (was .span) (now .span) span) thin-before kept out in
@@ -196,7 +205,8 @@ module _ (us : List ℕ) (m : Meaning) (e : End) (f : SoundState e) (hs : messag
       byCond Hears (eqb (m .kind) DATA) (λ k. word-heard us m e f Data k hs)
       (λ k. byCond Hears (eqb (m .kind) RQST) (λ r. word-heard us m e f Rqst r hs)
       (λ r. byCond Hears (eqb (m .kind) REPL) (λ q. word-heard us m e f Repl q hs)
-      (λ q. session-heard us m e f (λ i. k i || (r i || q i)))))
+      (λ q. byCond Hears (eqb (m .kind) XPRS) (λ x. word-heard us m e f Xprs x hs)
+      (λ x. session-heard us m e f (λ i. k i || (r i || (q i || x i)))))))
 
   pub arrival-heard : Hears (ifMember e (arrivalOf us m e))
   unfolding arrivalOf
@@ -258,9 +268,11 @@ pub arrival-keeps-status-and-next : ArrivalKeepsStatusAndNext
 arrival-keeps-status-and-next e bytes clock room draws = hear-heard e bytes clock room draws .same
 
 -- a record that is not retired, and one of which the message may change nothing
-heard-at : (e : End) (bytes : List ℕ) (clock room : ℕ) (draws : List ℕ) (h n : ℕ) (hh : h < 8) → retired e (hear e bytes clock room draws .left) h n ≡ false
-    → Heard (momentAt e clock) draws (meaningFrom bytes) (distanceTo e) (distanceTo e (asHost h)) h n
-    (touches (meaningFrom bytes) h (sourceAt e (asHost h) .span) n) (recordOf e h n) (recordOf (hear e bytes clock room draws .left) h n)
+pub heard-at : (e : End) (bytes : List ℕ) (clock room : ℕ) (draws : List ℕ) (h n : ℕ) (hh : h < 8) → retired e (hear e bytes clock room draws .left) h n ≡ false
+    → Heard (momentAt e clock) draws (meaningFrom bytes) (distanceTo e) (distanceTo e (asHost h))
+    (expressBy (momentAt e clock) (meaningFrom bytes) h (sourceAt e (asHost h) .pair)) h n
+    (touches (meaningFrom bytes) h (sourceAt e (asHost h) .span) n) (inGap (meaningFrom bytes) (sourceAt e (asHost h) .span) n)
+    (recordOf e h n) (recordOf (hear e bytes clock room draws .left) h n)
 heard-at e bytes clock room draws h n hh kept = hear-heard e bytes clock room draws .sources h hh .each n kept
 
 pub held-stays : HeldStays

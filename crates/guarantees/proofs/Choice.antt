@@ -1,18 +1,22 @@
 -- What Fire chooses is the earliest wait that is due: the names are gone through in rising order, and after each the choice so far is
 -- the first of those met, in document 01's order.
 use mathlib.Core.Path.{_≡_, refl, sym, ap, _∙_, subst}
-use mathlib.Core.Bool.{Bool, true, false, cond, not, _&&_, _||_}
-use mathlib.Core.Option.{Option, none, some}
+use mathlib.Core.Bool.{Bool, true, false, cond, _&&_, _||_}
+use mathlib.Core.List.{List, [], _∷_}
 use mathlib.Core.Logic.{_⊎_, inl, inr, ⊎-elim}
-use Prim.Native.Nat.{ℕ, zero, suc, _+_, _*_, _≤_, _<_}
+use Prim.Native.Nat.{ℕ, zero, suc, _+_, _≤_, _<_}
 use native.Mathlib.Omega.{arith}
 use lib.ListN.{getD}
 use lib.Dec.{ltb, leb, eqb}
-use borrow.Author.Tests.{ltb-true, ltb-false, lt-ltb, le-ltb, leb-true, leb-false, eqb-true, eq-eqb, ne-eqb}
+use borrow.Author.Tests.{ltb-true, lt-ltb, le-ltb, leb-true, leb-false, eqb-true, eq-eqb, ne-eqb}
 use Rattle.numbers.proofs.Cases.{by-order}
+use Rattle.message.specs.declared.Host.{Host}
 use Rattle.message.specs.declared.Name.{Name}
 use Rattle.message.specs.Entry.{asHost, asNumber}
 use Rattle.message.proofs.QuestionLaws.{and-both, or-either}
+use Rattle.end.specs.declared.Request.{Request}
+use Rattle.end.specs.declared.Express.{Express}
+use Rattle.end.specs.declared.Express.the-variants.{Unset, Soon}
 use Rattle.end.specs.declared.Reply.the-variants.{No, Due}
 use Rattle.end.specs.declared.Slot.{Slot}
 use Rattle.end.specs.declared.Slot.the-variants.{Empty, Held, Waiting}
@@ -25,63 +29,54 @@ use Rattle.end.specs.declared.Earliest.{Earliest}
 use Rattle.end.specs.declared.Earliest.the-variants.{NoWait, First}
 use Rattle.end.specs.State.{noSource, sourceAt}
 use Rattle.end.specs.Records.{within, start, width, recordAt}
-use Rattle.end.specs.Fire.{foldUp, before, earlier, offered, earliest}
+use Rattle.end.specs.Answer.{Step}
+use Rattle.end.specs.Fire.{foldUp, expressRank, requestRank, replyRank, before, earlier, dueAt, offered, earliest, fireAt}
 use Rattle.end.proofs.RecordLaws.{at-outside}
-use Rattle.end.proofs.Tools.{byCond, byTest, clash′, and-left, or-left}
-use Rattle.guarantees.specs.Waits.{waitIn, waitAt, IsDue, sooner, level, lowerName, precedes}
+use Rattle.end.proofs.Tools.{byCond, byTest, clash, clash′, and-left, or-left}
+use Rattle.guarantees.specs.Waits.{waitOf, waitsIn, waitsAt, Among, IsDue, sooner, level, lowerName, precedes}
 use Rattle.guarantees.specs.Fires.{ChoiceIsEarliest, NoChoiceNoneDue}
 
--- ---- the order of waits: by due time, then request before reply, as one number
+-- ---- the order of waits: by due time, then by rank
 
-abbrev tag : Bool → ℕ
-tag true = 1
-tag false = 0
+-- what `sooner` says, of two due times and two ranks
+abbrev Before : ℕ → ℕ → ℕ → ℕ → Type 0
+Before a b x y = (a < b) ⊎ ((a ≡ b) × (x < y))
 
-abbrev key : Wait → ℕ
-key w = w .due * 2 + tag (w .reply)
+before-is : (a b x y : ℕ) → ltb a b || (eqb a b && ltb x y) ≡ true → Before a b x y
+before-is a b x y t = ⊎-elim (λ l. inl (ltb-true a b l))
+    (λ r. let both = and-both (eqb a b) (ltb x y) r in inr (eqb-true a b (both .0), ltb-true x y (both .1)))
+    (or-either (ltb a b) _ t)
 
-tag-most : (b : Bool) → tag b ≤ 1
-tag-most true = omega arith
-tag-most false = omega arith
+is-before : (a b x y : ℕ) → Before a b x y → ltb a b || (eqb a b && ltb x y) ≡ true
+is-before a b x y (inl l) = ap (λ (t : Bool). t || (eqb a b && ltb x y)) (lt-ltb a b l)
+is-before a b x y (inr r) = (λ i. ltb a b || (eq-eqb a b (r .0) i && lt-ltb x y (r .1) i)) ∙ second (ltb a b)
+  where
+    second : (t : Bool) → (t || true) ≡ true
+    second true = refl
+    second false = refl
 
-tag-less : (a b : Bool) → not a && b ≡ ltb (tag a) (tag b)
-tag-less true true = refl
-tag-less true false = refl
-tag-less false true = refl
-tag-less false false = refl
-
-alike : (a b : Bool) → (a && b) || (not a && not b) ≡ true → a ≡ b
-alike true true t = refl
-alike true false t = clash′ t
-alike false true t = clash′ t
-alike false false t = refl
-
-lex : (a b x y : ℕ) → x ≤ 1 → y ≤ 1 → ltb a b || (eqb a b && ltb x y) ≡ ltb (a * 2 + x) (b * 2 + y)
-lex a b x y hx hy = by-order a b
-    (λ l. rw (lt-ltb a b l) (sym (lt-ltb (a * 2 + x) (b * 2 + y) (omega arith))))
-    (λ l. by-order b a
-    (λ k. rw (le-ltb a b l, ne-eqb a b (λ e. omega arith)) (sym (le-ltb (a * 2 + x) (b * 2 + y) (omega arith))))
-    (λ k. rw (le-ltb a b l, eq-eqb a b (omega arith)) (by-order x y
-    (λ s. lt-ltb x y s ∙ sym (lt-ltb (a * 2 + x) (b * 2 + y) (omega arith))) (λ s. le-ltb x y s ∙ sym (le-ltb (a * 2 + x) (b * 2 + y) (omega arith))))))
-
-sooner-key : (w v : Wait) → sooner w v ≡ ltb (key w) (key v)
-sooner-key w v = ap (λ (b : Bool). ltb (w .due) (v .due) || (eqb (w .due) (v .due) && b)) (tag-less (w .reply) (v .reply))
-    ∙ lex (w .due) (v .due) (tag (w .reply)) (tag (v .reply)) (tag-most (w .reply)) (tag-most (v .reply))
-
-level-key : (w v : Wait) → level w v ≡ true → key w ≡ key v
-level-key w v t =
-    let both = and-both (eqb (w .due) (v .due)) _ t in
-    λ i. eqb-true (w .due) (v .due) (both .0) i * 2 + tag (alike (w .reply) (v .reply) (both .1) i)
+before-on : (a b c x y z : ℕ) → Before a b x y → Before b c y z → Before a c x z
+before-on a b c x y z (inl l) (inl k) = inl (omega arith)
+before-on a b c x y z (inl l) (inr k) = inl (omega (arith, k .0))
+before-on a b c x y z (inr l) (inl k) = inl (omega (arith, l .0))
+before-on a b c x y z (inr l) (inr k) = inr (l .0 ∙ k .0, omega (arith, l .1, k .1))
 
 -- what is sooner than u comes before whatever u does not follow
 sooner-first : (v w u : Wait) → sooner w u ≡ true → precedes v u ≡ false → precedes v w ≡ false
 unfolding precedes
 sooner-first v w u b p =
-    let not-earlier = ltb-false (key v) (key u) (sym (sooner-key v u) ∙ or-left (sooner v u) _ p) in
-    let less = ltb-true (key w) (key u) (sym (sooner-key w u) ∙ b) in
+    let no = or-left (sooner v u) _ p in
+    let wu = before-is (w .due) (u .due) (w .rank) (u .rank) b in
+    let over : Before (v .due) (u .due) (v .rank) (u .rank) → ⊥ = λ x. clash (sym (is-before (v .due) (u .due) (v .rank) (u .rank) x) ∙ no) in
     byTest (precedes v w)
-    (λ t. ⊎-elim (λ x. let more = ltb-true (key v) (key w) (sym (sooner-key v w) ∙ x) in absurd (omega arith))
-    (λ x. let same = level-key v w (and-left (level v w) _ x) in absurd (omega arith)) (or-either (sooner v w) _ t))
+    (λ t. ⊎-elim
+    (λ x. absurd (over (before-on (v .due) (w .due) (u .due) (v .rank) (w .rank) (u .rank) (before-is (v .due) (w .due) (v .rank) (w .rank) x) wu)))
+    (λ x.
+    let both = and-both (eqb (v .due) (w .due)) _ (and-left (level v w) _ x) in
+    let dues : w .due ≡ v .due = sym (eqb-true (v .due) (w .due) (both .0)) in
+    let ranks : w .rank ≡ v .rank = sym (eqb-true (v .rank) (w .rank) (both .1)) in
+    absurd (over (subst (λ (k : ℕ). Before k (u .due) (v .rank) (u .rank)) dues (subst (λ (k : ℕ). Before (w .due) (u .due) k (u .rank)) ranks wu))))
+    (or-either (sooner v w) _ t))
     (λ t. t)
 
 -- a wait that is not sooner than u, under a name that is not lower, does not precede u
@@ -101,113 +96,134 @@ not-lower a b h = ⊎-elim
 
 -- none precedes itself
 alone : (w : Wait) → precedes w w ≡ false
-alone w = not-sooner w w (sooner-key w w ∙ le-ltb (key w) (key w) (omega arith)) (not-lower (w .name) (w .name) (inr (refl, omega arith)))
+alone w = not-sooner w w
+    (byTest (sooner w w)
+    (λ t. absurd (⊎-elim (λ l. omega arith) (λ l. omega (arith, l .1)) (before-is (w .due) (w .due) (w .rank) (w .rank) t)))
+    (λ t. t))
+    (not-lower (w .name) (w .name) (inr (refl, omega arith)))
 
 -- ---- what waits under a name has that name, and lies in first..last
 
-wait-name : (name : Name) (x : Slot) (w : Wait) → waitIn name x ≡ some w → name ≡ w .name
-unfolding waitIn
-wait-name name Empty w h = cc
-wait-name name (Waiting q) w h =
-    let same : _≡_ {A = Wait} (record { due = q .due; reply = false; name = name }) w = cc in
-    ap (λ (z : Wait). z .name) same
-wait-name name (Held No) w h = cc
-wait-name name (Held (Due due k)) w h =
-    let same : _≡_ {A = Wait} (record { due = due; reply = true; name = name }) w = cc in
-    ap (λ (z : Wait). z .name) same
-
-pub none-waits : {P : Type 0} (o : Option Wait) (w : Wait) → o ≡ none → o ≡ some w → P
-none-waits o w p q = let z : none ≡ some w = sym p ∙ q in absurd (let y : _≡_ {A = ℕ} 0 1 = cc in omega arith)
+wait-name : (name : Name) (x : Slot) (w : Wait) → Among w (waitsIn name x) → name ≡ w .name
+unfolding waitsIn
+wait-name name Empty w h = absurd h
+wait-name name (Waiting q Unset) w (inl h) = ap (λ (z : Wait). z .name) h
+wait-name name (Waiting q Unset) w (inr h) = absurd h
+wait-name name (Waiting q (Soon due)) w (inl h) = ap (λ (z : Wait). z .name) h
+wait-name name (Waiting q (Soon due)) w (inr (inl h)) = ap (λ (z : Wait). z .name) h
+wait-name name (Waiting q (Soon due)) w (inr (inr h)) = absurd h
+wait-name name (Held No) w h = absurd h
+wait-name name (Held (Due due k)) w (inl h) = ap (λ (z : Wait). z .name) h
+wait-name name (Held (Due due k)) w (inr h) = absurd h
 
 pub due-inside : (e : End) (w : Wait) → IsDue e w → within (sourceAt e (w .name .source) .span) (w .name .number .0) ≡ true
-unfolding waitAt waitIn
+unfolding waitsAt waitsIn
 due-inside e w d =
     let s = sourceAt e (w .name .source) in
     byTest (within (s .span) (w .name .number .0)) (λ t. t)
-    (λ t. none-waits (waitAt e (w .name)) w (ap (λ (r : Record). waitIn (w .name) (r .slot)) (at-outside s (w .name .number .0) t)) (d .waits))
+    (λ t. absurd (subst (Among w) (ap (λ (r : Record). waitsIn (w .name) (r .slot)) (at-outside s (w .name .number .0) t)) (d .waits)))
 
--- ---- the choice so far: of the waits that are due under the names met, the first
+-- ---- the choice so far: of the waits that are due among those met, the first
 
-Least : End → (Name → Type 0) → Earliest → Type 0
-Least e Met NoWait = (v : Wait) → IsDue e v → Met (v .name) → ⊥
-Least e Met (First w) = IsDue e w × Met (w .name) × ((v : Wait) → IsDue e v → Met (v .name) → precedes v w ≡ false)
+Least : End → (Wait → Type 0) → Earliest → Type 0
+Least e Met NoWait = (v : Wait) → IsDue e v → Met v → ⊥
+Least e Met (First w) = IsDue e w × Met w × ((v : Wait) → IsDue e v → Met v → precedes v w ≡ false)
 
--- names under which none is due change nothing
-widen : (e : End) (S T : Name → Type 0) → ((a : Name) → S a → T a) → ((v : Wait) → IsDue e v → T (v .name) → S (v .name)) → (best : Earliest) → Least e S best → Least e T best
+-- waits of which none is due change nothing
+widen : (e : End) (S T : Wait → Type 0) → ((v : Wait) → S v → T v) → ((v : Wait) → IsDue e v → T v → S v) → (best : Earliest) → Least e S best → Least e T best
 unfolding Least
 widen e S T up down NoWait q = λ v d l. q v d (down v d l)
-widen e S T up down (First w) q = (q .0, up (w .name) (q .1), λ v d l. q .2 v d (down v d l))
+widen e S T up down (First w) q = (q .0, up w (q .1), λ v d l. q .2 v d (down v d l))
 
--- the names met before number n of source h
-abbrev Upto : ℕ → ℕ → Name → Type 0
-Upto h n a = (a .source .0 < h) ⊎ ((a .source .0 ≡ h) × (a .number .0 < n))
+-- one wait more, whose name is not lower than those met
+module _ (e : End) (S T : Wait → Type 0) (w : Wait) (it : T w) (up : (v : Wait) → S v → T v)
+    (met : (v : Wait) → IsDue e v → T v → S v ⊎ (w ≡ v)) (later : (u : Wait) → S u → lowerName (w .name) (u .name) ≡ false) where
+  same : (u v : Wait) → precedes w u ≡ false → w ≡ v → precedes v u ≡ false
+  same u v p i = subst (λ (z : Wait). precedes z u ≡ false) i p
+
+  joins : IsDue e w → (best : Earliest) → Least e S best → Least e T (earlier best w)
+  unfolding Least
+  joins due NoWait q = (due, it, λ v d l. ⊎-elim (λ k. absurd (q v d k)) (λ k. same w v (alone w) k) (met v d l))
+  joins due (First u) q = byCond (Least e T) (before w u)
+      (λ t. (due, it, λ v d l. ⊎-elim (λ k. sooner-first v w u t (q .2 v d k)) (λ k. same w v (alone w) k) (met v d l)))
+      (λ t. (q .0, up u (q .1), λ v d l. ⊎-elim (λ k. q .2 v d k) (λ k. same u v (not-sooner w u t (later u (q .1))) k) (met v d l)))
+
+  -- it counts once it is due
+  counts : (w .due ≤ e .clock → IsDue e w) → (best : Earliest) → Least e S best → Least e T (cond (leb (w .due) (e .clock)) (earlier best w) best)
+  counts due best q = byCond (Least e T) (leb (w .due) (e .clock))
+      (λ t. joins (due (leb-true (w .due) (e .clock) t)) best q)
+      (λ t. widen e S T up (λ v d l. ⊎-elim (λ k. k)
+      (λ k. absurd (omega (arith, ap (λ (z : Wait). z .due) k, leb-false (w .due) (e .clock) t, d .due))) (met v d l)) best q)
+
+-- the waits met before number n of source h
+abbrev Upto : ℕ → ℕ → Wait → Type 0
+Upto h n v = (v .name .source .0 < h) ⊎ ((v .name .source .0 ≡ h) × (v .name .number .0 < n))
 
 -- ---- one name more
 module _ (e : End) (h n : ℕ) (hh : h < 8) where
   abbrev name : Name
   name = record { source = asHost h; number = asNumber n }
 
-  -- a wait under the names up to this one is under an earlier name, or is what waits here
-  met : {P : Type 0} (v : Wait) → IsDue e v → Upto h (suc n) (v .name) → (Upto h n (v .name) → P) → (waitAt e name ≡ some v → P) → P
-  met v d (inl l) f g = f (inl l)
-  met v d (inr l) f g = by-order (v .name .number .0) n (λ k. f (inr (l .0, k)))
+  -- a due wait under the names up to this one is under an earlier name, or is what waits here
+  met : (v : Wait) → IsDue e v → Upto h (suc n) v → Upto h n v ⊎ Among v (waitsAt e name)
+  met v d (inl l) = inl (inl l)
+  met v d (inr l) = by-order (v .name .number .0) n (λ k. inl (inr (l .0, k)))
       (λ k.
       let same : v .name .number .0 ≡ n = omega (arith, l .1) in
-      g (ap (waitAt e) (λ i. record { source = asHost (sym (l .0) i); number = asNumber (sym same i) }) ∙ d .waits))
+      inr (subst (Among v) (ap (waitsAt e) (λ i. record { source = asHost (l .0 i); number = asNumber (same i) })) (d .waits)))
 
-  up : (a : Name) → Upto h n a → Upto h (suc n) a
-  up a l = ⊎-elim (λ k. inl k) (λ k. inr (k .0, omega (arith, k .1))) l
+  up : (v : Wait) → Upto h n v → Upto h (suc n) v
+  up v l = ⊎-elim (λ k. inl k) (λ k. inr (k .0, omega (arith, k .1))) l
 
-  -- none waits here that is due
-  passed : (best : Earliest) → ((v : Wait) → IsDue e v → waitAt e name ≡ some v → ⊥) → Least e (Upto h n) best → Least e (Upto h (suc n)) best
-  passed best bare q = widen e (Upto h n) (Upto h (suc n)) up (λ v d l. met v d l (λ k. k) (λ k. absurd (bare v d k))) best q
+  -- a wait with this name: it is due if it waits here and its time has come, and no name met is higher
+  is-due : (rank due : ℕ) → Among (waitOf name rank due) (waitsAt e name) → due ≤ e .clock → IsDue e (waitOf name rank due)
+  is-due rank due w l = record { source = hh; waits = w; due = l }
 
-  module _ (w : Wait) (here : waitAt e name ≡ some w) (due : w .due ≤ e .clock) where
-    at-name : name ≡ w .name
-    unfolding waitAt
-    at-name = wait-name name _ w here
+  later : (u : Wait) → Upto h n u → lowerName name (u .name) ≡ false
+  later u l = not-lower name (u .name) (⊎-elim (λ k. inl k) (λ k. inr (k .0, omega (arith, k .1))) l)
 
-    is-due : IsDue e w
-    is-due = record { source = subst (λ (z : Name). z .source .0 < 8) at-name hh; waits = ap (waitAt e) (sym at-name) ∙ here; due = due }
-
-    in-reach : Upto h (suc n) (w .name)
-    in-reach = subst (Upto h (suc n)) at-name (inr (refl, omega arith))
-
-    -- what else waits here is it
-    it-is : (v : Wait) → waitAt e name ≡ some v → w ≡ v
-    it-is v k = let p : some w ≡ some v = sym here ∙ k in cc
-
-    it-alone : (v : Wait) → waitAt e name ≡ some v → precedes v w ≡ false
-    it-alone v k = subst (λ (z : Wait). precedes z w ≡ false) (it-is v k) (alone w)
-
-    later : (u : Wait) → Upto h n (u .name) → lowerName (w .name) (u .name) ≡ false
-    later u l = subst (λ (z : Name). lowerName z (u .name) ≡ false) at-name (not-lower name (u .name) (⊎-elim (λ k. inl k) (λ k. inr (k .0, omega (arith, k .1))) l))
-
-    joins : (best : Earliest) → Least e (Upto h n) best → Least e (Upto h (suc n)) (earlier best w)
-    unfolding Least
-    joins NoWait q = (is-due, in-reach, λ v d l. met v d l (λ k. absurd (q v d k)) (it-alone v))
-    joins (First u) q = byCond (Least e (Upto h (suc n))) (before w u)
-        (λ t. (is-due, in-reach, λ v d l. met v d l (λ k. sooner-first v w u t (q .2 v d k)) (it-alone v)))
-        (λ t. (
-          q .0,
-          up (u .name) (q .1),
-          λ v d l. met v d l (q .2 v d) (λ k. subst (λ (z : Wait). precedes z u ≡ false) (it-is v k) (not-sooner w u t (later u (q .1)))),
-        ))
-
-  offers : (w : Wait) → waitAt e name ≡ some w → (best : Earliest) → Least e (Upto h n) best → Least e (Upto h (suc n)) (cond (leb (w .due) (e .clock)) (earlier best w) best)
-  offers w k best q = byCond (Least e (Upto h (suc n))) (leb (w .due) (e .clock))
-      (λ t. joins w k (leb-true (w .due) (e .clock) t) best q)
-      (λ t. passed best (λ v d u.
-      let z : some w ≡ some v = sym k ∙ u in
-      let same : w ≡ v = cc in
-      omega (arith, ap (λ (z : Wait). z .due) same, leb-false (w .due) (e .clock) t, d .due)) q)
+  itself : lowerName name name ≡ false
+  itself = not-lower name name (inr (refl, omega arith))
 
   step : (x : Slot) → recordAt (sourceAt e (asHost h)) n .slot ≡ x → (best : Earliest) → Least e (Upto h n) best → Least e (Upto h (suc n)) (offered name (e .clock) x best)
-  unfolding waitAt waitIn
-  step Empty p best q = passed best (λ v d k. none-waits _ v (ap (waitIn name) p) k) q
-  step (Waiting r) p best q = offers _ (ap (waitIn name) p) best q
-  step (Held No) p best q = passed best (λ v d k. none-waits _ v (ap (waitIn name) p) k) q
-  step (Held (Due due k)) p best q = offers _ (ap (waitIn name) p) best q
+  unfolding waitsAt waitsIn
+  step x p best q = go x (ap (waitsIn name) p) best q
+    where
+      -- where no more than one waits
+      one : (rank due : ℕ) → waitsAt e name ≡ waitOf name rank due ∷ [] → (best : Earliest) → Least e (Upto h n) best
+          → Least e (Upto h (suc n)) (cond (leb due (e .clock)) (earlier best (waitOf name rank due)) best)
+      one rank due here = counts e (Upto h n) (Upto h (suc n)) (waitOf name rank due) (inr (refl, omega arith)) up
+          (λ v d l. ⊎-elim (λ k. inl k) (λ k. ⊎-elim (λ i. inr i) (λ i. absurd i) (subst (Among v) here k)) (met v d l))
+          later (is-due rank due (subst (Among (waitOf name rank due)) (sym here) (inl refl)))
+
+      none : waitsAt e name ≡ [] → (best : Earliest) → Least e (Upto h n) best → Least e (Upto h (suc n)) best
+      none here best q = widen e (Upto h n) (Upto h (suc n)) up
+          (λ v d l. ⊎-elim (λ k. k) (λ k. absurd (subst (Among v) here k)) (met v d l)) best q
+
+      -- an express wait, and then its request
+      both : (soon due : ℕ) → waitsAt e name ≡ waitOf name expressRank soon ∷ waitOf name requestRank due ∷ [] → (best : Earliest) → Least e (Upto h n) best
+          → Least e (Upto h (suc n)) (dueAt name (e .clock) requestRank due (dueAt name (e .clock) expressRank soon best))
+      both soon due here best q =
+          let first = waitOf name expressRank soon in
+          let second = waitOf name requestRank due in
+          let Mid : Wait → Type 0 = λ v. Upto h n v ⊎ (first ≡ v) in
+          let mid : Least e Mid (dueAt name (e .clock) expressRank soon best) =
+          counts e (Upto h n) Mid first (inr refl) (λ v l. inl l) (λ v d l. l) later
+          (is-due expressRank soon (subst (Among first) (sym here) (inl refl))) best q in
+          counts e Mid (Upto h (suc n)) second (inr (refl, omega arith))
+          (λ v l. ⊎-elim (up v) (λ i. subst (Upto h (suc n)) i (inr (refl, omega arith))) l)
+          (λ v d l. ⊎-elim (λ k. inl (inl k))
+          (λ k. ⊎-elim (λ i. inl (inr i)) (λ i. ⊎-elim (λ j. inr j) (λ j. absurd j) i) (subst (Among v) here k)) (met v d l))
+          (λ u l. ⊎-elim (later u) (λ i. subst (λ (z : Wait). lowerName name (z .name) ≡ false) i itself) l)
+          (is-due requestRank due (subst (Among second) (sym here) (inr (inl refl)))) _ mid
+
+      go : (x : Slot) → waitsAt e name ≡ waitsIn name x → (best : Earliest) → Least e (Upto h n) best
+          → Least e (Upto h (suc n)) (offered name (e .clock) x best)
+      go Empty here = none here
+      go (Waiting r Unset) here = one requestRank (r .due) here
+      go (Waiting r (Soon due)) here = both due (r .due) here
+      go (Held No) here = none here
+      go (Held (Due due k)) here = one replyRank due here
 
 -- ---- the whole of it
 
@@ -232,12 +248,12 @@ module _ (e : End) where
   in-walk h v d p = inside-walk (spanAt h) (v .name .number .0) (ap (λ (k : ℕ). within (spanAt k) (v .name .number .0)) (sym p) ∙ due-inside e v d)
 
   opens : (h : ℕ) (best : Earliest) → Least e (Upto h 0) best → Least e (Upto h (start (spanAt h) + 0)) best
-  opens h best = widen e (Upto h 0) (Upto h (start (spanAt h) + 0)) (λ a l. ⊎-elim (λ k. inl k) (λ k. absurd (omega (arith, k .1))) l)
+  opens h best = widen e (Upto h 0) (Upto h (start (spanAt h) + 0)) (λ v l. ⊎-elim (λ k. inl k) (λ k. absurd (omega (arith, k .1))) l)
       (λ v d l. ⊎-elim (λ k. inl k) (λ k. absurd (omega (arith, k .1, in-walk h v d (k .0) .0))) l) best
 
   closes : (h : ℕ) (best : Earliest) → Least e (Upto h (start (spanAt h) + width (spanAt h))) best → Least e (Upto (suc h) 0) best
   closes h best = widen e (Upto h (start (spanAt h) + width (spanAt h))) (Upto (suc h) 0)
-      (λ a l. ⊎-elim (λ k. inl (omega arith)) (λ k. inl (omega (arith, k .0))) l)
+      (λ v l. ⊎-elim (λ k. inl (omega arith)) (λ k. inl (omega (arith, k .0))) l)
       (λ v d l. ⊎-elim (λ k. by-order (v .name .source .0) h (λ j. inl j) (λ j. let p : v .name .source .0 ≡ h = omega arith in inr (p, in-walk h v d p .1)))
       (λ k. absurd (omega (arith, k .1))) l) best
 
@@ -266,3 +282,43 @@ unfolding Least
 no-choice-none-due e h w d =
     let q : Least e (Upto 8 0) NoWait = subst (Least e (Upto 8 0)) h (least e) in
     q w d (inl (d .source))
+
+-- ---- what goes out: of the waits under a name the chosen one, by its rank
+module _ (P : Step → Type 0) (us : List ℕ) (e : End) (w : Wait) where
+  abbrev Fires : ℕ → Slot → Type 0
+  Fires rank y = P (fireAt us rank (w .name) e y)
+
+  rank-of : (v : Wait) → v ≡ w → w .rank ≡ v .rank
+  rank-of v i = ap (λ (z : Wait). z .rank) (sym i)
+
+  due-of : (v : Wait) → v ≡ w → v .due ≡ w .due
+  due-of v i = ap (λ (z : Wait). z .due) i
+
+  asks : (q : Request) (y : Express) → waitOf (w .name) requestRank (q .due) ≡ w
+      → ((q′ : Request) (y′ : Express) → Waiting q y ≡ Waiting q′ y′ → q′ .due ≡ w .due → w .rank ≡ requestRank → Fires requestRank (Waiting q′ y′))
+      → Fires (w .rank) (Waiting q y)
+  asks q y i f =
+      let v = waitOf (w .name) requestRank (q .due) in
+      subst (λ (r : ℕ). Fires r (Waiting q y)) (sym (rank-of v i)) (f q y refl (due-of v i) (rank-of v i))
+
+  pub fires-as : (x : Slot) → Among w (waitsIn (w .name) x)
+      → ((q : Request) → x ≡ Waiting q (Soon (w .due)) → w .rank ≡ expressRank → Fires expressRank (Waiting q (Soon (w .due))))
+      → ((q : Request) (y : Express) → x ≡ Waiting q y → q .due ≡ w .due → w .rank ≡ requestRank → Fires requestRank (Waiting q y))
+      → ((k : Host) → x ≡ Held (Due (w .due) k) → w .rank ≡ replyRank → Fires replyRank (Held (Due (w .due) k)))
+      → Fires (w .rank) x
+  unfolding waitsIn
+  fires-as Empty h f g r = absurd h
+  fires-as (Waiting q Unset) (inl i) f g r = asks q Unset i g
+  fires-as (Waiting q Unset) (inr i) f g r = absurd i
+  fires-as (Waiting q (Soon due)) (inl i) f g r =
+      let v = waitOf (w .name) expressRank due in
+      let at : Waiting q (Soon due) ≡ Waiting q (Soon (w .due)) = ap (λ (k : ℕ). Waiting q (Soon k)) (due-of v i) in
+      subst (Fires (w .rank)) (sym at) (subst (λ (k : ℕ). Fires k (Waiting q (Soon (w .due)))) (sym (rank-of v i)) (f q at (rank-of v i)))
+  fires-as (Waiting q (Soon due)) (inr (inl i)) f g r = asks q (Soon due) i g
+  fires-as (Waiting q (Soon due)) (inr (inr i)) f g r = absurd i
+  fires-as (Held No) h f g r = absurd h
+  fires-as (Held (Due due k)) (inl i) f g r =
+      let v = waitOf (w .name) replyRank due in
+      let at : Held (Due due k) ≡ Held (Due (w .due) k) = ap (λ (j : ℕ). Held (Due j k)) (due-of v i) in
+      subst (Fires (w .rank)) (sym at) (subst (λ (j : ℕ). Fires j (Held (Due (w .due) k))) (sym (rank-of v i)) (r k at (rank-of v i)))
+  fires-as (Held (Due due k)) (inr i) f g r = absurd i

@@ -18,7 +18,7 @@ use Rattle.end.specs.declared.Says.{Says}
 use Rattle.end.specs.declared.Says.the-variants.{Data, Repl}
 use Rattle.end.specs.declared.Reason.the-variants.{Crashed, WrongStatus, OwnMessage, NotOpen, BelowFirst, OwnAboveLast, AlreadyHeld, ReplyWaiting, ReplyQuiet, RequestQuiet}
 use Rattle.end.specs.declared.Decision.{Decision}
-use Rattle.end.specs.declared.Decision.the-variants.{Ignores, Opens, Takes, Repairs, Hushes, Replies, Learns, BacksOff, Clashes}
+use Rattle.end.specs.declared.Decision.the-variants.{Ignores, Opens, Takes, Repairs, Hushes, Replies, Learns, BacksOff, Clashes, Expresses}
 use Rattle.end.specs.declared.End.{End}
 use Rattle.end.specs.State.{noSource, sourceAt, momentOf, withSources, withClock}
 use Rattle.end.specs.Records.{within, isClosed, isBelow, recordAt, isHeld}
@@ -80,6 +80,7 @@ module _ (us : List ℕ) (m : Meaning) (e : End) (c : Clashing e m) where
   decided says k Replies g = clash (sym (g .0) ∙ k)
   decided says k Learns g = clash (sym (g .0) ∙ k)
   decided says k (BacksOff i) g = clash (sym (g .0) ∙ k)
+  decided says k Expresses g = clash (sym (ap isRequest (g .0)) ∙ k)
   decided says k Clashes g = ap (λ (l : List Source). give (Clash (messageName m)) (withSources e l)) (set-getD (e .sources) (messageName m .source .0) noSource)
 
   word-answers : (says : Says) → isRequest says ≡ false → Answers (stepAt (momentOf e) us (wordOf says m e) e)

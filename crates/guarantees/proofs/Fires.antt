@@ -1,22 +1,29 @@
 -- What goes out by Fire is about the earliest wait that is due, and Nothing means that none is due. Each Fire that puts something out
--- leaves one wait less that is due: a fired request is due again only later, a fired reply is gone, and no other name has changed.
+-- leaves one wait less that is due: a fired request is due again only later, a fired reply or express wait is gone, and no other wait has
+-- changed.
 use mathlib.Core.Path.{_≡_, refl, sym, ap, _∙_, subst}
 use mathlib.Core.Bool.{Bool, true, false, cond}
 use mathlib.Core.List.{List, [], _∷_}
-use mathlib.Core.Option.{some, Option, none}
+use mathlib.Core.Option.{some}
 use Prim.Native.Nat.{ℕ, _+_, _-_, _*_, _≤_, _<_, zero, suc}
 use native.Mathlib.Nat.{mul-le-mul}
 use native.Mathlib.Omega.{arith}
 use lib.ListN.{length}
 use lib.Seq.{getD-set-same}
 use lib.Dec.{leb}
-use borrow.Author.Tests.{eq-eqb, le-leb, lt-leb}
+use borrow.Author.Tests.{eq-eqb, le-leb, lt-leb, not-true}
 use Rattle.numbers.proofs.Cases.{by-order}
 use Rattle.message.specs.declared.Host.{Host}
+use Rattle.message.specs.declared.CueNumber.{CueNumber}
 use Rattle.message.specs.declared.Name.{Name}
 use Rattle.message.specs.Entry.{asHost, asNumber}
-use Rattle.message.specs.Message.{RQST, REPL, Meaning, bytesOf}
+use Rattle.message.specs.Message.{Meaning, bytesOf}
+use Rattle.message.proofs.QuestionLaws.{and-both}
 use Rattle.end.specs.declared.Request.{Request}
+use Rattle.end.specs.declared.Express.{Express}
+use Rattle.end.specs.declared.Express.the-variants.{Unset, Soon}
+use Rattle.end.specs.declared.Pair.{Pair}
+use Rattle.end.specs.declared.Pair.the-variants.{NoPair, Kept}
 use Rattle.end.specs.declared.Reply.the-variants.{No, Due}
 use Rattle.end.specs.declared.Slot.{Slot}
 use Rattle.end.specs.declared.Slot.the-variants.{Empty, Held, Waiting}
@@ -28,93 +35,114 @@ use Rattle.end.specs.declared.Wait.{Wait}
 use Rattle.end.specs.declared.Earliest.{Earliest}
 use Rattle.end.specs.declared.Earliest.the-variants.{NoWait, First}
 use Rattle.end.specs.State.{sourceAt, isMember, momentOf, withClock, noSource, distanceTo, withSource}
-use Rattle.end.specs.Records.{within, start, recordAt, withRecord}
+use Rattle.end.specs.Records.{within, start, recordAt, withRecord, withReply, expressIn, withExpress}
 use Rattle.end.specs.Ready.{SpanIn}
 use Rattle.end.specs.Round.{factor, requestAt, nextRound}
 use Rattle.end.specs.Answer.{Effect, Out, Ignored, Nothing, Step, give, Refused, Did, Result, done}
-use Rattle.end.specs.Messages.{requestMessage, repairMessage}
-use Rattle.end.specs.Sound.{soundOf}
+use Rattle.end.specs.Messages.{requestMessage, repairMessage, expressMessage}
+use Rattle.end.specs.Sound.{timeIn, isNoPair, insideSound, soundOf}
 use Rattle.end.specs.Arrival.{messageName, messageHost}
-use Rattle.end.specs.Fire.{earliest, fireAt, fired, fireOf}
+use Rattle.end.specs.Fire.{expressRank, requestRank, replyRank, earliest, keptSender, fireAt, fired, fireOf}
 use Rattle.end.specs.Event.{Else, Fire, actOf, stepOf, questionOf, eventOf}
 use Rattle.end.proofs.Bounds.{factor-least}
 use Rattle.end.proofs.Facts.{among-64, narrow}
 use Rattle.end.proofs.RecordLaws.{read-same, store-elim}
 use Rattle.end.proofs.Tools.{byCond, clash, set-elim}
-use Rattle.invariants.proofs.Ends.{clock-kept}
+use Rattle.invariants.proofs.Ends.{there, clock-kept}
 use Rattle.invariants.proofs.Facts.{SoundState, facts, span-in}
-use Rattle.invariants.proofs.Outputs.{Written, request-written, repair-written}
+use Rattle.invariants.proofs.Outputs.{Written, request-written, express-written, repair-written}
 use Rattle.invariants.proofs.Questions.{Passed}
-use Rattle.guarantees.specs.Waits.{waitIn, waitAt, IsDue, IsEarliest, dueCount, firstNumber, dueWaits, sumBelow}
-use Rattle.guarantees.specs.Fires.{fire, FireTaken, TellsOf, OutIsEarliest, NothingMeansNone, NoneMeansNothing, DueMeansOut, OneLessDue, AllOut, FiringEnds}
+use Rattle.invariants.proofs.Records.{waiting-in}
+use Rattle.guarantees.specs.Waits.{waitsIn, waitsAt, Among, IsDue, IsEarliest, dueCount, firstNumber, dueWaits, sumBelow}
+use Rattle.guarantees.specs.Records.{requestIn}
+use Rattle.guarantees.specs.Fires.{fire, FireTaken, kindFor, TellsOf, OutIsEarliest, NothingMeansNone, NoneMeansNothing, DueMeansOut, OneLessDue, AllOut, FiringEnds}
 use Rattle.guarantees.proofs.Names.{sound-waits, far}
 use Rattle.guarantees.proofs.Calls.{call-cases, member-not-crashed}
-use Rattle.guarantees.proofs.Choice.{choice-is-earliest, no-choice-none-due, due-inside}
+use Rattle.guarantees.proofs.Choice.{choice-is-earliest, no-choice-none-due, due-inside, fires-as}
 use Rattle.guarantees.proofs.Slots.{host-and-params-stay}
 
 -- ---- the step
 
--- what stands under a name that has a wait, a request or a reply
-pub by-wait {κ} : {P : Type κ} (name : Name) (x : Slot) (w : Wait) → waitIn name x ≡ some w
-    → ((q : Request) → x ≡ Waiting q → w .reply ≡ false → P)
-    → ((requester : Host) → x ≡ Held (Due (w .due) requester) → w .reply ≡ true → P)
-    → P
-unfolding waitIn
-by-wait name Empty w h f g = absurd (let z : _≡_ {A = ℕ} 0 1 = cc in omega arith)
-by-wait name (Waiting q) w h f g =
-    let same : _≡_ {A = Wait} (record { due = q .due; reply = false; name = name }) w = cc in
-    f q refl (ap (λ (z : Wait). z .reply) (sym same))
-by-wait name (Held No) w h f g = absurd (let z : _≡_ {A = ℕ} 0 1 = cc in omega arith)
-by-wait name (Held (Due due k)) w h f g =
-    let same : _≡_ {A = Wait} (record { due = due; reply = true; name = name }) w = cc in
-    g k (ap (λ (z : Wait). Held (Due (z .due) k)) same) (ap (λ (z : Wait). z .reply) (sym same))
-
--- a step that puts out a message about a wait; that of a sound end is read as it was written
+-- a step that puts out a message about a wait; that of a sound end is read as it was written, and an XPRS has the sender of a kept pair
 pub record Tells (e : End) (w : Wait) (step : Step) : Type 0 where
   pub message : Meaning
   pub out : step .effect ≡ Out (bytesOf message)
   pub written : SoundState e → Written message
-  pub kind : message .kind ≡ cond (w .reply) REPL RQST
+  pub kind : message .kind ≡ kindFor (w .rank)
   pub name : messageName message ≡ w .name
   pub sender : message .sender ≡ e .host
   pub stamp : message .stamp ≡ e .clock
   pub clock : step .left .clock ≡ e .clock
-  pub requester : w .reply ≡ true → recordAt (sourceAt e (w .name .source)) (w .name .number .0) .slot ≡ Held (Due (w .due) (messageHost message))
+  pub kept : SoundState e → w .rank ≡ expressRank
+      → (requester : Host) × (n : CueNumber) × (sourceAt e (w .name .source) .pair ≡ Kept requester (messageHost message) n)
+  pub requester : w .rank ≡ replyRank → recordAt (sourceAt e (w .name .source)) (w .name .number .0) .slot ≡ Held (Due (w .due) (messageHost message))
 
-fire-tells : (us : List ℕ) (e : End) (w : Wait) (x : Slot) → recordAt (sourceAt e (w .name .source)) (w .name .number .0) .slot ≡ x → waitIn (w .name) x ≡ some w
-    → Tells e w (fireAt us (w .name) e x)
+-- a rank is one
+two-ranks : {P : Type 0} (r a b : ℕ) → (a ≡ b → ⊥) → r ≡ a → r ≡ b → P
+two-ranks r a b d p q = absurd (d (sym p ∙ q))
+
+-- a pair where an express wait stands
+kept-pair : (pair : Pair) → isNoPair pair ≡ false → (requester : Host) × (n : CueNumber) × (pair ≡ Kept requester (keptSender pair) n)
+kept-pair NoPair h = clash h
+kept-pair (Kept requester sender n) h = (requester, n, refl)
+
+beside-pair : (e : End) → SoundState e → (name : Name) (q : Request) (due : ℕ)
+    → recordAt (sourceAt e (name .source)) (name .number .0) .slot ≡ Waiting q (Soon due) → isNoPair (sourceAt e (name .source) .pair) ≡ false
+beside-pair e f name q due p =
+    let pair = sourceAt e (name .source) .pair in
+    let r = recordAt (sourceAt e (name .source)) (name .number .0) in
+    let at = there e f name (λ o. let no : _≡_ {A = ℕ} 0 1 = cc in omega arith) in
+    let sound = waiting-in (e .host) (name .source) pair r q (Soon due) (ap (insideSound (e .host) (name .source) pair r) (sym p) ∙ at .sound) .express in
+    not-true (isNoPair pair) (and-both (timeIn due) _ sound .1)
+
+fire-tells : (us : List ℕ) (e : End) (w : Wait) (x : Slot) → recordAt (sourceAt e (w .name .source)) (w .name .number .0) .slot ≡ x
+    → Among w (waitsIn (w .name) x)
+    → Tells e w (fireAt us (w .rank) (w .name) e x)
 unfolding fireAt
-fire-tells us e w x slot h =
-    by-wait (w .name) x w h
-    (λ q p k. rw p (record {
+fire-tells us e w x slot h = fires-as (Tells e w) us e w x h
+    (λ q i k. record {
+      message = expressMessage (momentOf e) (w .name) (keptSender (sourceAt e (w .name .source) .pair));
+      out = refl;
+      written = λ f. express-written e f (w .name) q (Soon (w .due)) (slot ∙ i) refl;
+      kind = ap kindFor (sym k);
+      name = refl;
+      sender = refl;
+      stamp = refl;
+      clock = refl;
+      kept = λ f _. kept-pair (sourceAt e (w .name .source) .pair) (beside-pair e f (w .name) q (w .due) (slot ∙ i));
+      requester = two-ranks (w .rank) expressRank replyRank (λ d. omega arith) k;
+    })
+    (λ q y i time k. record {
       message = requestMessage (momentOf e) (w .name);
       out = refl;
-      written = λ f. request-written e f (w .name) q (slot ∙ p);
-      kind = ap (λ (t : Bool). cond t REPL RQST) (sym k);
+      written = λ f. request-written e f (w .name) q y (slot ∙ i);
+      kind = ap kindFor (sym k);
       name = refl;
       sender = refl;
       stamp = refl;
       clock = refl;
-      requester = λ t. clash (sym t ∙ k);
-    }))
-    (λ j p k. rw p (record {
+      kept = λ f. two-ranks (w .rank) requestRank expressRank (λ d. omega arith) k;
+      requester = two-ranks (w .rank) requestRank replyRank (λ d. omega arith) k;
+    })
+    (λ j i k. record {
       message = repairMessage (momentOf e) (w .name) j (recordAt (sourceAt e (w .name .source)) (w .name .number .0) .cue);
       out = refl;
-      written = λ f. repair-written e f (w .name) (w .due) j (slot ∙ p);
-      kind = ap (λ (t : Bool). cond t REPL RQST) (sym k);
+      written = λ f. repair-written e f (w .name) (w .due) j (slot ∙ i);
+      kind = ap kindFor (sym k);
       name = refl;
       sender = refl;
       stamp = refl;
       clock = refl;
-      requester = λ _. slot ∙ p;
-    }))
+      kept = λ f. two-ranks (w .rank) replyRank expressRank (λ d. omega arith) k;
+      requester = λ _. slot ∙ i;
+    })
 
 -- either nothing is due and Nothing comes, or the earliest goes out
 fire-cases : (P : Step → Type 0) (us : List ℕ) (e : End)
     → (((w : Wait) → IsDue e w → ⊥) → P (give Nothing e))
     → ((w : Wait) → IsEarliest e w → Tells e w (fired us e (First w)) → P (fired us e (First w)))
     → P (fireOf us e)
-unfolding fired waitAt
+unfolding fired waitsAt
 fire-cases P us e nothing goes = go (earliest e 8) refl
   where
     go : (x : Earliest) → earliest e 8 ≡ x → P (fired us e x)
@@ -138,13 +166,17 @@ did : (a b : Effect) → Did a ≡ Did b → a ≡ b
 did a b p = cc
 
 -- what is read of a message that is read as it was written
-read-tells : (e : End) (clock : ℕ) (w : Wait) (step : Step) (bytes : List ℕ) (t : Tells (withClock e clock) w step) → Written (t .message) → bytesOf (t .message) ≡ bytes → TellsOf e clock w bytes
-read-tells e clock w step bytes t is same = subst (TellsOf e clock w) same (record {
+read-tells : (e : End) (clock : ℕ) (w : Wait) (step : Step) (bytes : List ℕ) (t : Tells (withClock e clock) w step)
+    → Written (t .message) → bytesOf (t .message) ≡ bytes → SoundState (withClock e clock) → TellsOf e clock w bytes
+read-tells e clock w step bytes t is same f = subst (TellsOf e clock w) same (record {
   accepted = is .accepted;
   kind = ap (λ (m : Meaning). m .kind) (is .back) ∙ t .kind;
   name = ap (λ (m : Meaning). messageName m) (is .back) ∙ t .name;
   sender = ap (λ (m : Meaning). m .sender) (is .back) ∙ t .sender;
   stamp = ap (λ (m : Meaning). m .stamp) (is .back) ∙ t .stamp;
+  kept = λ k.
+      let p = t .kept f k in
+      (p .0, p .1, p .2 ∙ ap (λ (m : Meaning). Kept (p .0) (messageHost m) (p .1)) (sym (is .back)));
   requester = λ r. t .requester r ∙ ap (λ (m : Meaning). Held (Due (w .due) (messageHost m))) (sym (is .back));
 })
 
@@ -171,7 +203,7 @@ goes e clock room draws bytes =
 pub out-is-earliest : OutIsEarliest
 out-is-earliest e clock room draws bytes h =
     let g = goes e clock room draws bytes h in
-    (g .wait, g .first, read-tells e clock (g .wait) _ bytes (g .tells) (g .tells .written (g .sound)) (g .is))
+    (g .wait, g .first, read-tells e clock (g .wait) _ bytes (g .tells) (g .tells .written (g .sound)) (g .is) (g .sound))
 
 pub nothing-means-none : NothingMeansNone
 nothing-means-none e clock room draws =
@@ -253,20 +285,21 @@ module _ (e : End) (f : SoundState e) (name : Name) (hs : name .source .0 < 8)
   span-is : SpanIn (s₀ .span)
   span-is = span-in _ _ _ _ _ s₀ (f .each (name .source .0) hs)
 
-  waits-there : waitAt (withNamed e name r) name ≡ waitIn name (r .slot)
-  unfolding waitAt
+  waits-there : waitsAt (withNamed e name r) name ≡ waitsIn name (r .slot)
+  unfolding waitsAt
   waits-there =
-      ap (λ (y : Source). waitIn name (recordAt y n₀ .slot))
+      ap (λ (y : Source). waitsIn name (recordAt y n₀ .slot))
       (getD-set-same (e .sources) (name .source .0) (withRecord s₀ n₀ r) noSource (omega (arith, f .sources)))
-      ∙ ap (λ (y : Record). waitIn name (y .slot)) (read-same s₀ n₀ r inside sized)
+      ∙ ap (λ (y : Record). waitsIn name (y .slot)) (read-same s₀ n₀ r inside sized)
 
-  waits-elsewhere : (h n : ℕ) → (h ≡ name .source .0 → n ≡ n₀ → ⊥) → waitAt (withNamed e name r) (nameAt h n) ≡ waitAt e (nameAt h n)
-  unfolding waitAt
+  waits-elsewhere : (h n : ℕ) → (h ≡ name .source .0 → n ≡ n₀ → ⊥) → waitsAt (withNamed e name r) (nameAt h n) ≡ waitsAt e (nameAt h n)
+  unfolding waitsAt
   waits-elsewhere h n apart =
-      set-elim (λ (y : Source). waitIn (nameAt h n) (recordAt y n .slot) ≡ waitAt e (nameAt h n)) (e .sources) (name .source .0) h (withRecord s₀ n₀ r) noSource
-      (λ i. store-elim (λ (y : Record). waitIn (nameAt h n) (y .slot) ≡ waitAt e (nameAt h n)) s₀ n₀ r n (narrow (s₀ .span) span-is) inside sized
+      set-elim (λ (y : Source). waitsIn (nameAt h n) (recordAt y n .slot) ≡ waitsAt e (nameAt h n))
+      (e .sources) (name .source .0) h (withRecord s₀ n₀ r) noSource
+      (λ i. store-elim (λ (y : Record). waitsIn (nameAt h n) (y .slot) ≡ waitsAt e (nameAt h n)) s₀ n₀ r n (narrow (s₀ .span) span-is) inside sized
       (λ j. absurd (apart i j))
-      (ap (λ k. waitIn (nameAt h n) (recordAt (sourceAt e (asHost k)) n .slot)) (sym i)))
+      (ap (λ k. waitsIn (nameAt h n) (recordAt (sourceAt e (asHost k)) n .slot)) (sym i)))
       refl
 
   -- first of every source is as it was
@@ -275,15 +308,17 @@ module _ (e : End) (f : SoundState e) (name : Name) (hs : name .source .0 < 8)
       (λ i. ap (λ (k : ℕ). firstNumber e k) (sym i)) refl
 
   count-elsewhere : (h i : ℕ) → (h ≡ name .source .0 → firstNumber e h + i ≡ n₀ → ⊥)
-      → dueCount (e .clock) (waitAt (withNamed e name r) (nameAt h (firstNumber (withNamed e name r) h + i)))
-      ≡ dueCount (e .clock) (waitAt e (nameAt h (firstNumber e h + i)))
+      → dueCount (e .clock) (waitsAt (withNamed e name r) (nameAt h (firstNumber (withNamed e name r) h + i)))
+      ≡ dueCount (e .clock) (waitsAt e (nameAt h (firstNumber e h + i)))
   count-elsewhere h i apart =
-      ap (λ (k : ℕ). dueCount (e .clock) (waitAt (withNamed e name r) (nameAt h (k + i)))) (first-same h)
+      ap (λ (k : ℕ). dueCount (e .clock) (waitsAt (withNamed e name r) (nameAt h (k + i)))) (first-same h)
       ∙ ap (dueCount (e .clock)) (waits-elsewhere h (firstNumber e h + i) apart)
 
--- where a wait was due and now none is, one less is due
-one-less : (e : End) → SoundState e → (w : Wait) → IsDue e w → (r : Record) → dueCount (e .clock) (waitIn (w .name) (r .slot)) ≡ 0 → dueWaits (withNamed e (w .name) r) + 1 ≡ dueWaits e
-unfolding dueWaits dueCount
+-- where one less is due under the name of a due wait, one less is due in all
+one-less : (e : End) → SoundState e → (w : Wait) → IsDue e w → (r : Record)
+    → dueCount (e .clock) (waitsIn (w .name) (r .slot)) + 1 ≡ dueCount (e .clock) (waitsAt e (w .name))
+    → dueWaits (withNamed e (w .name) r) + 1 ≡ dueWaits e
+unfolding dueWaits
 one-less e f w due r is =
     let name = w .name in
     let inside = due-inside e w due in
@@ -292,16 +327,18 @@ one-less e f w due r is =
     let low = firstNumber e h in
     let among = among-64 (sourceAt e (name .source) .span) n (span-is e f name (due .source) inside r) inside in
     let there : low + (n - low) ≡ n = omega (arith, among .0) in
-    let was : dueCount (e .clock) (waitAt e (nameAt h (low + (n - low)))) ≡ 1 = rw (there, due .waits, le-leb (w .due) (e .clock) (due .due)) in
-    let now : dueCount (e .clock) (waitAt (withNamed e name r) (nameAt h (firstNumber (withNamed e name r) h + (n - low)))) ≡ 0 =
-    ap (λ (k : ℕ). dueCount (e .clock) (waitAt (withNamed e name r) (nameAt h (k + (n - low))))) (first-same e f name (due .source) inside r h)
-    ∙ ap (λ (k : ℕ). dueCount (e .clock) (waitAt (withNamed e name r) (nameAt h k))) there
-    ∙ ap (dueCount (e .clock)) (waits-there e f name (due .source) inside r) ∙ is in
+    let was : dueCount (e .clock) (waitsAt e (nameAt h (low + (n - low)))) ≡ dueCount (e .clock) (waitsAt e name) =
+    ap (λ (k : ℕ). dueCount (e .clock) (waitsAt e (nameAt h k))) there in
+    let now : dueCount (e .clock) (waitsAt (withNamed e name r) (nameAt h (firstNumber (withNamed e name r) h + (n - low))))
+    ≡ dueCount (e .clock) (waitsIn name (r .slot)) =
+    ap (λ (k : ℕ). dueCount (e .clock) (waitsAt (withNamed e name r) (nameAt h (k + (n - low))))) (first-same e f name (due .source) inside r h)
+    ∙ ap (λ (k : ℕ). dueCount (e .clock) (waitsAt (withNamed e name r) (nameAt h k))) there
+    ∙ ap (dueCount (e .clock)) (waits-there e f name (due .source) inside r) in
     sum-less _ _ 8 h (due .source)
     (λ k hk d. sum-same _ _ 64 (λ i l. count-elsewhere e f name (due .source) inside r k i (λ p q. d p)))
     (sum-less _ _ 64 (n - low) (omega (arith, among .1))
     (λ i l d. count-elsewhere e f name (due .source) inside r h i (λ p q. d (omega arith)))
-    (omega (arith, was, now)))
+    (omega (arith, was, now, is)))
 
 -- ---- what Fire leaves under the name
 
@@ -311,18 +348,61 @@ set-later t us d n k hc hd =
     let wait : 1 * 1 * 1 ≤ factor k * t .params .c1 * d = mul-le-mul (mul-le-mul (factor-least k) hc) hd in
     omega arith
 
+-- what is due counts, and what is not does not
+counts : (due clock : ℕ) → due ≤ clock → _≡_ {A = ℕ} (cond (leb due clock) 1 0) 1
+counts due clock l = ap (λ (t : Bool). cond t 1 0) (le-leb due clock l)
+
+counts-not : (due clock : ℕ) → clock < due → _≡_ {A = ℕ} (cond (leb due clock) 1 0) 0
+counts-not due clock l = ap (λ (t : Bool). cond t 1 0) (lt-leb due clock l)
+
+-- under one name: its express wait goes; its request is due later, and what stands beside it stays; its reply goes
+module _ (clock : ℕ) (name : Name) where
+  abbrev dueIn : Slot → ℕ
+  dueIn x = dueCount clock (waitsIn name x)
+
+  express-less : (q : Request) (due : ℕ) → due ≤ clock → dueIn (Waiting q Unset) + 1 ≡ dueIn (Waiting q (Soon due))
+  unfolding dueCount waitsIn
+  express-less q due l = omega (arith, counts due clock l)
+
+  request-less : (q p : Request) (x : Express) → q .due ≤ clock → clock < p .due → dueIn (Waiting p x) + 1 ≡ dueIn (Waiting q x)
+  unfolding dueCount waitsIn
+  request-less q p Unset l k = omega (arith, counts (q .due) clock l, counts-not (p .due) clock k)
+  request-less q p (Soon due) l k = omega (arith, counts (q .due) clock l, counts-not (p .due) clock k)
+
+  reply-less : (due : ℕ) (k : Host) → due ≤ clock → dueIn (Held No) + 1 ≡ dueIn (Held (Due due k))
+  unfolding dueCount waitsIn
+  reply-less due k l = omega (arith, counts due clock l)
+
+  one : (due : ℕ) → cond (leb due clock) 1 0 ≤ 1
+  one due = byCond (λ (k : ℕ). k ≤ 1) (leb due clock) (λ _. omega arith) (λ _. omega arith)
+
+  at-most-two : (x : Slot) → dueIn x ≤ 2
+  unfolding dueCount waitsIn
+  at-most-two Empty = omega arith
+  at-most-two (Waiting q Unset) = omega (arith, one (q .due))
+  at-most-two (Waiting q (Soon due)) = omega (arith, one (q .due), one due)
+  at-most-two (Held No) = omega arith
+  at-most-two (Held (Due due k)) = omega (arith, one due)
+
 fired-less : (us : List ℕ) (e : End) → SoundState e → (w : Wait) → IsDue e w → 1 ≤ e .params .c1
-    → ((q : Request) → recordAt (sourceAt e (w .name .source)) (w .name .number .0) .slot ≡ Waiting q → 1 ≤ distanceTo e (w .name .source))
+    → ((q : Request) → requestIn (recordAt (sourceAt e (w .name .source)) (w .name .number .0) .slot) ≡ some q → 1 ≤ distanceTo e (w .name .source))
     → dueWaits (fired us e (First w) .left) + 1 ≡ dueWaits e
-unfolding fired waitAt fireAt dueCount waitIn
-fired-less us e f w due c1 distance = go _ refl (due .waits)
-  where
-    go : (x : Slot) → recordAt (sourceAt e (w .name .source)) (w .name .number .0) .slot ≡ x → waitIn (w .name) x ≡ some w → dueWaits (fireAt us (w .name) e x .left) + 1 ≡ dueWaits e
-    go x p h = by-wait (w .name) x w h
-        (λ q i k.
-        let later = set-later (momentOf e) us (distanceTo e (w .name .source)) (w .name .number .0) (nextRound (q .round)) c1 (distance q (p ∙ i)) in
-        rw i (one-less e f w due _ (ap (λ (t : Bool). cond t 1 0) (lt-leb _ (e .clock) later))))
-        (λ j i k. rw i (one-less e f w due _ (rw (p ∙ i))))
+unfolding fired waitsAt fireAt
+fired-less us e f w d c1 distance =
+    let name = w .name in
+    let n = name .number .0 in
+    let s = sourceAt e (name .source) in
+    let clock = e .clock in
+    fires-as (λ (r : Step). dueWaits (r .left) + 1 ≡ dueWaits e) us e w (recordAt s n .slot) (d .waits)
+    (λ q i k. one-less e f w d _
+    (subst (λ (z : Slot). dueIn clock name (withExpress Unset z) + 1 ≡ dueIn clock name z) (sym i) (express-less clock name q (w .due) (d .due))))
+    (λ q y i time k.
+    let next = requestAt (momentOf e) us (s .distance) n (nextRound (q .round)) in
+    let later = set-later (momentOf e) us (s .distance) n (nextRound (q .round)) c1 (distance q (ap requestIn i)) in
+    one-less e f w d _ (subst (λ (z : Slot). dueIn clock name (Waiting next (expressIn z)) + 1 ≡ dueIn clock name z) (sym i)
+    (request-less clock name q next y (omega (arith, time, d .due)) later)))
+    (λ j i k. one-less e f w d _
+    (subst (λ (z : Slot). dueIn clock name (withReply No z) + 1 ≡ dueIn clock name z) (sym i) (reply-less clock name (w .due) j (d .due))))
 
 -- ---- the call
 
@@ -348,12 +428,7 @@ all-less e clock room (draws ∷ more) c1 h =
     let same : dueWaits (withClock left clock) ≡ dueWaits left = ap (λ (k : ℕ). dueWaits (withClock left k)) (sym late) in
     omega arith
 
-count-most : (clock : ℕ) (o : Option Wait) → dueCount clock o ≤ 1
-unfolding dueCount
-count-most clock none = omega arith
-count-most clock (some w) = byCond (λ k. k ≤ 1) (leb (w .due) clock) (λ _. omega arith) (λ _. omega arith)
-
 pub firing-ends : FiringEnds
-unfolding dueWaits
+unfolding dueWaits waitsAt
 firing-ends e clock room calls c1 h =
-    (all-less e clock room calls c1 h, sum-most _ 64 8 (λ s. sum-most _ 1 64 (λ n. count-most clock _)))
+    (all-less e clock room calls c1 h, sum-most _ 128 8 (λ s. sum-most _ 2 64 (λ n. at-most-two clock _ _)))

@@ -12,7 +12,7 @@ use Rattle.message.specs.declared.Host.{Host}
 use Rattle.message.specs.declared.Name.{Name}
 use Rattle.message.specs.declared.Report.{Report}
 use Rattle.message.specs.Entry.{asHost}
-use Rattle.message.specs.Message.{DATA, RQST, REPL, Meaning, meaningFrom, countsOf}
+use Rattle.message.specs.Message.{DATA, RQST, REPL, XPRS, Meaning, meaningFrom, countsOf}
 use Rattle.message.specs.Question.{sameHost, readRefusal}
 use Rattle.message.proofs.QuestionLaws.{counted as counted-row}
 use Rattle.roundtrip.proofs.RoundTrip.{accepted, counts-read}
@@ -21,6 +21,8 @@ use Rattle.end.specs.declared.Status.{Status}
 use Rattle.end.specs.declared.Status.the-variants.{Idle, Joining, Member, Leaving, Crashed}
 use Rattle.end.specs.declared.Move.{Move}
 use Rattle.end.specs.declared.Move.the-variants.{Join, Joined, Leave, Left, Crash}
+use Rattle.end.specs.declared.Express.{Express}
+use Rattle.end.specs.declared.Express.the-variants.{Unset}
 use Rattle.end.specs.declared.Slot.{Slot}
 use Rattle.end.specs.declared.Slot.the-variants.{Empty, Held, Waiting}
 use Rattle.end.specs.declared.Reply.the-variants.{No, Due}
@@ -33,14 +35,14 @@ use Rattle.end.specs.declared.Moment.{Moment}
 use Rattle.end.specs.declared.Earliest.{Earliest}
 use Rattle.end.specs.declared.Earliest.the-variants.{NoWait, First}
 use Rattle.end.specs.State.{noSource, unheard, unheardSources, sourceAt, isMember, momentOf, withClock, onSource}
-use Rattle.end.specs.Records.{isClosed, within, recordAt, isHeld, withRecord}
+use Rattle.end.specs.Records.{isClosed, within, recordAt, isHeld, withRecord, withExpress}
 use Rattle.end.specs.Names.{asked, holdsCue, firstAfter}
 use Rattle.end.specs.Sound.{allOf, spanTests, nonMemberTests, soundOf}
 use Rattle.end.specs.Answer.{Done, Ignored, Step, Untouched, Did, Result, done}
 use Rattle.end.specs.Decide.{stepAt, number, known}
 use Rattle.end.specs.Session.{reportedSource, allReported, sessionOf}
 use Rattle.end.specs.Arrival.{messageStep, arrivalOf}
-use Rattle.end.specs.Fire.{earliest, fireAt, fired}
+use Rattle.end.specs.Fire.{expressRank, earliest, fireAt, fired}
 use Rattle.end.specs.Event.{Action, Moves, Send, Arrival, Else, Other, Fire, Report as Reporting, moves, clears, movedEnd, moveOf, extended, sentSource, sendOf, otherOf, ifMember, actOf, eventOf}
 use Rattle.end.specs.Opening.{openRefusal, endFor, openingOf}
 use Rattle.end.specs.Book.{source, readAs, among}
@@ -54,12 +56,19 @@ use Rattle.invariants.proofs.Facts.{SoundState, facts}
 use Rattle.invariants.proofs.Ends.{clock-kept}
 use Rattle.invariants.proofs.Questions.{Passed}
 use Rattle.guarantees.specs.Calls.{OneCall, after, afterAll}
+use Rattle.guarantees.specs.Records.{requestIn}
 use Rattle.guarantees.specs.History.{told, Since, nothingYet, sinceRead, sinceAction, sinceCall, sinceFrom, sinceJoining, countOver, counted, spanSince, CountOverHistory, NonMembersCountNone}
 use Rattle.guarantees.proofs.Calls.{call-cases, crashed-no-member, changed-at}
 use Rattle.guarantees.proofs.Names.{waits-inside, held-inside, source-of, Ends, own-ends}
 use Rattle.guarantees.proofs.Heard.{replied-held}
 use Rattle.guarantees.proofs.HistoryMessages.{Tells, read-none, closed-none, tells-none, tells-stored, arrival-tells}
 use Rattle.guarantees.proofs.HistoryKept.{others-count, others-span, others-held}
+
+-- an express wait beside a request, or none
+beside-held : (x : Express) (y : Slot) → isHeld (withExpress x y) ≡ isHeld y
+beside-held x Empty = refl
+beside-held x (Held reply) = refl
+beside-held x (Waiting q was) = refl
 
 -- ---- Fire: a wait that goes out changes one record, which stays held or not
 module _ (us : List ℕ) (e : End) (long : length (e .sources) ≡ 8) (past : ℕ → Since)
@@ -77,12 +86,16 @@ module _ (us : List ℕ) (e : End) (long : length (e .sources) ≡ 8) (past : �
       (subst (λ (k : ℕ). Tells (eqb s (e .host .0)) (past s) (source-of e k)) it (told-so s hh)))
       (λ _. told-so s hh)
 
-  fire-tells : (name : Name) (x : Slot) → recordAt (sourceAt e (name .source)) (name .number .0) .slot ≡ x → Stays (fireAt us name e x)
+  fire-tells : (rank : ℕ) (name : Name) (x : Slot) → recordAt (sourceAt e (name .source)) (name .number .0) .slot ≡ x → Stays (fireAt us rank name e x)
   unfolding fireAt
-  fire-tells name Empty p = told-so s hh
-  fire-tells name (Waiting q) p = stored-tells name _ (waits-inside (sourceAt e (name .source)) (name .number .0) q p) (sym (ap isHeld p))
-  fire-tells name (Held No) p = told-so s hh
-  fire-tells name (Held (Due due k)) p =
+  fire-tells rank name Empty p = told-so s hh
+  fire-tells rank name (Waiting q x) p =
+      let inside = waits-inside (sourceAt e (name .source)) (name .number .0) q (ap requestIn p) in
+      byCond Stays (eqb rank expressRank)
+      (λ _. stored-tells name _ inside (beside-held Unset (recordAt (sourceAt e (name .source)) (name .number .0) .slot)))
+      (λ _. stored-tells name _ inside (sym (ap isHeld p)))
+  fire-tells rank name (Held No) p = told-so s hh
+  fire-tells rank name (Held (Due due k)) p =
       stored-tells name _ (held-inside (sourceAt e (name .source)) (name .number .0) (ap isHeld p))
       (replied-held No (recordAt (sourceAt e (name .source)) (name .number .0) .slot))
 
@@ -92,7 +105,7 @@ module _ (us : List ℕ) (e : End) (long : length (e .sources) ≡ 8) (past : �
     where
       go : (x : Earliest) → Stays (fired us e x)
       go NoWait = told-so s hh
-      go (First w) = fire-tells (w .name) _ refl
+      go (First w) = fire-tells (w .rank) (w .name) _ refl
   other-tells Reporting = told-so s hh
 
 -- ---- Send: own numbers are all held, so none is counted
@@ -124,7 +137,7 @@ send-tells us cue e sound clock past told-so s hh =
     let ends = own-ends e sound in
     let own = eq-eqb (me .0) (me .0) refl in
     let held : (j : ℕ) → within (p .span) j ≡ true → holdsCue p j ≡ true =
-    λ j w. own-held me me (p .span) j (recordAt p j) (rw w (f .each (me .0) (f .host) .inside j w)) w own in
+    λ j w. own-held me me (p .pair) (p .span) j (recordAt p j) (rw w (f .each (me .0) (f .host) .inside j w)) w own in
     changed-at (Tells (eqb s (me .0)) (past s)) (e .sources) (me .0) (sentSource (momentOf (withClock e clock)) us (e .next) cue p) s
     (omega (arith, f .sources))
     (λ it.
@@ -186,16 +199,17 @@ unfolding arrivalOf messageStep stepAt sessionOf
 arrival-frame us m e = byCond (Frame e) (sameHost (m .sender) (e .host)) (λ _. (refl, refl))
     (λ _. byCond (Frame e) (eqb (m .kind) DATA) (λ _. (refl, refl))
     (λ _. byCond (Frame e) (eqb (m .kind) RQST) (λ _. (refl, refl))
-    (λ _. byCond (Frame e) (eqb (m .kind) REPL) (λ _. (refl, refl)) (λ _. reported-frame (momentOf e) us (m .reports) e))))
+    (λ _. byCond (Frame e) (eqb (m .kind) REPL) (λ _. (refl, refl))
+    (λ _. byCond (Frame e) (eqb (m .kind) XPRS) (λ _. (refl, refl)) (λ _. reported-frame (momentOf e) us (m .reports) e)))))
 
 fire-frame : (us : List ℕ) (e : End) (x : Earliest) → Frame e (fired us e x)
 unfolding fired fireAt
 fire-frame us e NoWait = (refl, refl)
 fire-frame us e (First w) = go (recordAt (sourceAt e (w .name .source)) (w .name .number .0) .slot)
   where
-    go : (x : Slot) → Frame e (fireAt us (w .name) e x)
+    go : (x : Slot) → Frame e (fireAt us (w .rank) (w .name) e x)
     go Empty = (refl, refl)
-    go (Waiting q) = (refl, refl)
+    go (Waiting q x) = byCond (Frame e) (eqb (w .rank) expressRank) (λ _. (refl, refl)) (λ _. (refl, refl))
     go (Held No) = (refl, refl)
     go (Held (Due due k)) = (refl, refl)
 

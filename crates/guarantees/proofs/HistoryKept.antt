@@ -10,12 +10,13 @@ use lib.Dec.{eqb}
 use borrow.Author.Tests.{eqb-true, eq-eqb, ne-eqb, ltb-true, ltb-false}
 use Rattle.numbers.proofs.Cases.{by-order}
 use Rattle.message.specs.Entry.{asNumber}
+use Rattle.end.specs.declared.Pair.{Pair}
 use Rattle.end.specs.declared.Record.{Record}
 use Rattle.end.specs.declared.Heard.{Heard}
 use Rattle.end.specs.declared.Span.{Span}
 use Rattle.end.specs.declared.Span.the-variants.{Closed, Open}
 use Rattle.end.specs.declared.Source.{Source}
-use Rattle.end.specs.State.{withDistance, withHeard}
+use Rattle.end.specs.State.{withPair, withDistance, withHeard}
 use Rattle.end.specs.Records.{within, isAbove, isHeld, recordAt, withRecord}
 use Rattle.end.specs.Names.{holding, hold, lacking, holdsCue, firstAfter, riseWith, openAt}
 use Rattle.end.specs.Book.{raisedTo, higher, among}
@@ -221,7 +222,13 @@ module _ (s : Source) where
   others-begun n cue (f0 ∷ more) none shut sized q = absurd q
   others-begun n cue (f0 ∷ more) (some top) shut sized q = absurd (let z : Closed ≡ _ = sym shut ∙ q .is in let y : _≡_ {A = ℕ} 0 1 = cc in omega arith)
 
-  -- distance and heard stamp are another matter
+  -- the kept pair, the distance and the heard stamp are another matter
+  pub others-paired : (pair : Pair) (hs : List ℕ) (top : Option ℕ) → Others hs top s → Others hs top (withPair s pair)
+  unfolding Others recordAt
+  others-paired pair [] top q = q
+  others-paired pair (f0 ∷ more) none q = q
+  others-paired pair (f0 ∷ more) (some top) q = record { is = q .is; sized = q .sized; least = q .least; count = q .count; held = q .held }
+
   pub others-measured : (d : ℕ) (heard : Heard) (hs : List ℕ) (top : Option ℕ) → Others hs top s → Others hs top (withHeard (withDistance s d) heard)
   unfolding Others recordAt
   others-measured d heard [] top q = q

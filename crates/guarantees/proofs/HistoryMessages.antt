@@ -1,4 +1,4 @@
--- A message, and what the history says of each source after it: DATA, RQST and REPL, SESS, and any that is read.
+-- A message, and what the history says of each source after it: DATA, RQST, REPL and XPRS, SESS, and any that is read.
 use mathlib.Core.Path.{_≡_, refl, sym, ap, _∙_, subst}
 use mathlib.Core.Bool.{Bool, true, false, cond, not, _&&_, _||_}
 use mathlib.Core.List.{List, [], _∷_}
@@ -11,7 +11,7 @@ use borrow.Author.Tests.{eq-eqb}
 use Rattle.message.specs.declared.Name.{Name}
 use Rattle.message.specs.declared.Report.{Report}
 use Rattle.message.specs.Kind.{rowOf}
-use Rattle.message.specs.Message.{DATA, RQST, REPL, SESS, Meaning, meaningFrom}
+use Rattle.message.specs.Message.{DATA, RQST, REPL, SESS, XPRS, Meaning, meaningFrom}
 use Rattle.message.specs.Question.{sameHost}
 use Rattle.end.specs.declared.Record.{Record}
 use Rattle.end.specs.declared.Span.the-variants.{Closed}
@@ -19,19 +19,19 @@ use Rattle.end.specs.declared.Source.{Source}
 use Rattle.end.specs.declared.End.{End}
 use Rattle.end.specs.declared.Moment.{Moment}
 use Rattle.end.specs.declared.Says.{Says}
-use Rattle.end.specs.declared.Says.the-variants.{Data, Rqst, Repl}
+use Rattle.end.specs.declared.Says.the-variants.{Data, Rqst, Repl, Xprs}
 use Rattle.end.specs.declared.Word.{Word}
 use Rattle.end.specs.declared.Decision.{Decision}
-use Rattle.end.specs.declared.Decision.the-variants.{Ignores, Opens, Takes, Repairs, Hushes, Replies, Learns, BacksOff, Clashes}
+use Rattle.end.specs.declared.Decision.the-variants.{Ignores, Opens, Takes, Repairs, Hushes, Replies, Learns, BacksOff, Clashes, Expresses}
 use Rattle.end.specs.State.{sourceAt, momentOf, onSource}
 use Rattle.end.specs.Records.{within, isAbove, isHeld, withRecord}
 use Rattle.end.specs.Names.{asked, holdsCue}
-use Rattle.end.specs.Answer.{Step, Class, PutsOut, HandsOut, Untouched, classOf}
+use Rattle.end.specs.Answer.{Step, Class, PutsOut, HandsOut, Untouched, classOf, handsOut}
 use Rattle.end.specs.Decide.{decide, apply, effectOf, stepAt, number, known}
 use Rattle.end.specs.Session.{reportedSource, allReported, heardFrom, sessionOf}
 use Rattle.end.specs.Arrival.{messageName, wordOf, wordStep, messageStep, arrivalOf}
 use Rattle.end.specs.Book.{source, raisedTo, reportedTo, isAboutName, broughtTo, readAs}
-use Rattle.end.proofs.Tools.{byCond, byTest, clash′, eqb-flip}
+use Rattle.end.proofs.Tools.{byCond, byTest, clash, clash′, eqb-flip}
 use Rattle.end.proofs.Grounds.{Grounds, grounds}
 use Rattle.end.proofs.Readings.{in-range, original-source}
 use Rattle.invariants.proofs.Facts.{SoundState}
@@ -64,6 +64,13 @@ bringing-none : (me : ℕ) (m : Meaning) (s : ℕ) → bringing me m s nothingYe
 bringing-none me m s = byCond (λ (x : Since). x ≡ nothingYet) (eqb (m .sender .0) me) (λ _. refl)
     (λ _. ap (λ (x : Option ℕ). record { handed = []; highest = x }) (brought-none m s))
 
+-- where nothing is handed out
+nothing-handed : (me s : ℕ) (m : Meaning) (c : Class) → handsOut c ≡ false → sinceMessage me s nothingYet m c ≡ nothingYet
+unfolding sinceMessage
+nothing-handed me s m (HandsOut name cue) h = clash h
+nothing-handed me s m (PutsOut bytes) h = bringing-none me m s
+nothing-handed me s m Untouched h = bringing-none me m s
+
 pub read-none : (me s : ℕ) (o : Option Meaning) → sinceRead me s nothingYet o Untouched ≡ nothingYet
 unfolding sinceRead sinceMessage
 read-none me s none = refl
@@ -87,7 +94,7 @@ unfolding Tells
 tells-stored true x s n r w same q = q
 tells-stored false x s n r w same q = others-stored s n r (x .handed) (x .highest) w same q
 
--- ---- DATA, RQST and REPL
+-- ---- DATA, RQST, REPL and XPRS
 module _ (us : List ℕ) (m : Meaning) (e : End) (f : SoundState e) (unlooped : eqb (m .sender .0) (e .host .0) ≡ false)
     (says : Says) (kind : eqb (m .kind) (kindOf says) ≡ true) (hs : source m < 8)
     (original : says ≡ Data → sameHost (messageName m .source) (e .host) ≡ false) where
@@ -107,7 +114,7 @@ module _ (us : List ℕ) (m : Meaning) (e : End) (f : SoundState e) (unlooped : 
   n₀ = messageName m .number .0
 
   abbrev SinceWord : Decision → ℕ → Since → Since
-  SinceWord d s x = sinceMessage me s x m (classOf (effectOf w₀ d))
+  SinceWord d s x = sinceMessage me s x m (classOf (effectOf t₀ w₀ (known w₀ s₀) d))
 
   named : (s : ℕ) (top : Option ℕ) → broughtTo m s top ≡ cond (eqb (source m) s) (raisedTo n₀ top) top
   unfolding broughtTo
@@ -129,7 +136,7 @@ module _ (us : List ℕ) (m : Meaning) (e : End) (f : SoundState e) (unlooped : 
   apart s x off Untouched is = brings-none s x off
 
   -- what is handed out has the message's name
-  handed-name : (d : Decision) (name : Name) (cue : List ℕ) → classOf (effectOf w₀ d) ≡ HandsOut name cue → name ≡ messageName m
+  handed-name : (d : Decision) (name : Name) (cue : List ℕ) → classOf (effectOf t₀ w₀ (known w₀ s₀) d) ≡ HandsOut name cue → name ≡ messageName m
   unfolding effectOf
   handed-name (Ignores why) name cue p = let z : _≡_ {A = ℕ} 0 1 = cc in absurd (omega arith)
   handed-name Opens name cue p = cc
@@ -139,6 +146,7 @@ module _ (us : List ℕ) (m : Meaning) (e : End) (f : SoundState e) (unlooped : 
   handed-name Replies name cue p = let z : _≡_ {A = ℕ} 0 1 = cc in absurd (omega arith)
   handed-name Learns name cue p = let z : _≡_ {A = ℕ} 0 1 = cc in absurd (omega arith)
   handed-name (BacksOff k) name cue p = let z : _≡_ {A = ℕ} 0 1 = cc in absurd (omega arith)
+  handed-name Expresses name cue p = let z : _≡_ {A = ℕ} 0 1 = cc in absurd (omega arith)
   handed-name Clashes name cue p = let z : _≡_ {A = ℕ} 0 1 = cc in absurd (omega arith)
 
   -- the source that it names, another's
@@ -159,12 +167,13 @@ module _ (us : List ℕ) (m : Meaning) (e : End) (f : SoundState e) (unlooped : 
       → Tells own (SinceWord d (source m) x) (apply t₀ us w₀ d s₀)
   unfolding Tells sinceMessage
   here true own x q d g =
-      let z = word-own t₀ us w₀ s₀ own original (f .each (source m) hs .inside n₀) d g in (
-        (λ i. sinceMessage me (source m) (q .0 i) m (z .class i)) ∙ bringing-none me m (source m),
+      let z = word-own t₀ us w₀ s₀ own original (f .each (source m) hs .inside n₀) d g in
+      let c = classOf (effectOf t₀ w₀ (known w₀ s₀) d) in (
+        ap (λ (y : Since). sinceMessage me (source m) y m c) (q .0) ∙ nothing-handed me (source m) m c (z .class),
         z .missed ∙ q .1,
       )
   here false own x q d g =
-      next-told x (apply t₀ us w₀ d s₀) (classOf (effectOf w₀ d)) (handed-name d)
+      next-told x (apply t₀ us w₀ d s₀) (classOf (effectOf t₀ w₀ (known w₀ s₀) d)) (handed-name d)
       (word-others t₀ us w₀ s₀ (f .each (source m) hs .names) (x .handed) (x .highest) q own d g)
 
   word-tells : (past : ℕ → Since) → ((s : ℕ) → s < 8 → Tells (eqb s me) (past s) (source-of e s)) → (s : ℕ) → s < 8
@@ -176,13 +185,14 @@ module _ (us : List ℕ) (m : Meaning) (e : End) (f : SoundState e) (unlooped : 
       (λ it. subst (λ (k : ℕ). Tells (eqb k me) (SinceWord d k (past k)) (apply t₀ us w₀ d s₀)) (sym it)
       (here (eqb (source m) me) refl (past (source m)) (told (source m) hs) d (grounds t₀ w₀ (known w₀ s₀) (s₀ .span))))
       (λ off. subst (λ (x : Since). Tells (eqb s me) x (source-of e s))
-      (sym (apart s (past s) (eqb-flip s (source m) off) (classOf (effectOf w₀ d)) (handed-name d))) (told s hh))
+      (sym (apart s (past s) (eqb-flip s (source m) off) (classOf (effectOf t₀ w₀ (known w₀ s₀) d)) (handed-name d))) (told s hh))
 
 -- ---- SESS
 
 -- a message that was read and is about no name is a SESS
-known-session : (kind : ℕ) → rowOf kind .known ≡ true → eqb kind DATA ≡ false → eqb kind RQST ≡ false → eqb kind REPL ≡ false → eqb kind SESS ≡ true
-known-session kind h d r p = byTest (eqb kind SESS) (λ t. t) (λ t. clash′ ((rw (d, r, p, t) refl) ∙ h))
+known-session : (kind : ℕ) → rowOf kind .known ≡ true → eqb kind DATA ≡ false → eqb kind RQST ≡ false → eqb kind REPL ≡ false
+    → eqb kind XPRS ≡ false → eqb kind SESS ≡ true
+known-session kind h d r p x = byTest (eqb kind SESS) (λ t. t) (λ t. clash′ ((rw (d, r, p, t, x) refl) ∙ h))
 
 module _ (us : List ℕ) (e : End) where
   abbrev t₁ : Moment
@@ -270,7 +280,10 @@ module _ (us : List ℕ) (m : Meaning) (e : End) (f : SoundState e) (unlooped : 
       (λ k. word-tells us m e f unlooped Rqst k hs (λ p. absurd (let z : _≡_ {A = ℕ} 0 1 = cc in omega arith)) past told-so s hh)
       (λ r. byCond Went (eqb (m .kind) REPL)
       (λ k. word-tells us m e f unlooped Repl k hs (λ p. absurd (let z : _≡_ {A = ℕ} 0 1 = cc in omega arith)) past told-so s hh)
-      (λ p. session-tells us m e (f .sources) unlooped (λ i. d i || (r i || p i)) (known-session (m .kind) kinds d r p) (past s) s hh (told-so s hh))))
+      (λ p. byCond Went (eqb (m .kind) XPRS)
+      (λ k. word-tells us m e f unlooped Xprs k hs (λ p. absurd (let z : _≡_ {A = ℕ} 0 1 = cc in omega arith)) past told-so s hh)
+      (λ x. session-tells us m e (f .sources) unlooped (λ i. d i || (r i || (p i || x i)))
+      (known-session (m .kind) kinds d r p x) (past s) s hh (told-so s hh)))))
 
 -- looped or not
 pub arrival-tells : (us : List ℕ) (b : ℕ) (bytes : List ℕ) (e : End) → SoundState e → readAs (b ∷ bytes) ≡ some (meaningFrom (b ∷ bytes))

@@ -9,6 +9,8 @@ pub mod Choice
 pub mod Slots
 pub mod Fires
 pub mod BackOff
+pub mod Express
+pub mod Pairs
 pub mod Reasons
 pub mod HistoryKept
 pub mod HistoryWords

@@ -5,6 +5,7 @@ use mathlib.Core.Bool.{Bool, true, false, not}
 use Prim.Native.Nat.{ℕ, _+_, _≤_, _<_}
 use native.Mathlib.Omega.{arith}
 use mathlib.Core.List.{List}
+use mathlib.Core.Option.{none, some}
 use lib.ListN.{length, getD}
 use lib.Dec.{leb, eqb}
 use borrow.Author.Tests.{leb-true, ltb-true, eqb-true, eqb-false, eq-eqb, not-true}
@@ -14,7 +15,7 @@ use Rattle.message.specs.Question.{sameHost}
 use Rattle.message.proofs.QuestionLaws.{and-both}
 use Rattle.end.specs.declared.Request.{Request}
 use Rattle.end.specs.declared.Slot.{Slot}
-use Rattle.end.specs.declared.Slot.the-variants.{Empty, Waiting}
+use Rattle.end.specs.declared.Slot.the-variants.{Empty, Held, Waiting}
 use Rattle.end.specs.declared.Record.{Record}
 use Rattle.end.specs.declared.Span.{Span}
 use Rattle.end.specs.declared.Span.the-variants.{Closed, Open}
@@ -22,7 +23,7 @@ use Rattle.end.specs.declared.Source.{Source}
 use Rattle.end.specs.declared.End.{End}
 use Rattle.end.specs.declared.Moment.{Moment}
 use Rattle.end.specs.State.{noSource, blankRecord, sourceAt, distanceTo}
-use Rattle.end.specs.Records.{within, isAbove, recordAt, isHeld}
+use Rattle.end.specs.Records.{within, isAbove, recordAt, isHeld, expressIn}
 use Rattle.end.specs.Sound.{timeLimit, allOf, spanTests, requestTests, insideSound, distanceSound, soundOf}
 use Rattle.end.specs.Names.{asked, openAt}
 use Rattle.end.specs.Event.{extended}
@@ -32,14 +33,20 @@ use Rattle.end.proofs.Facts.{narrow, last-in}
 use Rattle.end.proofs.SoundLaws.{nth}
 use Rattle.end.proofs.Tools.{byTest, clash′}
 use Rattle.invariants.proofs.Facts.{facts}
-use Rattle.guarantees.specs.Records.{slotOf}
+use Rattle.guarantees.specs.Records.{requestIn, requestOf}
 
 -- a slot is one thing
-pub waiting-not : {P : Type 0} (x : Slot) (q : Request) → x ≡ Empty → x ≡ Waiting q → P
-waiting-not x q p h = let z : Empty ≡ Waiting q = sym p ∙ h in absurd (let w : _≡_ {A = ℕ} 0 1 = cc in omega arith)
+pub waiting-not : {P : Type 0} (x : Slot) (q : Request) → x ≡ Empty → requestIn x ≡ some q → P
+waiting-not x q p h = let z : none ≡ some q = sym (ap requestIn p) ∙ h in absurd (let w : _≡_ {A = ℕ} 0 1 = cc in omega arith)
+
+-- a request waits with what stands beside it
+pub waits-as : (x : Slot) (q : Request) → requestIn x ≡ some q → x ≡ Waiting q (expressIn x)
+waits-as Empty q h = cc
+waits-as (Held reply) q h = cc
+waits-as (Waiting p y) q h = let same : p ≡ q = cc in ap (λ (z : Request). Waiting z y) same
 
 -- what waits lies in first..last
-pub waits-inside : (s : Source) (n : ℕ) (q : Request) → recordAt s n .slot ≡ Waiting q → within (s .span) n ≡ true
+pub waits-inside : (s : Source) (n : ℕ) (q : Request) → requestIn (recordAt s n .slot) ≡ some q → within (s .span) n ≡ true
 waits-inside s n q p = byTest (within (s .span) n) (λ t. t) (λ t. waiting-not (recordAt s n .slot) q (ap (λ (r : Record). r .slot) (at-outside s n t)) p)
 
 -- so does what is held
@@ -64,10 +71,11 @@ pub record Waits (e : End) (h n : ℕ) (q : Request) : Type 0 where
   pub most : q .round ≤ 16
   pub due : q .due < timeLimit
 
-pub sound-waits : (e : End) → soundOf e ≡ true → (h n : ℕ) → h < 8 → (q : Request) → slotOf e h n ≡ Waiting q → Waits e h n q
+pub sound-waits : (e : End) → soundOf e ≡ true → (h n : ℕ) → h < 8 → (q : Request) → requestOf e h n ≡ some q → Waits e h n q
 sound-waits e sound h n hh q p =
     let s = sourceAt e (asHost h) in
-    let sounds = sym (ap (insideSound (e .host) (asHost h) (recordAt s n)) p) ∙ facts e sound .each h hh .inside n (waits-inside s n q p) in
+    let sounds = sym (ap (insideSound (e .host) (asHost h) (s .pair) (recordAt s n)) (waits-as (recordAt s n .slot) q p))
+    ∙ facts e sound .each h hh .inside n (waits-inside s n q p) in
     let both = and-both (not (sameHost (asHost h) (e .host))) _ sounds in
     let tests = and-both (allOf (requestTests q)) _ (both .1) .0 in
     record {

@@ -13,12 +13,13 @@ use Rattle.message.proofs.QuestionLaws.{and-both}
 use Rattle.end.specs.declared.Request.{Request}
 use Rattle.end.specs.declared.Slot.{Slot}
 use Rattle.end.specs.declared.Slot.the-variants.{Empty, Held, Waiting}
+use Rattle.end.specs.declared.Pair.{Pair}
 use Rattle.end.specs.declared.Record.{Record}
 use Rattle.end.specs.declared.Span.{Span}
 use Rattle.end.specs.declared.Span.the-variants.{Closed, Open}
 use Rattle.end.specs.declared.Source.{Source}
 use Rattle.end.specs.declared.Says.{Says}
-use Rattle.end.specs.declared.Says.the-variants.{Data, Rqst, Repl}
+use Rattle.end.specs.declared.Says.the-variants.{Data, Rqst, Repl, Xprs}
 use Rattle.end.specs.declared.Word.{Word}
 use Rattle.end.specs.declared.Reason.the-variants.{NotOpen, BelowFirst, RequestQuiet}
 use Rattle.end.specs.declared.Why.{Why}
@@ -36,12 +37,14 @@ use Rattle.end.proofs.RecordLaws.{within-in, at-inside}
 use Rattle.end.proofs.Facts.{facts}
 use Rattle.end.proofs.ReasonLaws.{reason-is-first}
 use Rattle.invariants.proofs.Questions.{Passed, passes}
+use Rattle.guarantees.specs.Records.{requestIn}
 use Rattle.guarantees.specs.Reasons.{RequestQuietWaits}
 
 not-data : (says : Says) → isRequest says ≡ true → isData says ≡ false
 not-data Data p = clash′ p
 not-data Rqst p = refl
 not-data Repl p = refl
+not-data Xprs p = refl
 
 -- inside first..last, as the two tests before and "up to last" say
 inside : (x : Span) (n : ℕ) → isClosed x ≡ false → isBelow x n ≡ false → isAbove x n ≡ false → within x n ≡ true
@@ -49,14 +52,16 @@ inside Closed n c b a = clash c
 inside (Open first last) n c b a = within-in (first .0) (last .0) n (ltb-false n (first .0) b) (ltb-false (last .0) n a)
 
 -- of a sound record inside that is not held, a request waits
-waits : (me : End) (s n : ℕ) (x : Span) (r : Record) (clock : ℕ) → recordSound (me .host) (asHost s) x n r ≡ true → within x n ≡ true → isHeld (r .slot) ≡ false
-    → isQuiet clock (r .slot) ≡ true → (q : Request) × (r .slot ≡ Waiting q) × (clock ≤ q .quiet)
-waits me s n x r clock sound i lacks quiet = go (r .slot) refl (sym (ap (λ (t : Bool). cond t (insideSound (me .host) (asHost s) r (r .slot)) (outsideSound r (r .slot))) i) ∙ sound) lacks quiet
+waits : (me : End) (s n : ℕ) (pair : Pair) (x : Span) (r : Record) (clock : ℕ) → recordSound (me .host) (asHost s) pair x n r ≡ true → within x n ≡ true
+    → isHeld (r .slot) ≡ false → isQuiet clock (r .slot) ≡ true → (q : Request) × (requestIn (r .slot) ≡ some q) × (clock ≤ q .quiet)
+waits me s n pair x r clock sound i lacks quiet =
+    go (r .slot) (sym (ap (λ (t : Bool). cond t (insideSound (me .host) (asHost s) pair r (r .slot)) (outsideSound r (r .slot))) i) ∙ sound) lacks quiet
   where
-    go : (y : Slot) → r .slot ≡ y → insideSound (me .host) (asHost s) r y ≡ true → isHeld y ≡ false → isQuiet clock y ≡ true → (q : Request) × (r .slot ≡ Waiting q) × (clock ≤ q .quiet)
-    go Empty p t l k = clash′ t
-    go (Held reply) p t l k = clash l
-    go (Waiting q) p t l k = (q, p, leb-true clock (q .quiet) k)
+    go : (y : Slot) → insideSound (me .host) (asHost s) pair r y ≡ true → isHeld y ≡ false → isQuiet clock y ≡ true
+        → (q : Request) × (requestIn y ≡ some q) × (clock ≤ q .quiet)
+    go Empty t l k = clash′ t
+    go (Held reply) t l k = clash l
+    go (Waiting q y) t l k = (q, refl, leb-true clock (q .quiet) k)
 
 -- a span of a source that is not there is closed
 there : (e : End) (s n : ℕ) → length (e .sources) ≡ 8 → within (getD (e .sources) s noSource .span) n ≡ true → s < 8
@@ -64,7 +69,7 @@ there e s n k i = by-order s 8 (λ l. l) (λ l. clash′ (sym (ap (λ (x : Sourc
 
 module _ (e : End) (clock : ℕ) (sound : soundOf e ≡ true) where
   named : (o : Option Word) → holdsOf (withClock e clock) RequestQuiet o ≡ true → holdsOf (withClock e clock) NotOpen o ≡ false → holdsOf (withClock e clock) BelowFirst o ≡ false
-      → (w : Word) × (q : Request) × (o ≡ some w) × (known w (sourceAt e (w .name .source)) .slot ≡ Waiting q) × (clock ≤ q .quiet)
+      → (w : Word) × (q : Request) × (o ≡ some w) × (requestIn (known w (sourceAt e (w .name .source)) .slot) ≡ some q) × (clock ≤ q .quiet)
   named none h c b = clash′ h
   named (some w) h c b =
       let s = sourceAt e (w .name .source) in
@@ -77,7 +82,7 @@ module _ (e : End) (clock : ℕ) (sound : soundOf e ≡ true) where
       let i : within (s .span) n ≡ true = inside (s .span) n open-is b (not-true _ (a3 .0)) in
       let hs = there e (w .name .source .0) n (f .sources) i in
       let r = rw (sym (at-inside s n i)) at (f .records (w .name .source .0) n hs i) in
-      let k = waits e (w .name .source .0) n (s .span) (known w s) clock r i (not-true _ (a2 .0)) (a3 .1) in
+      let k = waits e (w .name .source .0) n (s .pair) (s .span) (known w s) clock r i (not-true _ (a2 .0)) (a3 .1) in
       (w, k .0, refl, k .1, k .2)
 
 unrefused : (e : End) (clock : ℕ) (a : Action) → whyOf e clock a ≡ why.Because RequestQuiet → refusedAs e clock a ≡ 0

@@ -1,6 +1,6 @@
 -- The statements of specs/Rises.antt.
 use mathlib.Core.Path.{_≡_, refl, ap, _∙_, subst}
-use mathlib.Core.Bool.{Bool, false}
+use mathlib.Core.Bool.{Bool, false, cond}
 use mathlib.Core.List.{List, [], _∷_}
 use mathlib.Core.Logic.{inl, inr}
 use mathlib.Core.Option.{Option, none, some}
@@ -10,6 +10,7 @@ use lib.ListN.{getD, set}
 use lib.Dec.{eqb}
 use Rattle.message.specs.declared.CueNumber.{CueNumber}
 use Rattle.message.specs.Entry.{asHost, asNumber}
+use Rattle.end.specs.declared.Express.the-variants.{Unset, Soon}
 use Rattle.end.specs.declared.Record.{Record}
 use Rattle.end.specs.declared.Span.{Span}
 use Rattle.end.specs.declared.Span.the-variants.{Closed, Open}
@@ -17,13 +18,13 @@ use Rattle.end.specs.declared.Moment.{Moment}
 use Rattle.end.specs.State.{blankRecord, sourceAt}
 use Rattle.end.specs.Records.{place}
 use Rattle.end.specs.Round.{requestWith}
-use Rattle.end.specs.Names.{asking, asked, filled, lacking, firstAfter, riseWith, rise}
+use Rattle.end.specs.Names.{asking, expressed, asked, filled, lacking, firstAfter, riseWith, rise}
 use Rattle.end.specs.Event.{eventOf}
 use Rattle.end.specs.Opening.{openingOf}
 use Rattle.end.proofs.Tools.{byTest}
 use Rattle.guarantees.specs.Records.{StayOrRise, SpanMayBecome, retires, clearing}
 use Rattle.guarantees.specs.History.{told, sinceJoining, countOver, spanOver}
-use Rattle.guarantees.specs.Rises.{RisesBy64, PlacesAsBefore, requested, riseBefore, UpTo63, RiseAsBefore, NothingRetiredUpTo63, NoneMissedUpTo63}
+use Rattle.guarantees.specs.Rises.{RisesBy64, PlacesAsBefore, requested, riseBefore, UpTo63, RiseAsBefore, DataRisesAlike, NothingRetiredUpTo63, NoneMissedUpTo63}
 use Rattle.guarantees.proofs.Retired.{retires-is}
 use Rattle.guarantees.proofs.Slots.{spans-may-become}
 use Rattle.guarantees.proofs.History.{count-over-history}
@@ -74,10 +75,15 @@ rise-as-before t us n s a b = go (s .span) b
         (λ i. record {
           span = Open first (asNumber (max k n));
           missed = same-count (s .missed) f k (u .0) i;
+          pair = s .pair;
           distance = s .distance;
           heard = s .heard;
           names = filled-same t us (s .distance) (n - k) (k + 1) (s .names) (omega (arith, u .1)) i;
         })
+
+pub data-rises-alike : DataRisesAlike
+data-rises-alike t us n s another = λ i. riseWith (λ (k : ℕ).
+    expressed (cond (another i) (Soon (t .clock + t .params .express)) Unset) (asked t us (s .distance) k)) n s (s .span)
 
 -- ---- what is retired, and what is counted
 low-stays : (f l f′ l′ : CueNumber) (n : ℕ) → StayOrRise f l f′ l′ → l′ .0 ≤ 63 → f .0 ≤ n → n < f′ .0 → ⊥

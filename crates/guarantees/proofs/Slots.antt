@@ -1,11 +1,11 @@
 -- Every event, refused or not, changes first and last only as `SpanMayBecome` says and each slot that is not retired only as `MayBecome` says;
 -- none but Leave and Crash changes a held cue that is not retired, and none changes host or parameters.
 use mathlib.Core.Path.{_≡_, refl, sym, ap, _∙_, subst}
-use mathlib.Core.Bool.{Bool, true, false, cond}
+use mathlib.Core.Bool.{Bool, true, false}
 use mathlib.Core.List.{List, [], _∷_}
 use mathlib.Core.Option.{some}
 use mathlib.Core.Logic.{_⊎_, inl, inr, ⊎-elim}
-use Prim.Native.Nat.{ℕ, _≤_, _<_}
+use Prim.Native.Nat.{ℕ, _<_}
 use native.Mathlib.Omega.{arith}
 use lib.ListN.{length, getD}
 use lib.Dec.{eqb}
@@ -13,10 +13,11 @@ use borrow.Author.Tests.{eqb-true}
 use Rattle.message.specs.declared.Host.{Host}
 use Rattle.message.specs.declared.Name.{Name}
 use Rattle.message.specs.Entry.{asHost}
-use Rattle.message.specs.Message.{RQST, Meaning, meaningFrom}
-use Rattle.end.specs.declared.Status.{Status}
+use Rattle.message.specs.Message.{meaningFrom}
 use Rattle.end.specs.declared.Request.{Request}
-use Rattle.end.specs.declared.Reply.the-variants.{No, Due}
+use Rattle.end.specs.declared.Express.{Express}
+use Rattle.end.specs.declared.Express.the-variants.{Unset, Soon}
+use Rattle.end.specs.declared.Reply.the-variants.{No}
 use Rattle.end.specs.declared.Slot.{Slot}
 use Rattle.end.specs.declared.Slot.the-variants.{Empty, Held, Waiting}
 use Rattle.end.specs.declared.Record.{Record}
@@ -26,17 +27,16 @@ use Rattle.end.specs.declared.Source.{Source}
 use Rattle.end.specs.declared.End.{End}
 use Rattle.end.specs.declared.Move.{Move}
 use Rattle.end.specs.declared.Moment.{Moment}
-use Rattle.end.specs.declared.Wait.{Wait}
 use Rattle.end.specs.declared.Earliest.{Earliest}
 use Rattle.end.specs.declared.Earliest.the-variants.{NoWait, First}
-use Rattle.end.specs.State.{noSource, blankRecord, unheardSources, sourceAt, distanceTo, isMember, momentOf, withClock, withStatus, withSource}
-use Rattle.end.specs.Records.{within, isBelow, recordAt, withRecord, isHeld, withReply}
-use Rattle.end.specs.Round.{requestAt, nextRound, quietAfterReply}
-use Rattle.end.specs.Names.{asking, holding, quieted}
+use Rattle.end.specs.State.{noSource, blankRecord, unheardSources, sourceAt, distanceTo, isMember, momentOf, withClock, withSource}
+use Rattle.end.specs.Records.{within, isBelow, recordAt, withRecord, isHeld, withReply, expressIn, withExpress}
+use Rattle.end.specs.Round.{requestAt, nextRound}
+use Rattle.end.specs.Names.{asking, expressed, holding, quieted}
 use Rattle.end.specs.Answer.{Step, Result}
 use Rattle.end.specs.Sound.{soundOf}
 use Rattle.end.specs.Fire.{earliest, fireAt, fired}
-use Rattle.end.specs.Event.{Action, Moves, Send, Arrival, Else, Other, Fire, Report, moves, movesTo, clears, cleared, movedEnd, moveOf, extended, sentSource, otherOf, actOf, eventOf}
+use Rattle.end.specs.Event.{Action, Moves, Send, Arrival, Else, Other, Fire, Report, moves, clears, movedEnd, moveOf, extended, sentSource, otherOf, actOf, eventOf}
 use Rattle.end.proofs.Facts.{unheard-at, narrow}
 use Rattle.end.proofs.RecordLaws.{Narrow, at-outside, read-same, read-other, store-elim}
 use Rattle.end.proofs.RiseLaws.{rise-span}
@@ -45,131 +45,141 @@ use Rattle.invariants.proofs.Ends.{clock-kept}
 use Rattle.invariants.proofs.Facts.{SoundState, facts, span-in}
 use Rattle.invariants.proofs.Questions.{Passed}
 use Rattle.guarantees.specs.Calls.{momentAt, OneCall, after, afterAll}
-use Rattle.guarantees.specs.Waits.{waitIn, waitAt, IsDue}
-use Rattle.guarantees.specs.Records.{slotOf, clearing, SpanMayBecome, retires, retired, MayBecome, HeardAs}
-use Rattle.guarantees.specs.Arrivals.{isAbout, isDataOf}
+use Rattle.guarantees.specs.Waits.{waitsAt, IsDue}
+use Rattle.guarantees.specs.Records.{slotOf, requestIn, SpanMayBecome, retires, retired, Cause, ExpressStays, MayBecome, HeardAs}
+use Rattle.guarantees.specs.Arrivals.{asks, isDataOf}
 use Rattle.guarantees.specs.Fires.{HostAndParamsStay}
-use Rattle.guarantees.specs.BackOff.{SpansMayBecome, RetiredAreGone, SlotsMayBecome, WaitsUntilHeld, HeldUntilCleared, NoneClears, WaitsOrHeldThrough, HeldThrough}
-use Rattle.guarantees.proofs.Names.{waits-inside, held-inside, source-of, Ends, own-ends, next-outside, next-inside, extended-narrow, extended-length, extended-elim}
+use Rattle.guarantees.specs.BackOff.{causeOf, SpansMayBecome, RetiredAreGone, SlotsMayBecome, WaitsUntilHeld, HeldUntilCleared, NoneClears, WaitsOrHeldThrough, HeldThrough}
+use Rattle.guarantees.proofs.Names.{waits-as, waits-inside, held-inside, source-of, Ends, own-ends, next-outside, next-inside, extended-narrow, extended-length, extended-elim}
 use Rattle.guarantees.proofs.Retired.{span-stay, rise-moves, retired-outside, retired-below, outside-before, below-stays}
 use Rattle.guarantees.proofs.Heard.{carriedBy}
 use Rattle.guarantees.proofs.Messages.{span-may, HeardEnd}
 use Rattle.guarantees.proofs.Calls.{call-cases}
 use Rattle.guarantees.proofs.Arrivals.{passed-heard}
-use Rattle.guarantees.proofs.Choice.{choice-is-earliest}
+use Rattle.guarantees.proofs.Choice.{choice-is-earliest, fires-as}
 
 -- ---- one slot
-module _ (emptied : Bool) (t : Moment) (us : List ℕ) (d n : ℕ) where
-  stays : (x : Slot) → MayBecome emptied t us d n x x
+module _ (c : Cause) (t : Moment) (us : List ℕ) (d n : ℕ) where
+  express-stays : (x : Express) → ExpressStays c t x x
+  express-stays Unset = refl
+  express-stays (Soon due) = inl refl
+
+  stays : (x : Slot) → MayBecome c t us d n x x
   stays Empty = tt
   stays (Held reply) = tt
-  stays (Waiting q) = inl refl
+  stays (Waiting q x) = inl (refl, express-stays x)
 
   -- its reply goes
-  quiets : (x : Slot) → MayBecome emptied t us d n x (withReply No x)
+  quiets : (x : Slot) → MayBecome c t us d n x (withReply No x)
   quiets Empty = tt
   quiets (Held reply) = tt
-  quiets (Waiting q) = inl refl
+  quiets (Waiting q x) = inl (refl, express-stays x)
 
-  new-request : (asked : Bool) (q : Request) → HeardAs t us d n false asked Empty (Waiting q) → MayBecome emptied t us d n Empty (Waiting q)
-  new-request true q h = (2, omega arith, omega arith, h)
-  new-request false q h = (1, omega arith, omega arith, h)
+  new-request : (asked : Bool) (q : Request) (x : Express) → HeardAs t us d n false asked (c .express) Empty (Waiting q x)
+      → MayBecome c t us d n Empty (Waiting q x)
+  new-request true q x h = (2, omega arith, omega arith, h .0, h .1)
+  new-request false q x h = (1, omega arith, omega arith, h .0, h .1)
 
   -- what bytes that arrive may do, a call may do
-  heard-may : (carried asked : Bool) (x y : Slot) → HeardAs t us d n carried asked x y → MayBecome emptied t us d n x y
+  heard-may : (carried asked : Bool) (x y : Slot) → HeardAs t us d n carried asked (c .express) x y → MayBecome c t us d n x y
   heard-may a b Empty Empty h = tt
   heard-may a b Empty (Held reply) h = h .1
-  heard-may a b Empty (Waiting q) h = new-request b q h
+  heard-may a b Empty (Waiting q x) h = new-request b q x h
   heard-may a b (Held reply) Empty h = absurd h
   heard-may a b (Held reply) (Held now) h = tt
-  heard-may a b (Held reply) (Waiting q) h = h
-  heard-may a b (Waiting q) Empty h = absurd h
-  heard-may a b (Waiting q) (Held reply) h = h .1
-  heard-may a b (Waiting q) (Waiting p) h = ⊎-elim (λ x. inl x) (λ x. inr (inl (x .1), x .2)) h
+  heard-may a b (Held reply) (Waiting q x) h = h
+  heard-may a b (Waiting q x) Empty h = absurd h
+  heard-may a b (Waiting q x) (Held reply) h = h .1
+  heard-may a b (Waiting q x) (Waiting p y) h =
+      ⊎-elim (λ s. inl (s, subst (ExpressStays c t x) (sym (h .1)) (express-stays x))) (λ s. inr (inl (s .1), s .2, h .1)) (h .0)
 
-empties : (t : Moment) (us : List ℕ) (d n : ℕ) (x : Slot) → MayBecome true t us d n x Empty
-empties t us d n Empty = tt
-empties t us d n (Held reply) = refl
-empties t us d n (Waiting q) = refl
+  empties : c .empties ≡ true → (x : Slot) → MayBecome c t us d n x Empty
+  empties k Empty = tt
+  empties k (Held reply) = k
+  empties k (Waiting q x) = k
 
 -- ---- one record: its slot, and a cue that is held in it
-pub record May (emptied : Bool) (t : Moment) (us : List ℕ) (d j : ℕ) (r p : Record) : Type 0 where
-  pub slot : MayBecome emptied t us d j (r .slot) (p .slot)
-  pub cue : emptied ≡ false → isHeld (r .slot) ≡ true → p .cue ≡ r .cue
+pub record May (c : Cause) (t : Moment) (us : List ℕ) (d j : ℕ) (r p : Record) : Type 0 where
+  pub slot : MayBecome c t us d j (r .slot) (p .slot)
+  pub cue : c .empties ≡ false → isHeld (r .slot) ≡ true → p .cue ≡ r .cue
 
 -- a source: first and last, and every record that is not retired
-pub record MaySource (emptied : Bool) (t : Moment) (us : List ℕ) (s p : Source) : Type 0 where
-  pub span : SpanMayBecome emptied (s .span) (p .span)
-  pub each : (j : ℕ) → retires (s .span) (p .span) j ≡ false → May emptied t us (s .distance) j (recordAt s j) (recordAt p j)
+pub record MaySource (c : Cause) (t : Moment) (us : List ℕ) (s p : Source) : Type 0 where
+  pub span : SpanMayBecome (c .empties) (s .span) (p .span)
+  pub each : (j : ℕ) → retires (s .span) (p .span) j ≡ false → May c t us (s .distance) j (recordAt s j) (recordAt p j)
 
 -- an end, whose host and parameters stay
-abbrev pub MayEnd : Bool → Moment → List ℕ → End → End → Type 0
-MayEnd emptied t us e p = ((p .host ≡ e .host) × (p .params ≡ e .params)) × ((h : ℕ) → h < 8 → MaySource emptied t us (source-of e h) (source-of p h))
+abbrev pub MayEnd : Action → Moment → List ℕ → End → End → Type 0
+MayEnd a t us e p = ((p .host ≡ e .host) × (p .params ≡ e .params))
+    × ((h : ℕ) → h < 8 → MaySource (causeOf t a h (source-of e h .pair)) t us (source-of e h) (source-of p h))
 
-may-same : (emptied : Bool) (t : Moment) (us : List ℕ) (d j : ℕ) (r : Record) → May emptied t us d j r r
-may-same emptied t us d j r = record { slot = stays emptied t us d j (r .slot); cue = λ _ _. refl }
+may-same : (c : Cause) (t : Moment) (us : List ℕ) (d j : ℕ) (r : Record) → May c t us d j r r
+may-same c t us d j r = record { slot = stays c t us d j (r .slot); cue = λ _ _. refl }
 
-may-stay : (emptied : Bool) (t : Moment) (us : List ℕ) (e : End) → MayEnd emptied t us e e
-may-stay emptied t us e = (
+may-stay : (a : Action) (t : Moment) (us : List ℕ) (e : End) → MayEnd a t us e e
+may-stay a t us e = (
   (refl, refl),
   λ h hh.
       let s = source-of e h in
-      record { span = span-stay emptied (s .span); each = λ j _. may-same emptied t us (s .distance) j (recordAt s j) },
+      record { span = span-stay _ (s .span); each = λ j _. may-same _ t us (s .distance) j (recordAt s j) },
 )
 
-module _ (t : Moment) (us : List ℕ) (e : End) where
+module _ (a : Action) (t : Moment) (us : List ℕ) (e : End) where
   -- one source is another
-  may-source : (k : Host) (x : Source) → MaySource false t us (sourceAt e k) x → MayEnd false t us e (withSource e k x)
+  may-source : (k : Host) (x : Source) → MaySource (causeOf t a (k .0) (sourceAt e k .pair)) t us (sourceAt e k) x → MayEnd a t us e (withSource e k x)
   may-source k x q = (
     (refl, refl),
-    λ h hh. set-elim (MaySource false t us (source-of e h)) (e .sources) (k .0) h x noSource
-        (λ i. subst (λ l. MaySource false t us (source-of e l) x) (sym i) q) (may-stay false t us e .1 h hh),
+    λ h hh. set-elim (MaySource (causeOf t a h (source-of e h .pair)) t us (source-of e h)) (e .sources) (k .0) h x noSource
+        (λ i. subst (λ l. MaySource (causeOf t a l (source-of e l .pair)) t us (source-of e l) x) (sym i) q) (may-stay a t us e .1 h hh),
   )
 
   -- one record of one source, in first..last, is another
   may-record : (f : SoundState e) (name : Name) → name .source .0 < 8 → within (sourceAt e (name .source) .span) (name .number .0) ≡ true → (r : Record)
-      → May false t us (distanceTo e (name .source)) (name .number .0) (recordAt (sourceAt e (name .source)) (name .number .0)) r
-      → MayEnd false t us e (withSource e (name .source) (withRecord (sourceAt e (name .source)) (name .number .0) r))
+      → May (causeOf t a (name .source .0) (sourceAt e (name .source) .pair)) t us (distanceTo e (name .source)) (name .number .0)
+      (recordAt (sourceAt e (name .source)) (name .number .0)) r
+      → MayEnd a t us e (withSource e (name .source) (withRecord (sourceAt e (name .source)) (name .number .0) r))
   may-record f name hs w r q =
       let s = sourceAt e (name .source) in
       let here = f .each (name .source .0) hs in
+      let c = causeOf t a (name .source .0) (s .pair) in
       may-source (name .source) (withRecord s (name .number .0) r) (record {
-        span = span-stay false (s .span);
-        each = λ j _. store-elim (May false t us (s .distance) j (recordAt s j)) s (name .number .0) r j (narrow (s .span) (span-in _ _ _ _ _ s here))
+        span = span-stay _ (s .span);
+        each = λ j _. store-elim (May c t us (s .distance) j (recordAt s j)) s (name .number .0) r j (narrow (s .span) (span-in _ _ _ _ _ s here))
             w (here .names)
-            (λ i. subst (λ k. May false t us (s .distance) k (recordAt s k) r) (sym i) q)
-            (may-same false t us (s .distance) j (recordAt s j));
+            (λ i. subst (λ k. May c t us (s .distance) k (recordAt s k) r) (sym i) q)
+            (may-same c t us (s .distance) j (recordAt s j));
       })
 
-  -- ---- the events
-  cleared-may : (me h : ℕ) → h < 8 → MaySource true t us (source-of e h) (getD (unheardSources me) h noSource)
-  cleared-may me h hh =
+-- ---- the events
+module _ (t : Moment) (us : List ℕ) (e : End) where
+  cleared-may : (c : Cause) → c .empties ≡ true → (me h : ℕ) → h < 8 → MaySource c t us (source-of e h) (getD (unheardSources me) h noSource)
+  cleared-may c k me h hh =
       let now = getD (unheardSources me) h noSource in
       let shut = unheard-at me h hh .0 in
       record {
         span = rw shut (closes (source-of e h .span));
         each = λ j _. record {
-          slot = rw (at-outside now j (rw shut)) (empties t us (source-of e h .distance) j (recordAt (source-of e h) j .slot));
-          cue = λ k _. clash k;
+          slot = rw (at-outside now j (rw shut)) (empties c t us (source-of e h .distance) j k (recordAt (source-of e h) j .slot));
+          cue = λ kept _. clash (sym k ∙ kept);
         };
       }
     where
-      closes : (x : Span) → SpanMayBecome true x Closed
+      closes : (x : Span) → SpanMayBecome (c .empties) x Closed
       closes Closed = tt
-      closes (Open first last) = refl
+      closes (Open first last) = k
 
-  moved-may : (x : Status) (b : Bool) → MayEnd b t us e (cond b (cleared e x) (withStatus e x))
-  moved-may x true = ((refl, refl), cleared-may (e .host .0))
-  moved-may x false = may-stay false t us e
-
-  move-may : (m : Move) → MayEnd (clears m) t us e (moveOf m e .left)
+  move-may : (m : Move) → MayEnd (Moves m) t us e (moveOf m e .left)
   unfolding moveOf movedEnd
-  move-may m = byCond (λ (s : Step). MayEnd (clears m) t us e (s .left)) (moves m (e .status)) (λ _. moved-may (movesTo m) (clears m)) (λ _. may-stay (clears m) t us e)
+  move-may m =
+      let stay = may-stay (Moves m) t us e in
+      byCond (λ (s : Step). MayEnd (Moves m) t us e (s .left)) (moves m (e .status))
+      (λ _. byCond (MayEnd (Moves m) t us e) (clears m) (λ k. ((refl, refl), cleared-may _ k (e .host .0))) (λ _. stay)) (λ _. stay)
 
-  heard-end-may : (m : Meaning) (p : End) → HeardEnd t us m e p → MayEnd false t us e p
-  heard-end-may m p q = (
+  heard-end-may : (bytes : List ℕ) (p : End) → HeardEnd t us (meaningFrom bytes) e p → MayEnd (Arrival bytes) t us e p
+  heard-end-may bytes p q = (
     (q .same .host, q .same .params),
     λ h hh.
+        let m = meaningFrom bytes in
         let now = q .sources h hh in
         let was = source-of e h in
         record {
@@ -177,17 +187,21 @@ module _ (t : Moment) (us : List ℕ) (e : End) where
           each = λ j kept.
               let each = now .each j kept in
               record {
-                slot = heard-may false t us (was .distance) j (carriedBy m h j) (isAbout RQST m h j) (recordAt was j .slot) (recordAt (source-of p h) j .slot)
-                    (each .slots);
+                slot = heard-may _ t us (was .distance) j (carriedBy m h j) (asks m h j)
+                    (recordAt was j .slot) (recordAt (source-of p h) j .slot) (each .slots);
                 cue = λ _ held. each .held held .1;
               };
         },
   )
 
 -- the own next number was outside; every other is as it was, or is retired
-sent-may : (t : Moment) (us : List ℕ) (e : End) → soundOf e ≡ true → (cue : List ℕ)
-    → MaySource false t us (sourceAt e (e .host)) (sentSource t us (e .next) cue (sourceAt e (e .host)))
-sent-may t us e sound cue = record { span = span-now (s .span) thin; each = each }
+sent-may : (c : Cause) → c .empties ≡ false → (t : Moment) (us : List ℕ) (e : End) → soundOf e ≡ true → (cue : List ℕ)
+    → MaySource c t us (sourceAt e (e .host)) (sentSource t us (e .next) cue (sourceAt e (e .host)))
+sent-may c unemptied t us e sound cue = record {
+  span = subst (λ (b : Bool). SpanMayBecome b (s .span) (x .span))
+      (sym unemptied) (span-now (s .span) thin);
+  each = each;
+}
   where
     s : Source
     s = sourceAt e (e .host)
@@ -220,78 +234,80 @@ sent-may t us e sound cue = record { span = span-now (s .span) thin; each = each
     here : within (x .span) n ≡ true
     here = next-inside t us n s sized (s .span) ends thin
 
-    each : (j : ℕ) → retires (s .span) (x .span) j ≡ false → May false t us (s .distance) j (recordAt s j) (recordAt (withRecord x n r) j)
+    each : (j : ℕ) → retires (s .span) (x .span) j ≡ false → May c t us (s .distance) j (recordAt s j) (recordAt (withRecord x n r) j)
     each j kept = byTest (eqb j n)
         (λ b.
         let now = read-same x n r here (extended-length t us n s sized (s .span) ∙ sized) in
         let was = at-outside s n (next-outside n (s .span) ends) in
-        let held : May false t us (s .distance) n blankRecord r = record { slot = refl; cue = λ _ h. clash′ h } in
-        subst (λ k. May false t us (s .distance) k (recordAt s k) (recordAt (withRecord x n r) k)) (sym (eqb-true j n b))
-        (subst (λ y. May false t us (s .distance) n y (recordAt (withRecord x n r) n)) (sym was)
-        (subst (May false t us (s .distance) n blankRecord) (sym now) held)))
+        let held : May c t us (s .distance) n blankRecord r = record { slot = refl; cue = λ _ h. clash′ h } in
+        subst (λ k. May c t us (s .distance) k (recordAt s k) (recordAt (withRecord x n r) k)) (sym (eqb-true j n b))
+        (subst (λ y. May c t us (s .distance) n y (recordAt (withRecord x n r) n)) (sym was)
+        (subst (May c t us (s .distance) n blankRecord) (sym now) held)))
         (λ b.
-        let same = may-same false t us (s .distance) j (recordAt s j) in
-        subst (May false t us (s .distance) j (recordAt s j)) (sym (read-other x n r j narrow-now here b))
-        (extended-elim t us n s sized (May false t us (s .distance) j (recordAt s j)) (s .span) refl ends j b (λ _. same)
-        (λ out. subst (May false t us (s .distance) j (recordAt s j))
+        let same = may-same c t us (s .distance) j (recordAt s j) in
+        subst (May c t us (s .distance) j (recordAt s j)) (sym (read-other x n r j narrow-now here b))
+        (extended-elim t us n s sized (May c t us (s .distance) j (recordAt s j)) (s .span) refl ends j b (λ _. same)
+        (λ out. subst (May c t us (s .distance) j (recordAt s j))
         (at-outside s j (outside-before (s .span) (x .span) j (span-now (s .span) thin) thin kept out)) same)))
 
--- the request that is chosen is due
-chosen-due : (e : End) (w : Wait) → IsDue e w → (q : Request) → recordAt (sourceAt e (w .name .source)) (w .name .number .0) .slot ≡ Waiting q → q .due ≤ e .clock
-unfolding waitAt waitIn
-chosen-due e w d q p =
-    let same : waitIn (w .name) (Waiting q) ≡ some w = ap (waitIn (w .name)) (sym p) ∙ d .waits in
-    let is : _≡_ {A = Wait} (record { due = q .due; reply = false; name = w .name }) w = cc in
-    let at = ap (λ (z : Wait). z .due) is in
-    let in-time = d .due in
-    omega arith
+-- Fire changes the record of the wait that is chosen
+fired-may : (us : List ℕ) (e : End) → SoundState e → (x : Earliest) → earliest e 8 ≡ x → MayEnd (Else Fire) (momentOf e) us e (fired us e x .left)
+unfolding fired waitsAt fireAt
+fired-may us e f NoWait p = may-stay (Else Fire) (momentOf e) us e
+fired-may us e f (First w) p = go (choice-is-earliest e w p .due)
+  where
+    name : Name
+    name = w .name
 
-fire-may : (us : List ℕ) (e : End) → SoundState e → (name : Name) → name .source .0 < 8 → (x : Slot)
-    → recordAt (sourceAt e (name .source)) (name .number .0) .slot ≡ x
-    → ((q : Request) → x ≡ Waiting q → q .due ≤ e .clock) → MayEnd false (momentOf e) us e (fireAt us name e x .left)
-unfolding fireAt
-fire-may us e f name hs Empty p due = may-stay false (momentOf e) us e
-fire-may us e f name hs (Waiting q) p due =
-    let s = sourceAt e (name .source) in
-    let n = name .number .0 in
-    let asked = requestAt (momentOf e) us (s .distance) n (nextRound (q .round)) in
-    may-record (momentOf e) us e f name hs (waits-inside s n q p) (asking (recordAt s n) asked) (record {
-      slot = subst (λ z. MayBecome false (momentOf e) us (s .distance) n z (Waiting asked)) (sym p) (inr (inr (due q refl), refl));
-      cue = λ _ _. refl;
-    })
-fire-may us e f name hs (Held No) p due = may-stay false (momentOf e) us e
-fire-may us e f name hs (Held (Due time k)) p due =
-    let s = sourceAt e (name .source) in
-    let n = name .number .0 in
-    may-record (momentOf e) us e f name hs (held-inside s n (ap isHeld p)) (quieted (recordAt s n) (quietAfterReply (momentOf e) (distanceTo e k)))
-    (record { slot = quiets false (momentOf e) us (s .distance) n (recordAt s n .slot); cue = λ _ _. refl })
+    n : ℕ
+    n = name .number .0
 
-fired-may : (us : List ℕ) (e : End) → SoundState e → (x : Earliest) → earliest e 8 ≡ x → MayEnd false (momentOf e) us e (fired us e x .left)
-unfolding fired
-fired-may us e f NoWait p = may-stay false (momentOf e) us e
-fired-may us e f (First w) p = let due = choice-is-earliest e w p .due in fire-may us e f (w .name) (due .source) _ refl (chosen-due e w due)
+    s : Source
+    s = sourceAt e (name .source)
 
-other-may : (us : List ℕ) (o : Other) (e : End) → SoundState e → MayEnd false (momentOf e) us e (otherOf us o e .left)
+    c : Cause
+    c = causeOf (momentOf e) (Else Fire) (name .source .0) (s .pair)
+
+    Becomes : Slot → Slot → Type 0
+    Becomes = MayBecome c (momentOf e) us (s .distance) n
+
+    go : IsDue e w → MayEnd (Else Fire) (momentOf e) us e (fireAt us (w .rank) (w .name) e (recordAt s n .slot) .left)
+    go d = fires-as (λ (r : Step). MayEnd (Else Fire) (momentOf e) us e (r .left)) us e w (recordAt s n .slot) (d .waits)
+        (λ q i k. may-record (Else Fire) (momentOf e) us e f name (d .source) (waits-inside s n q (ap requestIn i)) (expressed Unset (recordAt s n)) (record {
+          slot = subst (λ (z : Slot). Becomes z (withExpress Unset z)) (sym i) (inl (refl, inr (refl, d .due, refl)));
+          cue = λ _ _. refl;
+        }))
+        (λ q y i time k. may-record (Else Fire) (momentOf e) us e f name (d .source) (waits-inside s n q (ap requestIn i)) (asking (recordAt s n) _) (record {
+          slot = subst (λ (z : Slot). Becomes z (Waiting (requestAt (momentOf e) us (s .distance) n (nextRound (q .round))) (expressIn z))) (sym i)
+              (inr (inr (omega (arith, time, d .due)), refl, refl));
+          cue = λ _ _. refl;
+        }))
+        (λ j i k. may-record (Else Fire) (momentOf e) us e f name (d .source) (held-inside s n (ap isHeld i)) (quieted (recordAt s n) _)
+        (record { slot = quiets c (momentOf e) us (s .distance) n (recordAt s n .slot); cue = λ _ _. refl }))
+
+other-may : (us : List ℕ) (o : Other) (e : End) → SoundState e → MayEnd (Else o) (momentOf e) us e (otherOf us o e .left)
 other-may us Fire e f = fired-may us e f (earliest e 8) refl
-other-may us Report e f = may-stay false (momentOf e) us e
+other-may us Report e f = may-stay (Else Report) (momentOf e) us e
 
-pub acts-may : (e : End) (a : Action) (clock : ℕ) (us : List ℕ) → Passed e a clock → MayEnd (clearing a) (momentAt e clock) us e (actOf us a (withClock e clock) .left)
+pub acts-may : (e : End) (a : Action) (clock : ℕ) (us : List ℕ) → Passed e a clock → MayEnd a (momentAt e clock) us e (actOf us a (withClock e clock) .left)
 unfolding actOf
 acts-may e (Moves m) clock us z = move-may (momentAt e clock) us (withClock e clock) m
 acts-may e (Send cue) clock us z =
     let t = momentAt e clock in
-    byCond (λ (s : Step). MayEnd false t us e (s .left)) (isMember (e .status))
-    (λ member. may-source t us e (e .host) _ (sent-may t us e (z .sound) cue)) (λ _. may-stay false t us e)
-acts-may e (Arrival bytes) clock us z = heard-end-may (momentAt e clock) us e (meaningFrom bytes) _ (passed-heard e bytes clock us z)
+    let stay = may-stay (Send cue) t us e in
+    byCond (λ (s : Step). MayEnd (Send cue) t us e (s .left)) (isMember (e .status))
+    (λ member. may-source (Send cue) t us e (e .host) _ (sent-may _ refl t us e (z .sound) cue)) (λ _. stay)
+acts-may e (Arrival bytes) clock us z = heard-end-may (momentAt e clock) us e bytes _ (passed-heard e bytes clock us z)
 acts-may e (Else o) clock us z =
     let t = momentAt e clock in
-    byCond (λ (s : Step). MayEnd false t us e (s .left)) (isMember (e .status))
-    (λ _. other-may us o (withClock e clock) (clock-kept e clock (facts e (z .sound)) (z .later) (z .ticks))) (λ _. may-stay false t us e)
+    let stay = may-stay (Else o) t us e in
+    byCond (λ (s : Step). MayEnd (Else o) t us e (s .left)) (isMember (e .status))
+    (λ _. other-may us o (withClock e clock) (clock-kept e clock (facts e (z .sound)) (z .later) (z .ticks))) (λ _. stay)
 
-may-become : (e : End) (a : Action) (clock room : ℕ) (us : List ℕ) → MayEnd (clearing a) (momentAt e clock) us e (eventOf e a clock room us .left)
+may-become : (e : End) (a : Action) (clock room : ℕ) (us : List ℕ) → MayEnd a (momentAt e clock) us e (eventOf e a clock room us .left)
 may-become e a clock room us =
-    let stay = may-stay (clearing a) (momentAt e clock) us e in
-    call-cases (λ (r : Result). MayEnd (clearing a) (momentAt e clock) us e (r .left)) e a clock room us (λ k. stay) (λ z c. stay)
+    let stay = may-stay a (momentAt e clock) us e in
+    call-cases (λ (r : Result). MayEnd a (momentAt e clock) us e (r .left)) e a clock room us (λ k. stay) (λ z c. stay)
     (λ z c. acts-may e a clock us z)
 
 pub host-and-params-stay : HostAndParamsStay
@@ -309,31 +325,34 @@ pub slots-may-become : SlotsMayBecome
 slots-may-become e a clock room us h n hh kept = may-become e a clock room us .1 h hh .each n kept .slot
 
 -- ---- with every call but Leave and Crash
-module _ (emptied : Bool) (kept : emptied ≡ false) (t : Moment) (us : List ℕ) (d n : ℕ) where
-  waits-on : (q : Request) (y : Slot) → MayBecome emptied t us d n (Waiting q) y → ((p : Request) × (y ≡ Waiting p)) ⊎ (isHeld y ≡ true)
-  waits-on q Empty h = clash′ (sym kept ∙ h)
-  waits-on q (Held reply) h = inr refl
-  waits-on q (Waiting p) h = inl (p, refl)
+module _ (c : Cause) (kept : c .empties ≡ false) (t : Moment) (us : List ℕ) (d n : ℕ) where
+  waits-on : (q : Request) (x : Express) (y : Slot) → MayBecome c t us d n (Waiting q x) y → ((p : Request) × (requestIn y ≡ some p)) ⊎ (isHeld y ≡ true)
+  waits-on q x Empty h = clash′ (sym kept ∙ h)
+  waits-on q x (Held reply) h = inr refl
+  waits-on q x (Waiting p y) h = inl (p, refl)
 
-  held-on : (x y : Slot) → isHeld x ≡ true → MayBecome emptied t us d n x y → isHeld y ≡ true
+  held-on : (x y : Slot) → isHeld x ≡ true → MayBecome c t us d n x y → isHeld y ≡ true
   held-on Empty y p h = clash′ p
   held-on (Held reply) Empty p h = clash′ (sym kept ∙ h)
   held-on (Held reply) (Held now) p h = refl
-  held-on (Held reply) (Waiting q) p h = absurd h
-  held-on (Waiting q) y p h = clash′ p
+  held-on (Held reply) (Waiting q x) p h = absurd h
+  held-on (Waiting q x) y p h = clash′ p
 
 pub waits-until-held : WaitsUntilHeld
 waits-until-held e a clock room us h n q hh kept before stays =
     let t = momentAt e clock in
+    let c = causeOf t a h (sourceAt e (asHost h) .pair) in
     let d = distanceTo e (asHost h) in
     let now = slotOf (eventOf e a clock room us .left) h n in
-    waits-on (clearing a) kept t us d n q now
-    (subst (λ (x : Slot). MayBecome (clearing a) t us d n x now) before (slots-may-become e a clock room us h n hh stays))
+    waits-on c kept t us d n q (expressIn (slotOf e h n)) now
+    (subst (λ (x : Slot). MayBecome c t us d n x now) (waits-as (slotOf e h n) q before) (slots-may-become e a clock room us h n hh stays))
 
 pub held-until-cleared : HeldUntilCleared
 held-until-cleared e a clock room us h n hh kept before stays =
     let may = may-become e a clock room us .1 h hh .each n stays in
-    (held-on (clearing a) kept (momentAt e clock) us (distanceTo e (asHost h)) n (slotOf e h n) (slotOf (eventOf e a clock room us .left) h n) before (may .slot), may .cue kept before)
+    let t = momentAt e clock in
+    let now = slotOf (eventOf e a clock room us .left) h n in
+    (held-on (causeOf t a h (sourceAt e (asHost h) .pair)) kept t us (distanceTo e (asHost h)) n (slotOf e h n) now before (may .slot), may .cue kept before)
 
 -- ---- through any calls but these, as long as first has not passed the number
 below-through : (cs : List OneCall) (e : End) (h n : ℕ) → h < 8 → NoneClears cs → isBelow (sourceAt e (asHost h) .span) n ≡ true

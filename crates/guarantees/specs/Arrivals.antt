@@ -9,13 +9,19 @@ use lib.ListN.{length}
 use lib.Dec.{ltb, leb, eqb}
 use Rattle.message.specs.declared.Report.{Report}
 use Rattle.message.specs.Entry.{asHost}
-use Rattle.message.specs.Message.{DATA, RQST, REPL, Meaning, meaningFrom, bytesOf}
+use Rattle.message.specs.Message.{DATA, RQST, REPL, XPRS, Meaning, meaningFrom, bytesOf}
+use Rattle.message.specs.Question.{sameHost}
+use Rattle.end.specs.declared.Express.{Express}
+use Rattle.end.specs.declared.Express.the-variants.{Unset, Soon}
+use Rattle.end.specs.declared.Pair.{Pair}
 use Rattle.end.specs.declared.Record.{Record}
 use Rattle.end.specs.declared.Span.{Span}
 use Rattle.end.specs.declared.Span.the-variants.{Closed, Open}
 use Rattle.end.specs.declared.End.{End}
+use Rattle.end.specs.declared.Moment.{Moment}
 use Rattle.end.specs.State.{sourceAt, distanceTo, isMember, isCrashed, withClock}
 use Rattle.end.specs.Records.{within, isAbove, isHeld, replyIn}
+use Rattle.end.specs.Names.{isRequester}
 use Rattle.end.specs.Round.{quietAfterReply}
 use Rattle.end.specs.Messages.{sessionMessage}
 use Rattle.end.specs.Answer.{Out, Ignored, Refused, Did, Result, bufferOf}
@@ -73,9 +79,26 @@ HeldStays = (e : End) (bytes : List ℕ) (clock room : ℕ) (draws : List ℕ) (
 unfoldable pub isAbout : ℕ → Meaning → ℕ → ℕ → Bool
 isAbout kind m h n = eqb (m .kind) kind && (eqb (messageName m .source .0) h && eqb (messageName m .number .0) n)
 
+-- it is a RQST of this name, or an XPRS
+unfoldable pub asks : Meaning → ℕ → ℕ → Bool
+asks m h n = isAbout RQST m h n || isAbout XPRS m h n
+
 -- it is a REPL of this name whose cue, if one is held, is the very same: one with other bytes is a Clash, and changes nothing
 unfoldable pub repairs : Meaning → ℕ → ℕ → Record → Bool
 repairs m h n r = isAbout REPL m h n && (not (isHeld (r .slot)) || sameCue (messageCue m) (r .cue))
+
+-- it is an XPRS of this name that this end answers at once: document 02, P8, "The named sender, if it holds the cue and clock ≥ reply-quiet"
+unfoldable pub expresses : Moment → Meaning → ℕ → ℕ → Record → Bool
+expresses t m h n r = isAbout XPRS m h n && (sameHost (messageHost m) (t .me) && (isHeld (r .slot) && leb (r .hush) (t .clock)))
+
+-- a DATA of source h
+unfoldable pub isDataOf : Meaning → ℕ → Bool
+isDataOf m h = eqb (m .kind) DATA && eqb (messageName m .source .0) h
+
+-- the express wait that it sets beside a new request of source h, of which this pair is kept: "A member that sets round 1 by a gap before a
+-- DATA, not a REPL, and is that requester also sets an express wait, due E ticks on."
+unfoldable pub expressBy : Moment → Meaning → ℕ → Pair → Express
+expressBy t m h pair = cond (isDataOf m h && isRequester (t .me) pair) (Soon (t .clock + t .params .express)) Unset
 
 -- j lies above the last of a source, and is at most n: one of the numbers that a rise to n asks for. Or it lies in first..last, and below
 -- n − 63: one of those that a rise to n retires
@@ -87,11 +110,11 @@ unfoldable pub reportedUp : List Report → ℕ → Span → ℕ → Bool
 reportedUp [] h span j = false
 reportedUp (r ∷ rs) h span j = (eqb (r .source .0) h && risen span (r .last .0) j) || reportedUp rs h span j
 
--- a message of one of the three kinds with a name
+-- a message of one of the four kinds with a name
 abbrev pub hasName : Meaning → Bool
-hasName m = eqb (m .kind) DATA || (eqb (m .kind) RQST || eqb (m .kind) REPL)
+hasName m = eqb (m .kind) DATA || (eqb (m .kind) RQST || (eqb (m .kind) REPL || eqb (m .kind) XPRS))
 
--- Which names of a source h, whose first and last are `span`, a message may at most change. DATA, RQST and REPL: of the source that they
+-- Which names of a source h, whose first and last are `span`, a message may at most change. DATA, RQST, REPL and XPRS: of the source that they
 -- name, the named number, those from last + 1 up to it and those more than 63 below it. SESS: of each source that is reported, those from
 -- last + 1 up to the reported and those more than 63 below it.
 unfoldable pub touches : Meaning → ℕ → Span → ℕ → Bool
@@ -105,7 +128,7 @@ abbrev pub UntouchedStays : Type 0
 UntouchedStays = (e : End) (bytes : List ℕ) (clock room : ℕ) (draws : List ℕ) (h n : ℕ) → h < 8
     → touches (meaningFrom bytes) h (sourceAt e (asHost h) .span) n ≡ false → recordOf (hear e bytes clock room draws .left) h n ≡ recordOf e h n
 
--- So DATA, RQST and REPL leave every record of every source but the one that they name.
+-- So DATA, RQST, REPL and XPRS leave every record of every source but the one that they name.
 abbrev pub OtherSourcesStay : Type 0
 OtherSourcesStay = (e : End) (bytes : List ℕ) (clock room : ℕ) (draws : List ℕ) (h n : ℕ) → h < 8
     → hasName (meaningFrom bytes) ≡ true → eqb (messageName (meaningFrom bytes) .source .0) h ≡ false
@@ -118,8 +141,8 @@ abbrev pub SlotsAsHeard : Type 0
 SlotsAsHeard = (e : End) (bytes : List ℕ) (clock room : ℕ) (draws : List ℕ) (h n : ℕ) → h < 8
     → retired e (hear e bytes clock room draws .left) h n ≡ false
     → HeardAs (momentAt e clock) draws (distanceTo e (asHost h)) n
-    (isAbout DATA (meaningFrom bytes) h n || isAbout REPL (meaningFrom bytes) h n) (isAbout RQST (meaningFrom bytes) h n)
-    (slotOf e h n) (slotOf (hear e bytes clock room draws .left) h n)
+    (isAbout DATA (meaningFrom bytes) h n || isAbout REPL (meaningFrom bytes) h n) (asks (meaningFrom bytes) h n)
+    (expressBy (momentAt e clock) (meaningFrom bytes) h (sourceAt e (asHost h) .pair)) (slotOf e h n) (slotOf (hear e bytes clock room draws .left) h n)
 
 -- A cue that was not held and is held after an arrival is the one that the message carries.
 abbrev pub HeldIsCarried : Type 0
@@ -132,17 +155,21 @@ abbrev pub RepliesAsHeard : Type 0
 RepliesAsHeard = (e : End) (bytes : List ℕ) (clock room : ℕ) (draws : List ℕ) (h n : ℕ) → h < 8
     → retired e (hear e bytes clock room draws .left) h n ≡ false
     → ReplyAs (momentAt e clock) draws (distanceTo e (meaningFrom bytes .sender)) (meaningFrom bytes .sender) n
-    (isAbout RQST (meaningFrom bytes) h n) (repairs (meaningFrom bytes) h n (recordOf e h n)) (slotOf e h n) (recordOf e h n .hush)
-    (replyIn (slotOf e h n)) (replyIn (slotOf (hear e bytes clock room draws .left) h n))
+    (asks (meaningFrom bytes) h n)
+    (repairs (meaningFrom bytes) h n (recordOf e h n) || expresses (momentAt e clock) (meaningFrom bytes) h n (recordOf e h n))
+    (slotOf e h n) (recordOf e h n .hush) (replyIn (slotOf e h n)) (replyIn (slotOf (hear e bytes clock room draws .left) h n))
 
--- A reply-quiet time stays or, by a REPL of its name that carries the held cue if one is held, is D3×d after the clock, where d is the
--- distance to the host that the REPL names, the requester; unless its number is retired.
+-- A reply-quiet time stays; or it is D3×d after the clock, by a REPL of its name that carries the held cue if one is held, where d is the
+-- distance to the host that the REPL names, the requester, or by an XPRS of its name that is answered at once, where d is the distance to its
+-- sender; unless its number is retired.
 abbrev pub ReplyQuietStays : Type 0
 ReplyQuietStays = (e : End) (bytes : List ℕ) (clock room : ℕ) (draws : List ℕ) (h n : ℕ) → h < 8
     → retired e (hear e bytes clock room draws .left) h n ≡ false
     → (recordOf (hear e bytes clock room draws .left) h n .hush ≡ recordOf e h n .hush)
     ⊎ ((repairs (meaningFrom bytes) h n (recordOf e h n) ≡ true)
     × (recordOf (hear e bytes clock room draws .left) h n .hush ≡ quietAfterReply (momentAt e clock) (distanceTo e (messageHost (meaningFrom bytes)))))
+    ⊎ ((expresses (momentAt e clock) (meaningFrom bytes) h n (recordOf e h n) ≡ true)
+    × (recordOf (hear e bytes clock room draws .left) h n .hush ≡ quietAfterReply (momentAt e clock) (distanceTo e (meaningFrom bytes .sender))))
 
 -- ---- what becomes of first and last, distances and heard stamps
 
@@ -152,10 +179,6 @@ SpanAs opens Closed Closed = Unit {0}
 SpanAs opens Closed (Open first last) = opens ≡ true
 SpanAs opens (Open first last) Closed = ⊥
 SpanAs opens (Open first last) (Open first′ last′) = StayOrRise first last first′ last′
-
--- a DATA of source h
-unfoldable pub isDataOf : Meaning → ℕ → Bool
-isDataOf m h = eqb (m .kind) DATA && eqb (messageName m .source .0) h
 
 -- Whatever arrives, a DATA of a source alone gives it a first. First and last then stay, or last rises and first is the greater of itself and
 -- last − 63.

@@ -49,7 +49,8 @@ nothingYet = record { handed = []; highest = none }
 abbrev pub handing : ℕ → Since → Since
 handing n x = record { handed = x .handed ++ (n ∷ []); highest = some (higher (x .highest) n) }
 
--- "the highest number L that unlooped DATA, RQST, REPL and SESS .. brought": looped is a message whose sender is the end itself
+-- "the highest number L that unlooped DATA, RQST, REPL and SESS .. brought", and what counts as RQST: looped is a message whose sender is the
+-- end itself
 abbrev pub bringing : ℕ → Meaning → ℕ → Since → Since
 bringing me m s x = cond (eqb (m .sender .0) me) x (record { handed = x .handed; highest = broughtTo m s (x .highest) })
 

@@ -7,5 +7,6 @@ pub mod BackOff
 pub mod Clashes
 pub mod Reasons
 pub mod History
+pub mod Express
 pub mod Rises
 pub mod HistoryRows

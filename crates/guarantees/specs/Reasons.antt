@@ -3,7 +3,6 @@ use mathlib.Core.Path.{_≡_}
 use mathlib.Core.Option.{some}
 use Prim.Native.Nat.{ℕ, _≤_}
 use Rattle.end.specs.declared.Request.{Request}
-use Rattle.end.specs.declared.Slot.the-variants.{Waiting}
 use Rattle.end.specs.declared.Word.{Word}
 use Rattle.end.specs.declared.Reason.the-variants.{RequestQuiet}
 use Rattle.end.specs.declared.Why.the-variants.{Because}
@@ -12,9 +11,11 @@ use Rattle.end.specs.State.{sourceAt, withClock}
 use Rattle.end.specs.Decide.{known}
 use Rattle.end.specs.Event.{Action}
 use Rattle.end.specs.Why.{namedBy, whyOf}
+use Rattle.guarantees.specs.Records.{requestIn}
 
 -- A request for the name waits, and the clock is at most its quiet-until. (The test `requestQuiet` itself does not look whether one waits: a
 -- state that is not refused has one.)
 abbrev pub RequestQuietWaits : Type 0
 RequestQuietWaits = (e : End) (clock : ℕ) (a : Action) → whyOf e clock a ≡ Because RequestQuiet
-    → (w : Word) × (q : Request) × (namedBy a (withClock e clock) ≡ some w) × (known w (sourceAt e (w .name .source)) .slot ≡ Waiting q) × (clock ≤ q .quiet)
+    → (w : Word) × (q : Request) × (namedBy a (withClock e clock) ≡ some w)
+    × (requestIn (known w (sourceAt e (w .name .source)) .slot) ≡ some q) × (clock ≤ q .quiet)

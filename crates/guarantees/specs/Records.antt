@@ -3,11 +3,15 @@ use mathlib.Core.Path.{_≡_}
 use mathlib.Core.Bool.{Bool, true, false, cond, _&&_}
 use mathlib.Core.List.{List}
 use mathlib.Core.Logic.{_⊎_}
+use mathlib.Core.Option.{Option, none, some}
 use Prim.Native.Nat.{ℕ, _≤_, _<_}
 use lib.Dec.{ltb, leb}
 use Rattle.message.specs.declared.Host.{Host}
 use Rattle.message.specs.declared.CueNumber.{CueNumber}
 use Rattle.message.specs.Entry.{asHost}
+use Rattle.end.specs.declared.Request.{Request}
+use Rattle.end.specs.declared.Express.{Express}
+use Rattle.end.specs.declared.Express.the-variants.{Unset, Soon}
 use Rattle.end.specs.declared.Slot.{Slot}
 use Rattle.end.specs.declared.Slot.the-variants.{Empty, Held, Waiting}
 use Rattle.end.specs.declared.Reply.{Reply}
@@ -21,7 +25,7 @@ use Rattle.end.specs.State.{sourceAt}
 use Rattle.end.specs.Records.{recordAt, isHeld}
 use Rattle.end.specs.Round.{requestAt, nextRound, replyDue}
 use Rattle.end.specs.Names.{firstAfter}
-use Rattle.end.specs.Event.{Action, Moves, Send, Arrival, Else, clears}
+use Rattle.end.specs.Event.{Action, Moves, Send, Arrival, Else, Other, Fire, Report, clears}
 
 -- the record under source h and number n, any number: outside first..last it is blank
 abbrev pub recordOf : End → ℕ → ℕ → Record
@@ -30,12 +34,31 @@ recordOf e h n = recordAt (sourceAt e (asHost h)) n
 abbrev pub slotOf : End → ℕ → ℕ → Slot
 slotOf e h n = recordOf e h n .slot
 
+-- the request that waits in a slot, with or without an express wait beside it
+abbrev pub requestIn : Slot → Option Request
+requestIn Empty = none
+requestIn (Held reply) = none
+requestIn (Waiting q x) = some q
+
+abbrev pub requestOf : End → ℕ → ℕ → Option Request
+requestOf e h n = requestIn (slotOf e h n)
+
 -- Leave or Crash, which clear every name
 abbrev pub clearing : Action → Bool
 clearing (Moves m) = clears m
 clearing (Send cue) = false
 clearing (Arrival bytes) = false
 clearing (Else o) = false
+
+abbrev pub isFire : Other → Bool
+isFire Fire = true
+isFire Report = false
+
+abbrev pub firing : Action → Bool
+firing (Moves m) = false
+firing (Send cue) = false
+firing (Arrival bytes) = false
+firing (Else o) = isFire o
 
 -- ---- first, last, and what is retired. Document 02, P7: "when last rises to L, numbers below L−63 are retired with their waits, first becomes
 -- the greater of itself and L−63"
@@ -64,42 +87,58 @@ retired e left h n = retires (sourceAt e (asHost h) .span) (sourceAt left (asHos
 
 -- ---- what becomes of a slot
 
--- From the slot before to the slot after, by any call, with its moment, its draws and the distance d to the source before it, of a number that
--- is not retired; `emptied` is whether the event is Leave or Crash. These alone empty such a slot; Send, DATA and REPL may hold a cue in it,
--- and then no reply waits. A request is new in round 1 or 2, and one that waits stays as it is or, once its quiet-until is past or it is due,
--- gets its next round, timed by this call. A held cue never gives way to a request.
-abbrev pub MayBecome : Bool → Moment → List ℕ → ℕ → ℕ → Slot → Slot → Type 0
-MayBecome emptied t us d n Empty Empty = Unit {0}
-MayBecome emptied t us d n Empty (Held reply) = reply ≡ No
-MayBecome emptied t us d n Empty (Waiting q) = (k : ℕ) × (1 ≤ k) × (k ≤ 2) × (q ≡ requestAt t us d n k)
-MayBecome emptied t us d n (Held reply) Empty = emptied ≡ true
-MayBecome emptied t us d n (Held reply) (Held now) = Unit {0}
-MayBecome emptied t us d n (Held reply) (Waiting q) = ⊥
-MayBecome emptied t us d n (Waiting q) Empty = emptied ≡ true
-MayBecome emptied t us d n (Waiting q) (Held reply) = reply ≡ No
-MayBecome emptied t us d n (Waiting q) (Waiting p) =
-    (p ≡ q) ⊎ (((q .quiet < t .clock) ⊎ (q .due ≤ t .clock)) × (p ≡ requestAt t us d n (nextRound (q .round))))
+-- what a call is, as far as slots go: whether its event is Leave or Crash, whether it is Fire, and the express wait that it sets beside a
+-- new request
+pub record Cause : Type 0 where
+  pub empties : Bool
+  pub fires : Bool
+  pub express : Express
 
--- The same by bytes that arrive, which can do less: `carried` is whether the message is a DATA or REPL of this very name, `asked`
--- whether it is a RQST of this very name. Nothing is emptied; only the name's own cue is held; a new request is in round 2 if the message
--- is a RQST of this very name, and in round 1 otherwise; only a RQST of this very name after its quiet-until sets the next round. What
--- becomes of the reply beside a cue that stays held, `ReplyAs` says.
-abbrev pub HeardAs : Moment → List ℕ → ℕ → ℕ → Bool → Bool → Slot → Slot → Type 0
-HeardAs t us d n carried asked Empty Empty = Unit {0}
-HeardAs t us d n carried asked Empty (Held reply) = (carried ≡ true) × (reply ≡ No)
-HeardAs t us d n carried asked Empty (Waiting q) = q ≡ requestAt t us d n (cond asked 2 1)
-HeardAs t us d n carried asked (Held reply) Empty = ⊥
-HeardAs t us d n carried asked (Held reply) (Held now) = Unit {0}
-HeardAs t us d n carried asked (Held reply) (Waiting q) = ⊥
-HeardAs t us d n carried asked (Waiting q) Empty = ⊥
-HeardAs t us d n carried asked (Waiting q) (Held reply) = (carried ≡ true) × (reply ≡ No)
-HeardAs t us d n carried asked (Waiting q) (Waiting p) =
-    (p ≡ q) ⊎ ((asked ≡ true) × (q .quiet < t .clock) × (p ≡ requestAt t us d n (nextRound (q .round))))
+-- From the express wait beside a request to the one beside the same request after a call: it stays, or it was due and Fire has dropped it.
+abbrev pub ExpressStays : Cause → Moment → Express → Express → Type 0
+ExpressStays c t Unset y = y ≡ Unset
+ExpressStays c t (Soon due) y = (y ≡ Soon due) ⊎ ((c .fires ≡ true) × (due ≤ t .clock) × (y ≡ Unset))
+
+-- From the slot before to the slot after, by any call, with its moment, its draws and the distance d to the source before it, of a number that
+-- is not retired. Leave and Crash alone empty such a slot; Send, DATA and REPL may hold a cue in it, and then no reply waits. A request is new
+-- in round 1 or 2, and has the call's express wait; one that waits stays as it is, but for an express wait that Fire drops, or, once its
+-- quiet-until is past or it is due, gets its next round, timed by this call, and keeps its express wait. A held cue never gives way to a
+-- request.
+abbrev pub MayBecome : Cause → Moment → List ℕ → ℕ → ℕ → Slot → Slot → Type 0
+MayBecome c t us d n Empty Empty = Unit {0}
+MayBecome c t us d n Empty (Held reply) = reply ≡ No
+MayBecome c t us d n Empty (Waiting q x) = (k : ℕ) × (1 ≤ k) × (k ≤ 2) × (q ≡ requestAt t us d n k) × (x ≡ c .express)
+MayBecome c t us d n (Held reply) Empty = c .empties ≡ true
+MayBecome c t us d n (Held reply) (Held now) = Unit {0}
+MayBecome c t us d n (Held reply) (Waiting q x) = ⊥
+MayBecome c t us d n (Waiting q x) Empty = c .empties ≡ true
+MayBecome c t us d n (Waiting q x) (Held reply) = reply ≡ No
+MayBecome c t us d n (Waiting q x) (Waiting p y) =
+    ((p ≡ q) × ExpressStays c t x y)
+    ⊎ (((q .quiet < t .clock) ⊎ (q .due ≤ t .clock)) × (p ≡ requestAt t us d n (nextRound (q .round))) × (y ≡ x))
+
+-- The same by bytes that arrive, which can do less: `carried` is whether the message is a DATA or REPL of this very name, `asked` whether it
+-- is a RQST or XPRS of this very name, `express` the express wait that it sets beside a new request. Nothing is emptied; only the name's own
+-- cue is held; a new request is in round 2 if the message is a RQST or XPRS of this very name, and in round 1 otherwise; only a RQST or XPRS
+-- of this very name after its quiet-until sets the next round. An express wait stays with its request. What becomes of the reply beside a cue
+-- that stays held, `ReplyAs` says.
+abbrev pub HeardAs : Moment → List ℕ → ℕ → ℕ → Bool → Bool → Express → Slot → Slot → Type 0
+HeardAs t us d n carried asked express Empty Empty = Unit {0}
+HeardAs t us d n carried asked express Empty (Held reply) = (carried ≡ true) × (reply ≡ No)
+HeardAs t us d n carried asked express Empty (Waiting q x) = (q ≡ requestAt t us d n (cond asked 2 1)) × (x ≡ express)
+HeardAs t us d n carried asked express (Held reply) Empty = ⊥
+HeardAs t us d n carried asked express (Held reply) (Held now) = Unit {0}
+HeardAs t us d n carried asked express (Held reply) (Waiting q x) = ⊥
+HeardAs t us d n carried asked express (Waiting q x) Empty = ⊥
+HeardAs t us d n carried asked express (Waiting q x) (Held reply) = (carried ≡ true) × (reply ≡ No)
+HeardAs t us d n carried asked express (Waiting q x) (Waiting p y) =
+    ((p ≡ q) ⊎ ((asked ≡ true) × (q .quiet < t .clock) × (p ≡ requestAt t us d n (nextRound (q .round))))) × (y ≡ x)
 
 -- From the waiting reply before to the one after, by bytes that arrive, under a name whose slot and reply-quiet were these: `asked` is
--- whether the message is a RQST of this very name, `repaired` whether it is a REPL of this very name with the held cue, d is the distance
--- to its sender. A reply begins to wait only by a RQST of its name, for a held cue and not before its reply-quiet, due as the rules have
--- it, with the sender as requester. One that waits stays the very same or, by a REPL of its name with its cue, goes.
+-- whether the message is a RQST or XPRS of this very name, `repaired` whether it is a REPL of this very name with the held cue or an XPRS of
+-- it that is answered at once, d is the distance to its sender. A reply begins to wait only by a RQST or XPRS of its name, for a held cue and
+-- not before its reply-quiet, due as the rules have it, with the sender as requester. One that waits stays the very same or, by such a REPL
+-- or XPRS, goes.
 abbrev pub ReplyAs : Moment → List ℕ → ℕ → Host → ℕ → Bool → Bool → Slot → ℕ → Reply → Reply → Type 0
 ReplyAs t us d sender n asked repaired slot quiet No No = Unit {0}
 ReplyAs t us d sender n asked repaired slot quiet No (Due due requester) =

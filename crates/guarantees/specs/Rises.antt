@@ -16,7 +16,7 @@ use Rattle.end.specs.declared.Moment.{Moment}
 use Rattle.end.specs.State.{blankRecord, sourceAt, withSpan, withNames}
 use Rattle.end.specs.Records.{place}
 use Rattle.end.specs.Round.{drawAt, requestWith}
-use Rattle.end.specs.Names.{asking, firstAfter, rise}
+use Rattle.end.specs.Names.{asking, firstAfter, isRequester, rise, riseByData}
 use Rattle.end.specs.Event.{Action, eventOf}
 use Rattle.end.specs.Opening.{openingOf}
 use Rattle.guarantees.specs.Calls.{OneCall, afterAll}
@@ -51,6 +51,11 @@ UpTo63 (Open first last) = (first .0 ≤ last .0) × (last .0 ≤ 63)
 
 abbrev pub RiseAsBefore : Type 0
 RiseAsBefore = (t : Moment) (us : List ℕ) (n : ℕ) (s : Source) → n ≤ 63 → UpTo63 (s .span) → rise t us n s (s .span) ≡ riseBefore t us n s (s .span)
+
+-- And before a DATA the same rise happens, unless the end is the requester of the kept pair (document 02, P8).
+abbrev pub DataRisesAlike : Type 0
+DataRisesAlike = (t : Moment) (us : List ℕ) (n : ℕ) (s : Source) → isRequester (t .me) (s .pair) ≡ false
+    → riseByData t us n s (s .span) ≡ rise t us n s (s .span)
 
 -- A call after which last is at most 63 retires nothing. So the statements of Arrivals.antt and BackOff.antt then say what they said of
 -- document 01: what is held stays held.

@@ -11,7 +11,7 @@ use Rattle.end.specs.Sound.{allBelow, soundOf}
 use Rattle.end.specs.Round.{factor, share}
 use Rattle.end.specs.Names.{filled, lacking, riseWith}
 use Rattle.end.specs.Records.{recordAt}
-use Rattle.end.specs.Decide.{decideData, reached, decideReply, decideRound, decideRequest, decideRepair, decideAs, apply, effectOf, stepAt}
+use Rattle.end.specs.Decide.{decideData, reached, decideReply, decideRound, decideRequest, decideExpress, decideRepair, decideAs, apply, effectOf, stepAt}
 use Rattle.end.specs.Session.{allReported, measured, sessionOf}
 use Rattle.end.specs.Arrival.{messageStep}
 use Rattle.end.specs.Fire.{foldUp, earliest, fireAt, fired}
@@ -62,5 +62,5 @@ prints =
     49 ∷ 32 ∷ 53 ∷ 55 ∷ 48 ∷ 32 ∷ 103 ∷ 111 ∷ 116 ∷ 32 ∷ 48 ∷ 32 ∷ 49 ∷ 32 ∷ 45 ∷ 50 ∷ 10 ∷ []
 
 pub listing : houseOf script ≡ prints
-unfolding valueAfter digits cueIn cueWith entries flat section sectionFrom after all rises bytesWith meaningWith inRange hostsFit readRefusal allBelow soundOf factor share filled lacking riseWith recordAt decideData reached decideReply decideRound decideRequest decideRepair decideAs apply effectOf stepAt allReported measured sessionOf messageStep foldUp earliest fireAt fired movedEnd moveOf arrivalOf actOf stepOf questionOf eventOf openRefusal openingOf figures decimal signedDecimal allDigits wellWritten unsignedWord signedWord numberAfter onto words same plainVerb laterVerb verbWith lineIn lineOf answerWords answerLine turnOf playedOf printedLine printsFrom
+unfolding valueAfter digits cueIn cueWith entries flat section sectionFrom after all rises bytesWith meaningWith inRange hostsFit readRefusal allBelow soundOf factor share filled lacking riseWith recordAt decideData reached decideReply decideRound decideRequest decideExpress decideRepair decideAs apply effectOf stepAt allReported measured sessionOf messageStep foldUp earliest fireAt fired movedEnd moveOf arrivalOf actOf stepOf questionOf eventOf openRefusal openingOf figures decimal signedDecimal allDigits wellWritten unsignedWord signedWord numberAfter onto words same plainVerb laterVerb verbWith lineIn lineOf answerWords answerLine turnOf playedOf printedLine printsFrom
 listing = refl

@@ -68,6 +68,7 @@ fn fresh(host: Host) -> End
         d1: 4,
         d2: 4,
         d3: 8,
+        express: 0,
     };
     let opened = link::open(host, params);
     opened.end

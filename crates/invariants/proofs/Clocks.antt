@@ -8,7 +8,7 @@ use lib.Dec.{eqb}
 use borrow.Author.Tests.{eqb-true, leb-true}
 use Rattle.message.specs.declared.Name.{Name}
 use Rattle.message.specs.declared.Report.{Report as ReportEntry}
-use Rattle.message.specs.Message.{DATA, RQST, REPL, Meaning, meaningFrom}
+use Rattle.message.specs.Message.{DATA, RQST, REPL, XPRS, Meaning, meaningFrom}
 use Rattle.message.specs.Question.{sameHost}
 use Rattle.end.specs.declared.Slot.{Slot}
 use Rattle.end.specs.declared.Slot.the-variants.{Empty, Held, Waiting}
@@ -27,7 +27,7 @@ use Rattle.end.specs.Answer.{Step, Result}
 use Rattle.end.specs.Decide.{stepAt}
 use Rattle.end.specs.Session.{reportedSource, allReported, sessionOf}
 use Rattle.end.specs.Arrival.{messageStep, arrivalOf}
-use Rattle.end.specs.Fire.{earliest, fireAt, fired}
+use Rattle.end.specs.Fire.{expressRank, earliest, fireAt, fired}
 use Rattle.end.specs.Event.{Action, Moves, Send, Arrival, Else, Other, Fire, Report, moves, clears, movedEnd, moveOf, otherOf, actOf, stepOf, questionOf, eventOf}
 use Rattle.end.proofs.SoundLaws.{nth}
 use Rattle.end.proofs.Tools.{byCond}
@@ -56,19 +56,20 @@ module _ (us : List ℕ) (e : End) where
       byCond (Keeps e) (eqb (m .kind) DATA) (λ _. refl)
       (λ _. byCond (Keeps e) (eqb (m .kind) RQST) (λ _. refl)
       (λ _. byCond (Keeps e) (eqb (m .kind) REPL) (λ _. refl)
-      (λ _. reported-clock (momentOf e) us (m .reports) e)))
+      (λ _. byCond (Keeps e) (eqb (m .kind) XPRS) (λ _. refl)
+      (λ _. reported-clock (momentOf e) us (m .reports) e))))
 
-  fire-clock : (name : Name) (x : Slot) → Keeps e (fireAt us name e x)
+  fire-clock : (rank : ℕ) (name : Name) (x : Slot) → Keeps e (fireAt us rank name e x)
   unfolding fireAt
-  fire-clock name Empty = refl
-  fire-clock name (Waiting q) = refl
-  fire-clock name (Held No) = refl
-  fire-clock name (Held (Due due k)) = refl
+  fire-clock rank name Empty = refl
+  fire-clock rank name (Waiting q x) = byCond (Keeps e) (eqb rank expressRank) (λ _. refl) (λ _. refl)
+  fire-clock rank name (Held No) = refl
+  fire-clock rank name (Held (Due due k)) = refl
 
   fired-clock : (x : Earliest) → Keeps e (fired us e x)
   unfolding fired
   fired-clock NoWait = refl
-  fired-clock (First w) = fire-clock (w .name) (recordAt (sourceAt e (w .name .source)) (w .name .number .0) .slot)
+  fired-clock (First w) = fire-clock (w .rank) (w .name) (recordAt (sourceAt e (w .name .source)) (w .name .number .0) .slot)
 
   other-clock : (o : Other) → Keeps e (otherOf us o e)
   other-clock Fire = fired-clock (earliest e 8)

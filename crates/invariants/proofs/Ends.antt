@@ -14,6 +14,7 @@ use Rattle.message.specs.declared.Name.{Name}
 use Rattle.message.specs.Entry.{asHost}
 use Rattle.message.specs.Question.{sameHost}
 use Rattle.end.specs.declared.Status.{Status}
+use Rattle.end.specs.declared.Slot.{Slot}
 use Rattle.end.specs.declared.Slot.the-variants.{Empty}
 use Rattle.end.specs.declared.Record.{Record}
 use Rattle.end.specs.declared.Heard.{Heard}
@@ -22,12 +23,12 @@ use Rattle.end.specs.declared.Source.{Source}
 use Rattle.end.specs.declared.End.{End}
 use Rattle.end.specs.State.{noRecord, noSource, blankRecord, firstDistance, unheard, unheardSources, sourceAt, isMember, withSource, withStatus, withClock}
 use Rattle.end.specs.Records.{place, recordAt}
-use Rattle.end.specs.Sound.{allOf, insideSound, outsideSound, distanceSound, heardTests, nonMemberTests, paramsTests}
+use Rattle.end.specs.Sound.{allOf, insideSound, outsideSound, distanceSound, heardTests, nonMemberTests, paramsTests, delayIn}
 use Rattle.end.proofs.SoundLaws.{nth}
 use Rattle.end.proofs.RecordLaws.{place-in}
 use Rattle.end.proofs.Facts.{within-small}
 use Rattle.end.proofs.Tools.{byTest, clash′, set-elim}
-use Rattle.invariants.specs.Outputs.{keptUnder}
+use Rattle.invariants.specs.Outputs.{keptUnder, pairOf}
 use Rattle.invariants.proofs.Facts.{SoundSource, SoundState, span-in}
 use Rattle.invariants.proofs.Sources.{stands}
 
@@ -35,7 +36,12 @@ use Rattle.invariants.proofs.Sources.{stands}
 pub record Stands (e : End) (name : Name) : Type 0 where
   pub source : name .source .0 < 8
   pub number : name .number .0 < 65536
-  pub sound : insideSound (e .host) (name .source) (keptUnder e name) (keptUnder e name .slot) ≡ true
+  pub sound : insideSound (e .host) (name .source) (pairOf e name) (keptUnder e name) (keptUnder e name .slot) ≡ true
+
+-- the same by what is there
+pub stands-as : {e : End} {name : Name} (x : Slot) → Stands e name → keptUnder e name .slot ≡ x
+    → insideSound (e .host) (name .source) (pairOf e name) (keptUnder e name) x ≡ true
+stands-as {e} {name} x at p = ap (insideSound (e .host) (name .source) (pairOf e name) (keptUnder e name)) (sym p) ∙ at .sound
 
 pub there : (e : End) → SoundState e → (name : Name) → (keptUnder e name .slot ≡ Empty → ⊥) → Stands e name
 unfolding recordAt
@@ -92,15 +98,16 @@ unheard-sound me next clock member h d near first = record {
   span = refl;
   distance = near;
   heard = refl;
-  aside = λ _. first;
+  aside = λ _. λ i. allOf (true ∷ true ∷ first i ∷ true ∷ []);
+  pair = refl;
   inside = λ n w. clash′ w;
   outside = λ n a b w. ap (λ (r : Record). outsideSound r (r .slot)) (getD-replicate 64 (place n) blankRecord noRecord (place-in n));
 }
 
 -- a state of which nothing is kept, whatever its status
-pub unheard-kept : (e : End) → e .host .0 < 8 → allOf (paramsTests (e .params)) ≡ true → e .clock < 281474976710656 → e .next ≤ 65536
-    → e .sources ≡ unheardSources (e .host .0) → SoundState e
-unheard-kept e host params clock next p =
+pub unheard-kept : (e : End) → e .host .0 < 8 → allOf (paramsTests (e .params)) ≡ true → delayIn (e .params) ≡ true → e .clock < 281474976710656
+    → e .next ≤ 65536 → e .sources ≡ unheardSources (e .host .0) → SoundState e
+unheard-kept e host params delay clock next p =
     let me = e .host .0 in
     let others : List Source = replicate 8 (unheard firstDistance) in
     let Sounds : ℕ → Source → Type 0 = λ k s. SoundSource (e .host) (e .next) (e .clock) (isMember (e .status)) (asHost k) s in

@@ -13,7 +13,8 @@ use Rattle.end.specs.declared.Source.{Source}
 use Rattle.end.specs.declared.End.{End}
 use Rattle.end.specs.State.{noSource, isMember, distanceTo, momentOf}
 use Rattle.end.specs.Records.{within, start, rawAt, recordAt}
-use Rattle.end.specs.Sound.{allOf, allBelow, insideSound, outsideSound, recordSound, spanTests, distanceSound, heardTests, nonMemberTests, sourceTests, sourceSound, paramsTests, soundTests, soundOf}
+use Rattle.end.specs.Sound.{allOf, allBelow, insideSound, outsideSound, recordSound, spanTests, pairTests, distanceSound, heardTests, nonMemberTests}
+use Rattle.end.specs.Sound.{sourceTests, sourceSound, paramsTests, delayIn, soundTests, soundOf}
 use Rattle.end.specs.Ready.{SpanIn, Ranges}
 use Rattle.end.proofs.Tools.{byTest, or-alone}
 use Rattle.end.proofs.RecordLaws.{at-inside}
@@ -39,7 +40,8 @@ pub record SoundSource (me : Host) (next clock : ℕ) (member : Bool) (h : Host)
   pub distance : distanceSound (sameHost h me) (s .distance) ≡ true
   pub heard : allOf (heardTests (sameHost h me) clock (s .heard)) ≡ true
   pub aside : member ≡ false → allOf (nonMemberTests (sameHost h me) s) ≡ true
-  pub inside : (n : ℕ) → within (s .span) n ≡ true → insideSound me h (recordAt s n) (recordAt s n .slot) ≡ true
+  pub pair : allOf (pairTests me (s .pair)) ≡ true
+  pub inside : (n : ℕ) → within (s .span) n ≡ true → insideSound me h (s .pair) (recordAt s n) (recordAt s n .slot) ≡ true
   pub outside : (n : ℕ) → start (s .span) ≤ n → n < start (s .span) + 64 → within (s .span) n ≡ false
       → outsideSound (rawAt (s .names) n) (rawAt (s .names) n .slot) ≡ true
 
@@ -48,11 +50,11 @@ module _ (me : Host) (next clock : ℕ) (member : Bool) (h : Host) (s : Source) 
   source-facts t =
       let tests = sourceTests me next clock member h s in
       let low = start (s .span) in
-      let records : (n : ℕ) → low ≤ n → n < low + 64 → recordSound me h (s .span) n (rawAt (s .names) n) ≡ true =
+      let records : (n : ℕ) → low ≤ n → n < low + 64 → recordSound me h (s .pair) (s .span) n (rawAt (s .names) n) ≡ true =
       λ n a b.
       let i : low + (n - low) ≡ n = omega arith in
-      subst (λ (m : ℕ). recordSound me h (s .span) m (rawAt (s .names) m) ≡ true) i
-      (all-at (λ i. recordSound me h (s .span) (low + i) (rawAt (s .names) (low + i))) 64 (n - low) (nth tests 5 t) (omega arith)) in
+      subst (λ (m : ℕ). recordSound me h (s .pair) (s .span) m (rawAt (s .names) m) ≡ true) i
+      (all-at (λ i. recordSound me h (s .pair) (s .span) (low + i) (rawAt (s .names) (low + i))) 64 (n - low) (nth tests 5 t) (omega arith)) in
       let ends = last-in (sameHost h me) next (s .missed) (s .span) (nth tests 1 t) in
       record {
         names = eqb-true (length (s .names)) 64 (nth tests 0 t);
@@ -60,6 +62,7 @@ module _ (me : Host) (next clock : ℕ) (member : Bool) (h : Host) (s : Source) 
         distance = nth tests 2 t;
         heard = nth tests 3 t;
         aside = or-alone member (allOf (nonMemberTests (sameHost h me) s)) (nth tests 4 t);
+        pair = nth tests 6 t;
         inside = λ n w. let i = among-64 (s .span) n ends w in rw (at-inside s n w) (rw w at (records n (i .0) (i .1)));
         outside = λ n a b w. rw w at (records n a b);
       }
@@ -73,16 +76,17 @@ module _ (me : Host) (next clock : ℕ) (member : Bool) (h : Host) (s : Source) 
       let names = eq-eqb (length (s .names)) 64 (q .names) in
       let aside = or-else member (allOf (nonMemberTests (sameHost h me) s)) (q .aside) in
       let low = start (s .span) in
-      let records = all-intro (λ i. recordSound me h (s .span) (low + i) (rawAt (s .names) (low + i))) 64
+      let records = all-intro (λ i. recordSound me h (s .pair) (s .span) (low + i) (rawAt (s .names) (low + i))) 64
       (λ i l. let n = low + i in
       byTest (within (s .span) n) (λ w. rw w (rw (at-inside s n w) at (q .inside n w))) (λ w. rw w (q .outside n (omega arith) (omega arith) w))) in
-      λ i. allOf (names i ∷ q .span i ∷ q .distance i ∷ q .heard i ∷ aside i ∷ records i ∷ [])
+      λ i. allOf (names i ∷ q .span i ∷ q .distance i ∷ q .heard i ∷ aside i ∷ records i ∷ q .pair i ∷ [])
 
 -- ---- the end
 pub record SoundState (e : End) : Type 0 where
   pub sources : length (e .sources) ≡ 8
   pub host : e .host .0 < 8
   pub params : allOf (paramsTests (e .params)) ≡ true
+  pub delay : delayIn (e .params) ≡ true
   pub clock : e .clock < 281474976710656
   pub next : e .next ≤ 65536
   pub each : (h : ℕ) → h < 8 → SoundSource (e .host) (e .next) (e .clock) (isMember (e .status)) (asHost h) (getD (e .sources) h noSource)
@@ -95,6 +99,7 @@ facts e t =
       sources = q .sources;
       host = q .host;
       params = nth (soundTests e) 2 t;
+      delay = nth (soundTests e) 6 t;
       clock = q .clock;
       next = q .next;
       each = λ h l. source-facts (e .host) (e .next) (e .clock) (isMember (e .status)) (asHost h) (getD (e .sources) h noSource) (q .each h l);
@@ -109,7 +114,7 @@ sound e f =
     let host = lt-ltb (e .host .0) 8 (f .host) in
     let clock = lt-ltb (e .clock) 281474976710656 (f .clock) in
     let next = le-leb (e .next) 65536 (f .next) in
-    λ i. allOf (long i ∷ host i ∷ f .params i ∷ clock i ∷ next i ∷ sources i ∷ [])
+    λ i. allOf (long i ∷ host i ∷ f .params i ∷ clock i ∷ next i ∷ sources i ∷ f .delay i ∷ [])
 
 -- so the ranges of every wait follow
 pub ranges-of : (e : End) → SoundState e → (h : Host) → h .0 < 8 → Ranges (momentOf e) (distanceTo e h)

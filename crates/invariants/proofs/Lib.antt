@@ -12,4 +12,5 @@ pub mod Clocks
 pub mod Lists
 pub mod Gathered
 pub mod Written
+pub mod Chosen
 pub mod Outputs

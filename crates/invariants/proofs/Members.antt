@@ -23,7 +23,7 @@ use Rattle.end.specs.declared.Moment.{Moment}
 use Rattle.end.specs.declared.Says.the-variants.{Data}
 use Rattle.end.specs.declared.Word.{Word}
 use Rattle.end.specs.declared.Decision.{Decision}
-use Rattle.end.specs.declared.Decision.the-variants.{Ignores, Opens, Takes, Repairs, Hushes, Replies, Learns, BacksOff, Clashes}
+use Rattle.end.specs.declared.Decision.the-variants.{Ignores, Opens, Takes, Repairs, Hushes, Replies, Learns, BacksOff, Clashes, Expresses}
 use Rattle.end.specs.declared.Slot.{Slot}
 use Rattle.end.specs.declared.Slot.the-variants.{Empty, Held, Waiting}
 use Rattle.end.specs.declared.Reply.the-variants.{No, Due}
@@ -32,25 +32,26 @@ use Rattle.end.specs.declared.Earliest.the-variants.{NoWait, First}
 use Rattle.end.specs.State.{sourceAt, isMember, momentOf, onSource, distanceTo}
 use Rattle.end.specs.Records.{within, recordAt, isHeld, isAbove}
 use Rattle.end.specs.Round.{Drawn}
-use Rattle.end.specs.Names.{asked, holding, hold}
-use Rattle.end.specs.Decide.{number, known, decide, risen, apply, stepAt}
-use Rattle.end.specs.Sound.{insideSound, allOf, distanceSound}
+use Rattle.end.specs.Names.{asked, askedByData, riseWith, holding, hold, quietReply}
+use Rattle.end.specs.Decide.{number, known, decide, risen, risenByData, paired, apply, stepAt}
+use Rattle.end.specs.Sound.{allOf, distanceSound}
 use Rattle.end.specs.Ready.{Ranges}
 use Rattle.end.specs.Session.{reportedSource, allReported, measured, heardFrom, sessionOf}
-use Rattle.end.specs.Fire.{fireAt, fired}
+use Rattle.end.specs.Fire.{expressRank, fireAt, fired}
+use Rattle.end.specs.Answer.{Step}
 use Rattle.end.proofs.RecordLaws.{read-same}
 use Rattle.end.proofs.RiseLaws.{rise-distance}
 use Rattle.end.proofs.Grounds.{Missing, Wanted, isRequest, Grounds, grounds, wanted-other}
 use Rattle.end.proofs.Bounds.{half-trip-in}
 use Rattle.end.proofs.Tools.{byCond, clash}
-use Rattle.invariants.specs.Outputs.{keptUnder}
+use Rattle.invariants.specs.Outputs.{keptUnder, pairOf}
 use Rattle.invariants.proofs.Facts.{SoundSource, SoundState, ranges-of}
 use Rattle.invariants.proofs.Records.{held-in, reply-from}
-use Rattle.invariants.proofs.Rises.{open-kept, rise-kept, risen-within}
-use Rattle.invariants.proofs.Sources.{hold-kept, round-kept, next-round-kept, reply-kept, quiet-kept}
-use Rattle.invariants.proofs.Ends.{there, source-kept}
+use Rattle.invariants.proofs.Rises.{open-kept, rise-kept, rise-by-data-kept, risen-within}
+use Rattle.invariants.proofs.Sources.{stands, hold-kept, round-kept, next-round-kept, reply-kept, quiet-kept, dropped-kept, pair-kept}
+use Rattle.invariants.proofs.Ends.{stands-as, there, source-kept}
 
--- ---- DATA, RQST, REPL
+-- ---- DATA, RQST, REPL, XPRS
 
 -- what the reader's questions give of a word
 pub record WordIn (t : Moment) (w : Word) : Type 0 where
@@ -60,7 +61,10 @@ pub record WordIn (t : Moment) (w : Word) : Type 0 where
   pub long : length (w .cue) ≡ 24
   pub cue : cueIn (w .cue) ≡ true
   pub original : w .says ≡ Data → sameHost (w .name .source) (t .me) ≡ false
-  pub asker : isRequest (w .says) ≡ true → (w .requester .0 < 8) × (sameHost (w .requester) (t .me) ≡ false) × (sameHost (w .requester) (w .name .source) ≡ false)
+  pub sender : w .sender .0 < 8
+  pub other : sameHost (w .sender) (t .me) ≡ false
+  pub requester : w .requester .0 < 8
+  pub asker : isRequest (w .says) ≡ true → (sameHost (w .requester) (t .me) ≡ false) × (sameHost (w .requester) (w .name .source) ≡ false)
 
 module _ (t : Moment) (us : List ℕ) (drawn : Drawn us) (w : Word) (v : WordIn t w) (next : ℕ) (member : Bool) (joined : member ≡ true)
     (s : Source) (far : Ranges t (s .distance)) (q : SoundSource (t .me) next (t .clock) member (w .name .source) s) where
@@ -69,7 +73,12 @@ module _ (t : Moment) (us : List ℕ) (drawn : Drawn us) (w : Word) (v : WordIn 
 
   -- a wanted cue is another's
   wanted : Wanted t w (known w s) (s .span) → sameHost (w .name .source) (t .me) ≡ false
-  wanted g = wanted-other t w (known w s) (s .span) (λ i. rw i (q .inside (number w) i)) g
+  wanted g = wanted-other t w (s .pair) (known w s) (s .span) (λ i. rw i (q .inside (number w) i)) g
+
+  -- a REPL is kept as the pair: its sender is another
+  paired-kept : (x : Source) → Sounds x → Sounds (paired w x)
+  unfolding Sounds
+  paired-kept x p = pair-kept (t .me) (w .requester) (w .sender) (w .name .number) (v .requester) (v .sender) (v .other) (v .number) x p joined
 
   -- a cue that is missing, of another: last has risen to it
   module _ (other : sameHost (w .name .source) (t .me) ≡ false) (k : Missing w (known w s) (s .span)) where
@@ -77,12 +86,19 @@ module _ (t : Moment) (us : List ℕ) (drawn : Drawn us) (w : Word) (v : WordIn 
     unfolding Sounds
     up = rise-kept joined other t us drawn s (number w) (v .number) far q
 
+    up-by-data : Sounds (risenByData t us w s)
+    unfolding Sounds
+    up-by-data = rise-by-data-kept joined other t us drawn s (number w) (v .number) far q
+
+    within-now : (new : ℕ → Record) → within (riseWith new (number w) s (s .span) .span) (number w) ≡ true
+    within-now new = risen-within joined other t us drawn s (number w) (v .number) far q new (k .first) (k .last) (k .span) (k .least)
+
     inside : within (risen t us w s .span) (number w) ≡ true
-    inside = risen-within joined other t us drawn s (number w) (v .number) far q (k .first) (k .last) (k .span) (k .least)
+    inside = within-now (asked t us (s .distance))
 
     takes : Sounds (apply t us w Takes s)
     unfolding Sounds apply
-    takes = hold-kept (risen t us w s) up joined (number w) (w .cue) (v .long) (v .cue) inside
+    takes = hold-kept (risenByData t us w s) up-by-data joined (number w) (w .cue) (v .long) (v .cue) (within-now (askedByData t us s))
 
     repairs : Sounds (apply t us w Repairs s)
     unfolding Sounds apply
@@ -91,7 +107,8 @@ module _ (t : Moment) (us : List ℕ) (drawn : Drawn us) (w : Word) (v : WordIn 
         let n = number w in
         let held : isHeld (recordAt (hold n (w .cue) x) n .slot) ≡ true =
         ap (λ (r : Record). isHeld (r .slot)) (read-same x n (holding (recordAt x n) (w .cue)) inside (up .names)) in
-        quiet-kept (hold n (w .cue) x) takes joined n t us drawn (w .distance) (v .distance) held
+        paired-kept (quietReply t n (w .distance) (hold n (w .cue) x))
+        (quiet-kept (hold n (w .cue) x) (hold-kept x up joined n (w .cue) (v .long) (v .cue) inside) joined n t us drawn (w .distance) (v .distance) held)
 
     learns : Sounds (apply t us w Learns s)
     unfolding Sounds apply
@@ -106,11 +123,14 @@ module _ (t : Moment) (us : List ℕ) (drawn : Drawn us) (w : Word) (v : WordIn 
       open-kept s q (g .1) (number w) (w .cue) (v .long) (v .cue) next joined (v .number) (λ i. not (v .original (g .0) i) || eqb (number w + 1) next)
   kept Takes g = takes (v .original (g .0)) (g .1)
   kept Repairs g = repairs (wanted (g .1)) (g .1 .missing)
-  kept Hushes g = quiet-kept s q joined (number w) t us drawn (w .distance) (v .distance) (g .1)
-  kept Replies g = let a = v .asker (g .0) in reply-kept s q joined (number w) t us drawn (w .distance) (w .requester) (v .distance) (a .0) (a .1) (a .2) (g .1 .held)
+  kept Hushes g = paired-kept (quietReply t (number w) (w .distance) s) (quiet-kept s q joined (number w) t us drawn (w .distance) (v .distance) (g .1))
+  kept Replies g =
+      let a = v .asker (g .0) in
+      reply-kept s q joined (number w) t us drawn (w .distance) (w .requester) (v .distance) (v .requester) (a .0) (a .1) (g .1 .held)
   kept Learns g = learns (wanted (g .1)) (g .1 .missing)
-  kept (BacksOff k) g = let a = g .1 in rw (a .round) (next-round-kept s q joined (number w) t us drawn (a .request) far (a .waits))
+  kept (BacksOff k) g = let a = g .1 in rw (a .round) (next-round-kept s q joined (number w) t us drawn (a .request) (a .express) far (a .waits))
   kept Clashes g = q
+  kept Expresses g = quiet-kept s q joined (number w) t us drawn (w .distance) (v .distance) (g .1)
 
 -- and so the end
 pub step-kept : (e : End) (us : List ℕ) (w : Word) → Drawn us → WordIn (momentOf e) w → SoundState e → isMember (e .status) ≡ true
@@ -165,6 +185,7 @@ module _ (us : List ℕ) (drawn : Drawn us) (m : Meaning) (hs : m .sender .0 < 8
         distance = ap (λ (t : Bool). distanceSound t d) other ∙ (λ i. le-leb 1 d (now .0) i && le-leb d 1000 (now .1) i);
         heard = λ i. allOf (not (other i) ∷ stamp i ∷ late i ∷ []);
         aside = λ no. clash (sym joined ∙ no);
+        pair = q .pair;
         inside = q .inside;
         outside = q .outside;
       })
@@ -185,17 +206,22 @@ module _ (us : List ℕ) (drawn : Drawn us) (m : Meaning) (hs : m .sender .0 < 8
 
 -- ---- Fire: whatever wait is chosen, what stands under its name goes out
 module _ (e : End) (f : SoundState e) (member : isMember (e .status) ≡ true) (us : List ℕ) (drawn : Drawn us) where
-  fire-kept : (name : Name) (x : Slot) → keptUnder e name .slot ≡ x → SoundState (fireAt us name e x .left)
+  fire-kept : (rank : ℕ) (name : Name) (x : Slot) → keptUnder e name .slot ≡ x → SoundState (fireAt us rank name e x .left)
   unfolding fireAt
-  fire-kept name Empty p = f
-  fire-kept name (Waiting q) p =
-      let hs = there e f name (λ o. let no : _≡_ {A = ℕ} 0 1 = cc in omega arith) .source in
-      source-kept e (name .source) _ f
-      (next-round-kept (sourceAt e (name .source)) (f .each (name .source .0) hs) member (name .number .0) (momentOf e) us drawn q (ranges-of e f (name .source) hs) p)
-  fire-kept name (Held No) p = f
-  fire-kept name (Held (Due due k)) p =
+  fire-kept rank name Empty p = f
+  fire-kept rank name (Waiting q x) p =
+      let s = sourceAt e (name .source) in
+      let n = name .number .0 in
+      let some : keptUnder e name .slot ≡ Empty → ⊥ = λ o. let no : _≡_ {A = ℕ} 0 1 = cc in omega arith in
+      let hs = there e f name some .source in
+      let sound = f .each (name .source .0) hs in
+      byCond (λ (r : Step). SoundState (r .left)) (eqb rank expressRank)
+      (λ _. source-kept e (name .source) _ f (dropped-kept s sound member n (stands s sound n some)))
+      (λ _. source-kept e (name .source) _ f (next-round-kept s sound member n (momentOf e) us drawn q x (ranges-of e f (name .source) hs) p))
+  fire-kept rank name (Held No) p = f
+  fire-kept rank name (Held (Due due k)) p =
       let at = there e f name (λ o. let no : _≡_ {A = ℕ} 0 1 = cc in omega arith) in
-      let v = held-in (e .host) (name .source) (keptUnder e name) (Due due k) (ap (insideSound (e .host) (name .source) (keptUnder e name)) (sym p) ∙ at .sound) in
+      let v = held-in (e .host) (name .source) (pairOf e name) (keptUnder e name) (Due due k) (stands-as (Held (Due due k)) at p) in
       let hk = reply-from (e .host) (name .source) due k (v .reply) .host in
       source-kept e (name .source) _ f
       (quiet-kept (sourceAt e (name .source)) (f .each (name .source .0) (at .source)) member (name .number .0) (momentOf e) us drawn (distanceTo e k) (ranges-of e f k hk) (ap isHeld p))
@@ -203,4 +229,4 @@ module _ (e : End) (f : SoundState e) (member : isMember (e .status) ≡ true) (
   pub fired-kept : (x : Earliest) → SoundState (fired us e x .left)
   unfolding fired
   fired-kept NoWait = f
-  fired-kept (First w) = fire-kept (w .name) _ refl
+  fired-kept (First w) = fire-kept (w .rank) (w .name) _ refl

@@ -48,7 +48,7 @@ pub move-kept : (m : Move) (e : End) → SoundState e → SoundState (moveOf m e
 unfolding moveOf movedEnd
 move-kept m e f = byCond (λ (r : Step). SoundState (r .left)) (moves m (e .status))
     (λ t. byCond SoundState (clears m)
-    (λ _. unheard-kept (cleared e (movesTo m)) (f .host) (f .params) (f .clock) (f .next) refl)
+    (λ _. unheard-kept (cleared e (movesTo m)) (f .host) (f .params) (f .delay) (f .clock) (f .next) refl)
     (λ c. status-kept e (movesTo m) f (kept-from m (e .status) c t)))
     (λ _. f)
 

@@ -1,52 +1,62 @@
 -- What goes out is right: the statement of specs/Outputs.antt.
 use mathlib.Core.Path.{_≡_, refl, sym, ap, _∙_, subst}
-use Prim.Native.Nat.{ℕ, _<_}
+use Prim.Native.Nat.{ℕ, _≤_, _<_}
 use native.Mathlib.Omega.{arith}
-use mathlib.Core.Bool.{Bool, true, false}
+use mathlib.Core.Bool.{Bool, true, false, not}
 use mathlib.Core.List.{List, [], _∷_}
 use lib.ListN.{length}
 use lib.Dec.{eqb}
-use borrow.Author.Tests.{eqb-true}
+use borrow.Author.Tests.{eqb-true, not-true}
 use Rattle.message.specs.declared.Host.{Host}
 use Rattle.message.specs.declared.Name.{Name}
 use Rattle.message.specs.Cue.{cueIn}
-use Rattle.message.specs.Message.{DATA, RQST, REPL, SESS, Meaning, meaningFrom, bytesOf, countsOf}
-use Rattle.message.specs.Question.{firstNo, meaningQuestions, kindHasCounts, sameHost, readOf}
+use Rattle.message.specs.Message.{DATA, RQST, REPL, XPRS, Meaning, meaningFrom, bytesOf, countsOf}
+use Rattle.message.specs.Question.{firstNo, messageQuestions, meaningQuestions, kindHasCounts, sameHost, readOf}
 use Rattle.message.specs.declared.Reading.{Reading}
 use Rattle.message.specs.declared.Verdict.the-variants.{Accepted}
-use Rattle.message.proofs.QuestionLaws.{counts-new}
+use Rattle.message.proofs.QuestionLaws.{and-both, counts-new}
 use Rattle.message.proofs.SectionLaws.{All, none, some}
 use Rattle.message.proofs.EntryLaws.{CueFits}
 use Rattle.roundtrip.proofs.RoundTrip.{accepts, fits-of, meaning-accepted, read-back, read-message}
 use Rattle.end.specs.declared.Request.{Request}
+use Rattle.end.specs.declared.Express.{Express}
+use Rattle.end.specs.declared.Express.the-variants.{Unset, Soon}
+use Rattle.end.specs.declared.Pair.{Pair}
 use Rattle.end.specs.declared.Slot.{Slot}
 use Rattle.end.specs.declared.Slot.the-variants.{Empty, Held, Waiting}
 use Rattle.end.specs.declared.Reply.the-variants.{No, Due}
-use Rattle.end.specs.declared.Word.{Word}
+use Rattle.end.specs.declared.Record.{Record}
+use Rattle.end.specs.declared.Span.{Span}
+use Rattle.end.specs.declared.Says.{Says}
+use Rattle.end.specs.declared.Says.the-variants.{Data, Rqst, Repl, Xprs}
 use Rattle.end.specs.declared.Decision.{Decision}
-use Rattle.end.specs.declared.Decision.the-variants.{Ignores, Opens, Takes, Repairs, Hushes, Replies, Learns, BacksOff, Clashes}
+use Rattle.end.specs.declared.Decision.the-variants.{Ignores, Opens, Takes, Repairs, Hushes, Replies, Learns, BacksOff, Clashes, Expresses}
 use Rattle.end.specs.declared.Move.{Move}
 use Rattle.end.specs.declared.End.{End}
 use Rattle.end.specs.declared.Earliest.{Earliest}
 use Rattle.end.specs.declared.Earliest.the-variants.{NoWait, First}
-use Rattle.end.specs.State.{isMember, isCrashed, momentOf, withClock}
-use Rattle.end.specs.Records.{isHeld}
-use Rattle.end.specs.Sound.{insideSound}
-use Rattle.end.specs.Messages.{dataMessage, requestMessage, repairMessage, sessionMessage}
+use Rattle.end.specs.State.{sourceAt, isMember, isCrashed, momentOf, withClock}
+use Rattle.end.specs.Records.{isHeld, replyIn, expressIn}
+use Rattle.end.specs.Sound.{timeIn, isNoPair, expressSound}
+use Rattle.end.specs.Messages.{dataMessage, requestMessage, expressMessage, repairMessage, sessionMessage}
 use Rattle.end.specs.Answer.{Effect, Out, Ignored, Nothing, Step, give, Class, PutsOut, HandsOut, Untouched, classOf, Did, Result}
-use Rattle.end.specs.Decide.{effectOf, stepAt}
+use Rattle.end.specs.Decide.{effectOf, stepBy, stepAt}
 use Rattle.end.specs.Session.{sessionOf}
-use Rattle.end.specs.Arrival.{messageName, messageCue, messageStep, arrivalOf}
-use Rattle.end.specs.Fire.{earliest, fireAt, fired}
+use Rattle.end.specs.Arrival.{messageName, messageHost, messageCue, wordOf, wordStep, messageStep, arrivalOf}
+use Rattle.end.specs.Fire.{expressRank, earliest, keptSender, fireAt, fired}
 use Rattle.end.specs.Event.{Action, Moves, Send, Arrival, Else, Other, Fire, Report, moves, moveOf, ownName, sendOf, otherOf, ifMember, actOf, stepOf, ownQuestions, questionOf, eventOf}
 use Rattle.end.specs.Run.{CueArray}
-use Rattle.end.proofs.Tools.{byCond, clash, eqb-flip}
-use Rattle.invariants.specs.Outputs.{keptUnder, RightOut, GoesOutRight}
+use Rattle.end.proofs.Tools.{byCond, clash, clash′, eqb-flip}
+use Rattle.end.proofs.Grounds.{Grounds, grounds}
+use Rattle.invariants.specs.Outputs.{keptUnder, pairOf, AtOnce, RightMessage, RightOut, GoesOutRight}
 use Rattle.invariants.proofs.Facts.{SoundState, facts}
-use Rattle.invariants.proofs.Records.{waiting-in, held-in, reply-from}
-use Rattle.invariants.proofs.Ends.{there, clock-kept}
+use Rattle.invariants.proofs.Records.{held-is, WaitingIn, waiting-in, held-in, reply-from, sender-in}
+use Rattle.invariants.proofs.Readings.{message-in, express-source}
+use Rattle.invariants.proofs.Ends.{Stands, stands-as, there, clock-kept}
+use Rattle.invariants.proofs.Stays.{kindOf}
+use Rattle.invariants.proofs.Chosen.{isSoon, Chosen, earliest-chosen}
 use Rattle.invariants.proofs.Questions.{passes, send-asked}
-use Rattle.invariants.proofs.Written.{data-passes, request-passes, repair-passes, session-counts, session-passes}
+use Rattle.invariants.proofs.Written.{data-passes, request-passes, express-passes, repair-passes, session-counts, session-passes}
 
 -- ---- a message that passes its questions is read as it was written
 pub record Written (y : Meaning) : Type 0 where
@@ -64,26 +74,13 @@ Right : End → Action → Step → Type 0
 Right e a r = (x : List ℕ) → r .effect ≡ Out x → RightOut e a (e .clock) x
 
 -- a message that is put out is right if its meaning is
-out-right : (e : End) (a : Action) (y : Meaning) (left : End) → Written y → y .sender ≡ e .host → y .stamp ≡ e .clock
-    → ((cue : List ℕ) → a ≡ Send cue → (y .kind ≡ DATA) × (messageName y ≡ ownName e) × (messageCue y ≡ cue))
-    → ((x : List ℕ) → a ≡ Arrival x → (x ≡ []) × (y .kind ≡ SESS))
-    → (y .kind ≡ RQST → isHeld (keptUnder e (messageName y) .slot) ≡ false)
-    → (y .kind ≡ REPL → (isHeld (keptUnder e (messageName y) .slot) ≡ true) × (messageCue y ≡ keptUnder e (messageName y) .cue)) → Right e a (give (Out (bytesOf y)) left)
+out-right : (e : End) (a : Action) (y : Meaning) (left : End) → Written y → RightMessage e a (e .clock) y → Right e a (give (Out (bytesOf y)) left)
 unfolding Right
-out-right e a y left w sender stamp sent probed lacks holds x p =
-    let back = w .back in
+out-right e a y left w right x p =
     let same : bytesOf y ≡ x = cc in
-    subst (RightOut e a (e .clock)) same (record {
-      accepted = w .accepted;
-      sender = ap (λ (m : Meaning). m .sender) back ∙ sender;
-      stamp = ap (λ (m : Meaning). m .stamp) back ∙ stamp;
-      sent = subst (λ (m : Meaning). (cue : List ℕ) → a ≡ Send cue → (m .kind ≡ DATA) × (messageName m ≡ ownName e) × (messageCue m ≡ cue)) (sym back) sent;
-      probed = subst (λ (m : Meaning). (x : List ℕ) → a ≡ Arrival x → (x ≡ []) × (m .kind ≡ SESS)) (sym back) probed;
-      lacks = subst (λ (m : Meaning). m .kind ≡ RQST → isHeld (keptUnder e (messageName m) .slot) ≡ false) (sym back) lacks;
-      holds = subst (λ (m : Meaning). m .kind ≡ REPL → (isHeld (keptUnder e (messageName m) .slot) ≡ true) × (messageCue m ≡ keptUnder e (messageName m) .cue)) (sym back) holds;
-    })
+    subst (RightOut e a (e .clock)) same (record { accepted = w .accepted; message = subst (RightMessage e a (e .clock)) (sym (w .back)) right })
 
--- ---- moves and messages put nothing out
+-- ---- moves and most messages put nothing out
 abbrev putsOut : Class → Bool
 putsOut (PutsOut bytes) = true
 putsOut (HandsOut name cue) = false
@@ -100,25 +97,11 @@ move-silent : (m : Move) (e : End) → Silent (moveOf m e)
 unfolding moveOf
 move-silent m e = byCond Silent (moves m (e .status)) (λ _. refl) (λ _. refl)
 
-word-silent : (w : Word) (d : Decision) → putsOut (classOf (effectOf w d)) ≡ false
-unfolding effectOf
-word-silent w (Ignores why) = refl
-word-silent w Opens = refl
-word-silent w Takes = refl
-word-silent w Repairs = refl
-word-silent w Hushes = refl
-word-silent w Replies = refl
-word-silent w Learns = refl
-word-silent w (BacksOff k) = refl
-word-silent w Clashes = refl
-
-arrival-silent : (us : List ℕ) (m : Meaning) (e : End) → Silent (arrivalOf us m e)
-unfolding arrivalOf messageStep stepAt sessionOf
-arrival-silent us m e =
-    byCond Silent (sameHost (m .sender) (e .host)) (λ _. refl)
-    (λ _. byCond Silent (eqb (m .kind) DATA) (λ _. word-silent _ _)
-    (λ _. byCond Silent (eqb (m .kind) RQST) (λ _. word-silent _ _)
-    (λ _. byCond Silent (eqb (m .kind) REPL) (λ _. word-silent _ _) (λ _. refl))))
+abbrev isXprs : Says → Bool
+isXprs Data = false
+isXprs Rqst = false
+isXprs Repl = false
+isXprs Xprs = true
 
 -- ---- Send, Report and Fire
 
@@ -131,57 +114,197 @@ unheard : {P : Type 0} (o : Other) (x : List ℕ) → Else o ≡ Arrival x → P
 unheard o x p = absurd (let z : _≡_ {A = ℕ} 0 1 = cc in omega arith)
 
 module _ (e : End) (f : SoundState e) where
-  pub request-written : (name : Name) (q : Request) → keptUnder e name .slot ≡ Waiting q → Written (requestMessage (momentOf e) name)
-  request-written name q p =
+  -- ---- messages about names under which there is something
+  waiting-name : (name : Name) (q : Request) (x : Express) → keptUnder e name .slot ≡ Waiting q x
+      → Stands e name × WaitingIn (e .host) (name .source) (pairOf e name) (keptUnder e name) q x
+  waiting-name name q x p =
       let at = there e f name (λ o. let no : _≡_ {A = ℕ} 0 1 = cc in omega arith) in
-      let v = waiting-in (e .host) (name .source) (keptUnder e name) q (ap (insideSound (e .host) (name .source) (keptUnder e name)) (sym p) ∙ at .sound) in
-      written (requestMessage (momentOf e) name) refl (request-passes e f name (at .source) (at .number) (eqb-flip (name .source .0) (e .host .0) (v .0))) none
+      (at, waiting-in (e .host) (name .source) (pairOf e name) (keptUnder e name) q x (stands-as (Waiting q x) at p))
+
+  pub request-written : (name : Name) (q : Request) (x : Express) → keptUnder e name .slot ≡ Waiting q x → Written (requestMessage (momentOf e) name)
+  request-written name q x p =
+      let w = waiting-name name q x p in
+      written (requestMessage (momentOf e) name) refl
+      (request-passes e f name (w .0 .source) (w .0 .number) (eqb-flip (name .source .0) (e .host .0) (w .1 .other))) none
+
+  -- where an express wait stands there is a pair, whose sender is another
+  pair-stands : (pair : Pair) (x : Express) → isSoon x ≡ true → expressSound pair x ≡ true → isNoPair pair ≡ false
+  pair-stands pair Unset k p = clash′ k
+  pair-stands pair (Soon due) k p = not-true (isNoPair pair) (and-both (timeIn due) (not (isNoPair pair)) p .1)
+
+  pub express-pair : (name : Name) (q : Request) (x : Express) → keptUnder e name .slot ≡ Waiting q x → isSoon x ≡ true → isNoPair (pairOf e name) ≡ false
+  express-pair name q x p k = pair-stands (pairOf e name) x k (waiting-name name q x p .1 .express)
+
+  pub express-written : (name : Name) (q : Request) (x : Express) → keptUnder e name .slot ≡ Waiting q x → isSoon x ≡ true
+      → Written (expressMessage (momentOf e) name (keptSender (pairOf e name)))
+  express-written name q x p k =
+      let w = waiting-name name q x p in
+      let to = keptSender (pairOf e name) in
+      let v = sender-in (e .host) (pairOf e name) (f .each (name .source .0) (w .0 .source) .pair) (express-pair name q x p k) in
+      written (expressMessage (momentOf e) name to) refl (express-passes e f name to (w .0 .source) (w .0 .number) (v .0) (v .1) (w .1 .other)) none
+
+  -- the held cue of a name, to a host that may have asked for it
+  pub held-written : (name : Name) (k : Host) → isHeld (keptUnder e name .slot) ≡ true → k .0 < 8 → sameHost k (e .host) ≡ false
+      → sameHost k (name .source) ≡ false → Written (repairMessage (momentOf e) name k (keptUnder e name .cue))
+  held-written name k held hk other apart =
+      let at = there e f name (λ o. clash (sym held ∙ ap isHeld o)) in
+      let r = keptUnder e name in
+      let v = held-in (e .host) (name .source) (pairOf e name) r (replyIn (r .slot)) (stands-as (Held (replyIn (r .slot))) at (held-is (r .slot) held)) in
+      written (repairMessage (momentOf e) name k (r .cue)) refl
+      (repair-passes e f name k (r .cue) (at .source) (at .number) hk (v .cue) other apart) (some (v .long) none)
 
   pub repair-written : (name : Name) (due : ℕ) (k : Host) → keptUnder e name .slot ≡ Held (Due due k) → Written (repairMessage (momentOf e) name k (keptUnder e name .cue))
   repair-written name due k p =
       let at = there e f name (λ o. let no : _≡_ {A = ℕ} 0 1 = cc in omega arith) in
-      let r = keptUnder e name in
-      let v = held-in (e .host) (name .source) r (Due due k) (ap (insideSound (e .host) (name .source) r) (sym p) ∙ at .sound) in
+      let v = held-in (e .host) (name .source) (pairOf e name) (keptUnder e name) (Due due k) (stands-as (Held (Due due k)) at p) in
       let a = reply-from (e .host) (name .source) due k (v .reply) in
-      written (repairMessage (momentOf e) name k (r .cue)) refl
-      (repair-passes e f name k (r .cue) (at .source) (at .number) (a .host) (v .cue) (a .other) (a .apart)) (some (v .long) none)
+      held-written name k (ap isHeld p) (a .host) (a .other) (a .apart)
 
   send-right : (us cue : List ℕ) → length cue ≡ 24 → cueIn cue ≡ true → e .next < 65536 → Right e (Send cue) (sendOf us cue e)
   send-right us cue long fits l =
       let y = dataMessage (momentOf e) (ownName e) cue in
-      out-right e (Send cue) y _ (written y refl (data-passes e f cue l fits) (some long none)) refl refl
-      (λ c p. let same : cue ≡ c = cc in (refl, refl, same)) (λ x p. let z : _≡_ {A = ℕ} 0 1 = cc in absurd (omega arith))
-      (λ q. absurd (omega arith)) (λ q. absurd (omega arith))
+      out-right e (Send cue) y _ (written y refl (data-passes e f cue l fits) (some long none)) (record {
+        sender = refl;
+        stamp = refl;
+        sent = λ c p. let same : cue ≡ c = cc in (refl, refl, same);
+        probed = λ p. let z : _≡_ {A = ℕ} 0 1 = cc in absurd (omega arith);
+        answered = λ b s p. let z : _≡_ {A = ℕ} 0 1 = cc in absurd (omega arith);
+        lacks = λ k. absurd (omega arith);
+        express = λ k. absurd (omega arith);
+        holds = λ k. absurd (omega arith);
+      })
 
-  fire-right : (us : List ℕ) (name : Name) (x : Slot) → keptUnder e name .slot ≡ x → Right e (Else Fire) (fireAt us name e x)
+  -- by Fire goes out a message about a name: of its kinds one is what it is
+  fire-out : (y : Meaning) (left : End) → Written y → y .sender ≡ e .host → y .stamp ≡ e .clock
+      → (y .kind ≡ RQST → isHeld (keptUnder e (messageName y) .slot) ≡ false)
+      → (y .kind ≡ XPRS → (isHeld (keptUnder e (messageName y) .slot) ≡ false) × (isNoPair (pairOf e (messageName y)) ≡ false)
+      × (messageHost y ≡ keptSender (pairOf e (messageName y))))
+      → (y .kind ≡ REPL → (isHeld (keptUnder e (messageName y) .slot) ≡ true) × (messageCue y ≡ keptUnder e (messageName y) .cue))
+      → Right e (Else Fire) (give (Out (bytesOf y)) left)
+  fire-out y left w sender stamp lacks express holds = out-right e (Else Fire) y left w (record {
+    sender = sender;
+    stamp = stamp;
+    sent = λ c u. unsent Fire c u;
+    probed = λ u. unheard Fire [] u;
+    answered = λ b s u. unheard Fire (b ∷ s) u;
+    lacks = lacks;
+    express = express;
+    holds = holds;
+  })
+
+  fire-right : (us : List ℕ) (rank : ℕ) (name : Name) (x : Slot) → keptUnder e name .slot ≡ x → (eqb rank expressRank ≡ true → isSoon (expressIn x) ≡ true)
+      → Right e (Else Fire) (fireAt us rank name e x)
   unfolding fireAt
-  fire-right us name Empty p = silent-right e (Else Fire) (give Nothing e) refl
-  fire-right us name (Waiting q) p =
-      out-right e (Else Fire) (requestMessage (momentOf e) name) _ (request-written name q p) refl refl (λ c u. unsent Fire c u) (λ x u. unheard Fire x u)
-      (λ _. ap isHeld p) (λ k. absurd (omega arith))
-  fire-right us name (Held No) p = silent-right e (Else Fire) (give Nothing e) refl
-  fire-right us name (Held (Due due k)) p =
-      out-right e (Else Fire) (repairMessage (momentOf e) name k (keptUnder e name .cue)) _ (repair-written name due k p) refl refl
-      (λ c u. unsent Fire c u) (λ x u. unheard Fire x u) (λ q. absurd (omega arith)) (λ _. (ap isHeld p, refl))
+  fire-right us rank name Empty p soon = silent-right e (Else Fire) (give Nothing e) refl
+  fire-right us rank name (Waiting q x) p soon = byCond (Right e (Else Fire)) (eqb rank expressRank)
+      (λ k. fire-out (expressMessage (momentOf e) name (keptSender (pairOf e name))) _ (express-written name q x p (soon k)) refl refl
+      (λ _. ap isHeld p) (λ _. (ap isHeld p, express-pair name q x p (soon k), refl)) (λ i. absurd (omega arith)))
+      (λ _. fire-out (requestMessage (momentOf e) name) _ (request-written name q x p) refl refl
+      (λ _. ap isHeld p) (λ i. absurd (omega arith)) (λ i. absurd (omega arith)))
+  fire-right us rank name (Held No) p soon = silent-right e (Else Fire) (give Nothing e) refl
+  fire-right us rank name (Held (Due due k)) p soon =
+      fire-out (repairMessage (momentOf e) name k (keptUnder e name .cue)) _ (repair-written name due k p) refl refl
+      (λ i. absurd (omega arith)) (λ i. absurd (omega arith)) (λ _. (ap isHeld p, refl))
 
-  fired-right : (us : List ℕ) (x : Earliest) → Right e (Else Fire) (fired us e x)
+  fired-right : (us : List ℕ) (x : Earliest) → Chosen e x → Right e (Else Fire) (fired us e x)
   unfolding fired
-  fired-right us NoWait = silent-right e (Else Fire) (give Nothing e) refl
-  fired-right us (First w) = fire-right us (w .name) (keptUnder e (w .name) .slot) refl
+  fired-right us NoWait c = silent-right e (Else Fire) (give Nothing e) refl
+  fired-right us (First w) c = fire-right us (w .rank) (w .name) (keptUnder e (w .name) .slot) refl c
 
   -- Report, and a probe that arrives
-  report-right : (a : Action) → ((cue : List ℕ) → a ≡ Send cue → ⊥) → ((x : List ℕ) → a ≡ Arrival x → x ≡ []) → (us : List ℕ) → Right e a (otherOf us Report e)
-  report-right a no-send probe us =
-      out-right e a (sessionMessage e) e (written (sessionMessage e) (session-counts e f) (session-passes e f) none) refl refl
-      (λ c p. absurd (no-send c p)) (λ x p. (probe x p, refl)) (λ q. absurd (omega arith)) (λ q. absurd (omega arith))
+  report-right : (a : Action) → ((cue : List ℕ) → a ≡ Send cue → ⊥) → ((b : ℕ) (s : List ℕ) → a ≡ Arrival (b ∷ s) → ⊥) → (us : List ℕ)
+      → Right e a (otherOf us Report e)
+  report-right a no-send no-message us =
+      out-right e a (sessionMessage e) e (written (sessionMessage e) (session-counts e f) (session-passes e f) none) (record {
+        sender = refl;
+        stamp = refl;
+        sent = λ c p. absurd (no-send c p);
+        probed = λ _. refl;
+        answered = λ b s p. absurd (no-message b s p);
+        lacks = λ k. absurd (omega arith);
+        express = λ k. absurd (omega arith);
+        holds = λ k. absurd (omega arith);
+      })
 
   other-right : (us : List ℕ) (o : Other) → Right e (Else o) (otherOf us o e)
-  other-right us Fire = fired-right us (earliest e 8)
-  other-right us Report = report-right (Else Report) (λ c p. unsent Report c p) (λ x p. unheard Report x p) us
+  other-right us Fire = fired-right us (earliest e 8) (earliest-chosen e 8)
+  other-right us Report = report-right (Else Report) (λ c p. unsent Report c p) (λ b s p. unheard Report (b ∷ s) p) us
 
   probe-right : (us : List ℕ) → Right e (Arrival []) (otherOf us Report e)
   probe-right =
-      report-right (Arrival []) (λ c p. let z : _≡_ {A = ℕ} 0 1 = cc in omega arith) (λ x p. let same : [] ≡ x = cc in sym same)
+      report-right (Arrival []) (λ c p. let z : _≡_ {A = ℕ} 0 1 = cc in omega arith) (λ b s p. let z : _≡_ {A = ℕ} 0 1 = cc in omega arith)
+
+  -- ---- messages: only an XPRS is answered by what goes out
+  module _ (us : List ℕ) (b : ℕ) (s : List ℕ) (read : firstNo (messageQuestions (b ∷ s)) ≡ 0)
+      (other : sameHost (meaningFrom (b ∷ s) .sender) (e .host) ≡ false) where
+    abbrev m : Meaning
+    m = meaningFrom (b ∷ s)
+
+    abbrev held : Record
+    held = keptUnder e (messageName m)
+
+    at-once : (left : End) → eqb (m .kind) XPRS ≡ true → isHeld (held .slot) ≡ true → held .hush ≤ e .clock → sameHost (messageHost m) (e .host) ≡ true
+        → Right e (Arrival (b ∷ s)) (give (Out (bytesOf (repairMessage (momentOf e) (messageName m) (m .sender) (held .cue)))) left)
+    at-once left k h over named =
+        let y = repairMessage (momentOf e) (messageName m) (m .sender) (held .cue) in
+        let w = held-written (messageName m) (m .sender) h (message-in (b ∷ s) read .sender) other (express-source (b ∷ s) read k) in
+        let kind = eqb-true (m .kind) XPRS k in
+        let for : AtOnce e (e .clock) m y = record { express = kind; named = named; over = over; repair = refl; name = refl; requester = refl } in
+        out-right e (Arrival (b ∷ s)) y left w (record {
+          sender = refl;
+          stamp = refl;
+          sent = λ c p. let z : _≡_ {A = ℕ} 0 1 = cc in absurd (omega arith);
+          probed = λ p. let z : _≡_ {A = ℕ} 0 1 = cc in absurd (omega arith);
+          answered = λ c l p.
+              let same : b ∷ s ≡ c ∷ l = cc in
+              subst (λ (x : List ℕ). AtOnce e (e .clock) (meaningFrom x) y) same for;
+          lacks = λ i. absurd (omega arith);
+          express = λ i. absurd (omega arith);
+          holds = λ _. (h, refl);
+        })
+
+    expresses-right : (says : Says) → eqb (m .kind) (kindOf says) ≡ true → says ≡ Xprs → isHeld (held .slot) ≡ true → held .hush ≤ e .clock
+        → sameHost (messageHost m) (e .host) ≡ true → Right e (Arrival (b ∷ s)) (stepBy (momentOf e) us (wordOf says m e) e Expresses)
+    unfolding effectOf
+    expresses-right Data k p h over named = clash (ap isXprs (sym p))
+    expresses-right Rqst k p h over named = clash (ap isXprs (sym p))
+    expresses-right Repl k p h over named = clash (ap isXprs (sym p))
+    expresses-right Xprs k p h over named = at-once _ k h over named
+
+    decided-right : (says : Says) → eqb (m .kind) (kindOf says) ≡ true → (x : Span) (d : Decision) → Grounds (momentOf e) (wordOf says m e) held x d
+        → Right e (Arrival (b ∷ s)) (stepBy (momentOf e) us (wordOf says m e) e d)
+    unfolding Grounds effectOf
+    decided-right says k x (Ignores why) g = silent-right e _ _ refl
+    decided-right says k x Opens g = silent-right e _ _ refl
+    decided-right says k x Takes g = silent-right e _ _ refl
+    decided-right says k x Repairs g = silent-right e _ _ refl
+    decided-right says k x Hushes g = silent-right e _ _ refl
+    decided-right says k x Replies g = silent-right e _ _ refl
+    decided-right says k x Learns g = silent-right e _ _ refl
+    decided-right says k x (BacksOff i) g = silent-right e _ _ refl
+    decided-right says k x Clashes g = silent-right e _ _ refl
+    decided-right says k x Expresses g = expresses-right says k (g .0) (g .1) (g .2) (g .3)
+
+    word-right : (says : Says) → eqb (m .kind) (kindOf says) ≡ true → Right e (Arrival (b ∷ s)) (wordStep us says m e)
+    unfolding stepAt
+    word-right says k =
+        let x = sourceAt e (messageName m .source) .span in
+        decided-right says k x _ (grounds (momentOf e) (wordOf says m e) held x)
+
+    message-right : Right e (Arrival (b ∷ s)) (messageStep us m e)
+    unfolding messageStep sessionOf
+    message-right =
+        let R = Right e (Arrival (b ∷ s)) in
+        byCond R (eqb (m .kind) DATA) (word-right Data)
+        (λ _. byCond R (eqb (m .kind) RQST) (word-right Rqst)
+        (λ _. byCond R (eqb (m .kind) REPL) (word-right Repl)
+        (λ _. byCond R (eqb (m .kind) XPRS) (word-right Xprs)
+        (λ _. silent-right e _ _ refl))))
+
+  arrival-right : (us : List ℕ) (b : ℕ) (s : List ℕ) → firstNo (messageQuestions (b ∷ s)) ≡ 0 → Right e (Arrival (b ∷ s)) (arrivalOf us (meaningFrom (b ∷ s)) e)
+  unfolding arrivalOf
+  arrival-right us b s read =
+      byCond (Right e (Arrival (b ∷ s))) (sameHost (meaningFrom (b ∷ s) .sender) (e .host)) (λ _. silent-right e _ _ refl) (message-right us b s read)
 
 -- ---- every event
 module _ (us : List ℕ) (e : End) (t : ℕ) (f : SoundState (withClock e t)) where
@@ -199,20 +322,29 @@ module _ (us : List ℕ) (e : End) (t : ℕ) (f : SoundState (withClock e t)) wh
   act-right (Send cue) array own = let asked = send-asked cue e own in joined (Send cue) _ (λ m. send-right now f us cue array (asked .0) (asked .1 m))
   act-right (Arrival []) array own = joined (Arrival []) _ (λ _. probe-right now f us)
   act-right (Arrival (b ∷ s)) array own =
-      joined (Arrival (b ∷ s)) _ (λ _. silent-right now (Arrival (b ∷ s)) _ (arrival-silent us (meaningFrom (b ∷ s)) now))
+      joined (Arrival (b ∷ s)) _ (λ _. arrival-right now f us b s own)
   act-right (Else o) array own = joined (Else o) _ (λ _. other-right now f us o)
 
 -- the clock is no part of what is kept under a name
+at-once-clock : (e : End) (t : ℕ) (m y : Meaning) → AtOnce (withClock e t) t m y → AtOnce e t m y
+at-once-clock e t m y r = record { express = r .express; named = r .named; over = r .over; repair = r .repair; name = r .name; requester = r .requester }
+
 before-clock : (e : End) (a : Action) (t : ℕ) (x : List ℕ) → RightOut (withClock e t) a t x → RightOut e a t x
-before-clock e a t x r = record {
-  accepted = r .accepted;
-  sender = r .sender;
-  stamp = r .stamp;
-  sent = r .sent;
-  probed = r .probed;
-  lacks = r .lacks;
-  holds = r .holds;
-}
+before-clock e a t x r =
+    let y = r .message in
+    record {
+      accepted = r .accepted;
+      message = record {
+        sender = y .sender;
+        stamp = y .stamp;
+        sent = y .sent;
+        probed = y .probed;
+        answered = λ b s p. at-once-clock e t (meaningFrom (b ∷ s)) (meaningFrom x) (y .answered b s p);
+        lacks = y .lacks;
+        express = y .express;
+        holds = y .holds;
+      };
+    }
 
 pub goes-out-right : GoesOutRight
 unfolding eventOf stepOf Right

@@ -10,11 +10,11 @@ use borrow.Author.Tests.{eqb-true, ltb-true, not-true}
 use Rattle.numbers.specs.Number.{valueAfter}
 use Rattle.message.specs.declared.Host.{Host}
 use Rattle.message.specs.declared.NameEntry.{NameEntry}
-use Rattle.message.specs.declared.Counts.{Counts}
 use Rattle.message.specs.Cue.{cueIn}
 use Rattle.message.specs.Section.{all}
 use Rattle.message.specs.Entry.{blankName, blankCue}
-use Rattle.message.specs.Message.{DATA, RQST, mostNumber, Meaning, meaningFrom, countsOf}
+use Rattle.message.specs.Kind.{rowOf}
+use Rattle.message.specs.Message.{DATA, RQST, XPRS, mostNumber, Meaning, meaningFrom, countsOf}
 use Rattle.message.specs.Question.{ask, firstNo, messageQuestions, kindHasCounts, inRange, hostsFit, hostIn, numberIn, ticksIn, nameIn, reportIn, hostFits, sameHost}
 use Rattle.message.proofs.QuestionLaws.{and-both, all-passed, counted}
 use Rattle.message.proofs.SectionLaws.{All, none, some}
@@ -22,6 +22,7 @@ use Rattle.message.proofs.EntryLaws.{CueFits}
 use Rattle.roundtrip.proofs.RoundTrip.{accepted, counts-read, rest-read, range-read, cues-read}
 use Rattle.end.specs.Arrival.{messageName, messageHost, messageCue}
 use Rattle.end.proofs.Readings.{reads, in-range, reports-in, original-source}
+use Rattle.end.proofs.Tools.{eqb-flip}
 
 -- numbers in range
 pub record MessageIn (m : Meaning) : Type 0 where
@@ -53,9 +54,6 @@ first-cue [] none = refl
 first-cue (a ∷ l) (some p q) = p
 
 -- a RQST has one name, whose host is its sender and not the source
-asked-counts : (c : Counts) → kindHasCounts RQST c ≡ true → c .names ≡ 1
-asked-counts c h = counted RQST c h .names
-
 asker : (sender : Host) (l : List NameEntry) → length l ≡ 1 → all (hostFits RQST sender) l ≡ true → sameHost sender (getD l 0 blankName .name .source) ≡ false
 unfolding all
 asker sender [] n h = absurd (omega arith)
@@ -63,6 +61,16 @@ asker sender (a ∷ l) n h =
     let both : sameHost (a .host) sender && not (sameHost (a .host) (a .name .source)) ≡ true = and-both (hostFits RQST sender a) (all (hostFits RQST sender) l) h .0 in
     let parts = and-both (sameHost (a .host) sender) (not (sameHost (a .host) (a .name .source))) both in
     ap (λ (k : ℕ). eqb k (a .name .source .0)) (sym (eqb-true (a .host .0) (sender .0) (parts .0))) ∙ not-true (sameHost (a .host) (a .name .source)) (parts .1)
+
+-- an XPRS has one name, whose source is not its sender
+express-asker : (sender : Host) (l : List NameEntry) → length l ≡ 1 → all (hostFits XPRS sender) l ≡ true
+    → sameHost sender (getD l 0 blankName .name .source) ≡ false
+unfolding all
+express-asker sender [] n h = absurd (omega arith)
+express-asker sender (a ∷ l) n h =
+    let source = a .name .source in
+    let both : not (sameHost (a .host) sender) && not (sameHost source sender) ≡ true = and-both (hostFits XPRS sender a) (all (hostFits XPRS sender) l) h .0 in
+    eqb-flip (source .0) (sender .0) (not-true (sameHost source sender) (and-both (not (sameHost (a .host) sender)) (not (sameHost source sender)) both .1))
 
 module _ (x : List ℕ) (h : firstNo (messageQuestions x) ≡ 0) where
   long : length (messageCue (meaningFrom x)) ≡ 24
@@ -91,15 +99,23 @@ module _ (x : List ℕ) (h : firstNo (messageQuestions x) ≡ 0) where
   pub data-source : eqb (meaningFrom x .kind) DATA ≡ true → meaningFrom x .sender .0 ≡ messageName (meaningFrom x) .source .0
   data-source k = original-source x (meaningFrom x) (reads x h) k
 
-  -- the source of a RQST is not
-  pub asked-source : eqb (meaningFrom x .kind) RQST ≡ true → sameHost (meaningFrom x .sender) (messageName (meaningFrom x) .source) ≡ false
+  -- the names of a message have their kind's count, and its rule of the host
+  names-fit : (k : ℕ) → eqb (meaningFrom x .kind) k ≡ true
+      → (length (meaningFrom x .names) ≡ rowOf k .names) × (all (hostFits k (meaningFrom x .sender)) (meaningFrom x .names) ≡ true)
   unfolding hostsFit
-  asked-source k =
+  names-fit k same =
       let y = meaningFrom x in
-      let kind : y .kind ≡ RQST = eqb-true (y .kind) RQST k in
-      let one : length (y .names) ≡ 1 = asked-counts (countsOf y) (ap (λ (k : ℕ). kindHasCounts k (countsOf y)) (sym kind) ∙ counts-read x (accepted x h)) in
+      let kind : y .kind ≡ k = eqb-true (y .kind) k same in
       let hosts = all-passed (hostsFit y) 11 [] (omega arith)
       (all-passed (inRange (mostNumber (y .kind)) y) 10 (ask (hostsFit y) 11 ∷ []) (omega arith) (rest-read x (accepted x h)) .1) .0 in
       let fits = and-both (all (hostFits (y .kind) (y .sender)) (y .names)) _ hosts .0 in
-      asker (y .sender) (y .names) one
-      (ap (λ (k : ℕ). all (hostFits k (y .sender)) (y .names)) (sym kind) ∙ fits)
+      let count = counted k (countsOf y) (ap (λ (i : ℕ). kindHasCounts i (countsOf y)) (sym kind) ∙ counts-read x (accepted x h)) .names in
+      (count, ap (λ (i : ℕ). all (hostFits i (y .sender)) (y .names)) (sym kind) ∙ fits)
+
+  -- the source of a RQST is not
+  pub asked-source : eqb (meaningFrom x .kind) RQST ≡ true → sameHost (meaningFrom x .sender) (messageName (meaningFrom x) .source) ≡ false
+  asked-source k = let v = names-fit RQST k in asker (meaningFrom x .sender) (meaningFrom x .names) (v .0) (v .1)
+
+  -- nor is that of an XPRS
+  pub express-source : eqb (meaningFrom x .kind) XPRS ≡ true → sameHost (meaningFrom x .sender) (messageName (meaningFrom x) .source) ≡ false
+  express-source k = let v = names-fit XPRS k in express-asker (meaningFrom x .sender) (meaningFrom x .names) (v .0) (v .1)

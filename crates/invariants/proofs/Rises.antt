@@ -3,7 +3,7 @@
 use mathlib.Core.Path.{_≡_, refl, sym, ap, _∙_, subst}
 use Prim.Native.Nat.{ℕ, _+_, _-_, _≤_, _<_, max}
 use native.Mathlib.Omega.{arith}
-use mathlib.Core.Bool.{Bool, true, false, not, _||_, or-true}
+use mathlib.Core.Bool.{Bool, true, false, not, _&&_, _||_, or-true}
 use mathlib.Core.List.{List, [], _∷_}
 use lib.ListN.{length, getD}
 use lib.Seq.{set-set}
@@ -15,6 +15,8 @@ use Rattle.message.specs.declared.CueNumber.{CueNumber}
 use Rattle.message.specs.Cue.{cueIn}
 use Rattle.message.specs.Question.{sameHost}
 use Rattle.message.specs.Entry.{asNumber}
+use Rattle.end.specs.declared.Express.{Express}
+use Rattle.end.specs.declared.Express.the-variants.{Unset, Soon}
 use Rattle.end.specs.declared.Record.{Record}
 use Rattle.end.specs.declared.Source.{Source}
 use Rattle.end.specs.declared.Moment.{Moment}
@@ -23,8 +25,8 @@ use Rattle.end.specs.declared.Span.the-variants.{Closed, Open}
 use Rattle.end.specs.State.{noRecord, blankRecord}
 use Rattle.end.specs.Records.{within, isAbove, start, place, rawAt, recordAt}
 use Rattle.end.specs.Round.{Drawn, requestAt}
-use Rattle.end.specs.Names.{asked, holding, hold, filled, holdsCue, riseWith, rise, openAt}
-use Rattle.end.specs.Sound.{allOf, spanTests, insideSound, outsideSound}
+use Rattle.end.specs.Names.{expressed, isRequester, asked, askedByData, holding, hold, filled, holdsCue, riseWith, rise, riseByData, openAt}
+use Rattle.end.specs.Sound.{allOf, timeLimit, spanTests, expressSound, insideSound, outsideSound}
 use Rattle.end.specs.Event.{extended}
 use Rattle.end.specs.Ready.{SpanIn, Ranges}
 use Rattle.end.proofs.Tools.{byCond, clash}
@@ -34,7 +36,7 @@ use Rattle.end.proofs.Lacking.{lacking-most}
 use Rattle.end.proofs.RiseLaws.{firstNow, lastNow, raw-over, rise-length, rise-at, rise-reaches, missed-plain}
 use Rattle.end.proofs.Facts.{narrow}
 use Rattle.invariants.proofs.Facts.{SoundSource, span-in}
-use Rattle.invariants.proofs.Records.{round-in, asking-sound, holding-sound, outside-hush}
+use Rattle.invariants.proofs.Records.{round-in, asking-sound, holding-sound, outside-hush, requester-kept}
 
 -- the tests of first and last, by what these are
 tests-of : {me : Host} {next clock : ℕ} {member : Bool} {h : Host} (s : Source) → SoundSource me next clock member h s → (x : Span) → s .span ≡ x
@@ -59,20 +61,20 @@ module _ {me : Host} {next clock : ℕ} {member : Bool} {h : Host} (s : Source) 
     opened : Record
     opened = holding (recordAt (openAt n s) n) cue
 
-    opened-sound : insideSound me h opened (opened .slot) ≡ true
+    opened-sound : insideSound me h (s .pair) opened (opened .slot) ≡ true
     unfolding opened
     opened-sound =
         let now = within-in n n n (omega arith) (omega arith) in
-        holding-sound me h (recordAt (openAt n s) n) cue
+        holding-sound me h (s .pair) (recordAt (openAt n s) n) cue
         (rw (at-inside (openAt n s) n now) (outside-hush me h (rawAt (s .names) n) (rawAt (s .names) n .slot) (closed-blank n))) long fits
 
     opened-inside : (j : ℕ) → within (Open (asNumber n) (asNumber n)) j ≡ true
-        → let r = recordAt (hold n cue (openAt n s)) j in insideSound me h r (r .slot) ≡ true
+        → let r = recordAt (hold n cue (openAt n s)) j in insideSound me h (s .pair) r (r .slot) ≡ true
     unfolding opened
     opened-inside j w =
         let i = inside n n j w in
         let same : n ≡ j = omega (arith, i .low, i .high) in
-        subst (λ (k : ℕ). let r = recordAt (hold n cue (openAt n s)) k in insideSound me h r (r .slot) ≡ true) same
+        subst (λ (k : ℕ). let r = recordAt (hold n cue (openAt n s)) k in insideSound me h (s .pair) r (r .slot) ≡ true) same
         (rw (read-same (openAt n s) n opened (within-in n n n (omega arith) (omega arith)) (q .names)) opened-sound)
 
     opened-outside : (j : ℕ) → n ≤ j → j < n + 64 → within (Open (asNumber n) (asNumber n)) j ≡ false
@@ -95,6 +97,7 @@ module _ {me : Host} {next clock : ℕ} {member : Bool} {h : Host} (s : Source) 
           distance = q .distance;
           heard = q .heard;
           aside = λ no. clash (sym joined ∙ no);
+          pair = q .pair;
           inside = opened-inside;
           outside = opened-outside;
         }
@@ -132,13 +135,13 @@ module _ {me : Host} {next clock : ℕ} {member : Bool} {h : Host} (s : Source) 
       λ i. allOf (a i ∷ b i ∷ own i ∷ c i ∷ d i ∷ [])
 
   -- inside, a number is new or was inside
-  risen-inside : ((j : ℕ) → insideSound me h (new j) (new j .slot) ≡ true) → (j : ℕ) → within (risen .span) j ≡ true
-      → insideSound me h (recordAt risen j) (recordAt risen j .slot) ≡ true
+  risen-inside : ((j : ℕ) → insideSound me h (s .pair) (new j) (new j .slot) ≡ true) → (j : ℕ) → within (risen .span) j ≡ true
+      → insideSound me h (s .pair) (recordAt risen j) (recordAt risen j .slot) ≡ true
   unfolding riseWith
   risen-inside good j w =
       let i = inside low high j w in
       rw (rise-at new n s (Open first last) p (q .names) j, w)
-      (byCond (λ (r : Record). insideSound me h r (r .slot) ≡ true) (isAbove (Open first last) j) (λ _. good j)
+      (byCond (λ (r : Record). insideSound me h (s .pair) r (r .slot) ≡ true) (isAbove (Open first last) j) (λ _. good j)
       (λ c. q .inside j (ap (λ (x : Span). within x j) p ∙ within-in (first .0) (last .0) j (omega (arith, i .low)) (ltb-false (last .0) j c))))
 
   -- outside, a place is as it was
@@ -153,7 +156,7 @@ module _ {me : Host} {next clock : ℕ} {member : Bool} {h : Host} (s : Source) 
       (λ l. clash (sym (within-in low high j a l) ∙ w))
 
   rise-open : (next′ : ℕ) → member ≡ true → n < 65536 → (not (sameHost h me) || eqb (high + 1) next′) ≡ true
-      → ((j : ℕ) → insideSound me h (new j) (new j .slot) ≡ true) → SoundSource me next′ clock member h risen
+      → ((j : ℕ) → insideSound me h (s .pair) (new j) (new j .slot) ≡ true) → SoundSource me next′ clock member h risen
   unfolding riseWith
   rise-open next′ joined hn own good = record {
     names = rise-length new n s (Open first last) ∙ q .names;
@@ -161,6 +164,7 @@ module _ {me : Host} {next clock : ℕ} {member : Bool} {h : Host} (s : Source) 
     distance = q .distance;
     heard = q .heard;
     aside = λ no. clash (sym joined ∙ no);
+    pair = q .pair;
     inside = risen-inside good;
     outside = risen-outside;
   }
@@ -169,21 +173,45 @@ module _ {me : Host} {next clock : ℕ} {member : Bool} {h : Host} (s : Source) 
 module _ {me : Host} {next clock : ℕ} {member : Bool} (joined : member ≡ true) {h : Host} (other : sameHost h me ≡ false)
     (t : Moment) (us : List ℕ) (drawn : Drawn us) (s : Source) (n : ℕ) (hn : n < 65536) (far : Ranges t (s .distance))
     (q : SoundSource me next clock member h s) where
-  rise-in : (x : Span) → s .span ≡ x → SoundSource me next clock member h (rise t us n s x)
-  unfolding riseWith
-  rise-in Closed p = q
-  rise-in (Open first last) p =
-      let new = asked t us (s .distance) in
-      rise-open s q new n first last p next joined hn (λ i. not (other i) || eqb (lastNow new n s first last + 1) next)
-      (λ j. asking-sound me h blankRecord (requestAt t us (s .distance) j 1) other refl (round-in t us drawn (s .distance) far j 1 (omega arith) (omega arith)))
+  -- a new number's request, with an express wait or without one
+  Asked : ℕ → Express → Type 0
+  Asked j x = let r = expressed x (asked t us (s .distance) j) in insideSound me h (s .pair) r (r .slot) ≡ true
+
+  new-sound : (j : ℕ) (x : Express) → expressSound (s .pair) x ≡ true → Asked j x
+  unfolding Asked
+  new-sound j x express =
+      asking-sound me h (s .pair) (expressed x (asked t us (s .distance) j)) (requestAt t us (s .distance) j 1) x other refl
+      (round-in t us drawn (s .distance) far j 1 (omega arith) (omega arith)) express
+
+  soon-sound : isRequester (t .me) (s .pair) ≡ true → expressSound (s .pair) (Soon (t .clock + t .params .express)) ≡ true
+  soon-sound k =
+      let due = lt-ltb (t .clock + t .params .express) timeLimit (omega (arith, far .clock, far .express)) in
+      λ i. due i && not (requester-kept (t .me) (s .pair) k i)
+
+  by-data-sound : (j : ℕ) → let r = askedByData t us s j in insideSound me h (s .pair) r (r .slot) ≡ true
+  unfolding Asked
+  by-data-sound j =
+      byCond (Asked j) (isRequester (t .me) (s .pair))
+      (λ k. new-sound j (Soon (t .clock + t .params .express)) (soon-sound k))
+      (λ _. new-sound j Unset refl)
+
+  module _ (new : ℕ → Record) (good : (j : ℕ) → insideSound me h (s .pair) (new j) (new j .slot) ≡ true) where
+    rise-in : (x : Span) → s .span ≡ x → SoundSource me next clock member h (riseWith new n s x)
+    unfolding riseWith
+    rise-in Closed p = q
+    rise-in (Open first last) p = rise-open s q new n first last p next joined hn (λ i. not (other i) || eqb (lastNow new n s first last + 1) next) good
 
   pub rise-kept : SoundSource me next clock member h (rise t us n s (s .span))
-  rise-kept = rise-in (s .span) refl
+  unfolding Asked
+  rise-kept = rise-in (asked t us (s .distance)) (λ j. new-sound j Unset refl) (s .span) refl
+
+  -- before a DATA
+  pub rise-by-data-kept : SoundSource me next clock member h (riseByData t us n s (s .span))
+  rise-by-data-kept = rise-in (askedByData t us s) by-data-sound (s .span) refl
 
   -- a number not below first is inside once last has risen to it
-  pub risen-within : (first last : CueNumber) → s .span ≡ Open first last → first .0 ≤ n → within (rise t us n s (s .span) .span) n ≡ true
-  risen-within first last p a =
-      let new = asked t us (s .distance) in
+  pub risen-within : (new : ℕ → Record) (first last : CueNumber) → s .span ≡ Open first last → first .0 ≤ n → within (riseWith new n s (s .span) .span) n ≡ true
+  risen-within new first last p a =
       ap (λ (x : Span). within (riseWith new n s x .span) n) p ∙ rise-reaches new n s first last (narrow (Open first last) (ends s q new n first last p)) a
 
 -- ---- Send
@@ -204,7 +232,7 @@ sent-rises t us cue n s first last p ends long up =
     let r : recordAt x n ≡ new n = rw (rise-at new n s (Open first last) p long n, w, lt-ltb k n (omega arith)) in
     let names : hold n cue x .names ≡ riseWith (λ _. holding blankRecord cue) n s (Open first last) .names =
     rw (r, l, from, one) (set-set (s .names) (place n) (new n) (holding blankRecord cue)) in
-    λ i. record { span = x .span; missed = x .missed; distance = s .distance; heard = s .heard; names = names i }
+    λ i. record { span = x .span; missed = x .missed; pair = s .pair; distance = s .distance; heard = s .heard; names = names i }
 
 module _ (t : Moment) (us cue : List ℕ) (long : length cue ≡ 24) (fits : cueIn cue ≡ true) (me : Host) (next clock : ℕ) (hn : next < 65536) (member : Bool)
     (joined : member ≡ true) (s : Source) (q : SoundSource me next clock member me s) where
@@ -222,4 +250,4 @@ module _ (t : Moment) (us cue : List ℕ) (long : length cue ≡ 24) (fits : cue
       subst (SoundSource me (next + 1) clock member me)
       (sym (sent-rises t us cue next s first last p (ends s q new next first last p) (q .names) up))
       (rise-open s q new next first last p (next + 1) joined hn (own-next (max (last .0) next) (omega arith))
-      (λ j. holding-sound me me blankRecord cue refl long fits))
+      (λ j. holding-sound me me (s .pair) blankRecord cue refl long fits))

@@ -9,17 +9,17 @@ use lib.Dec.{eqb}
 use borrow.Author.Tests.{eqb-true, ltb-true}
 use Rattle.message.specs.declared.Host.{Host}
 use Rattle.message.specs.Entry.{asHost}
-use Rattle.message.specs.Message.{DATA, RQST, REPL, meaningFrom}
+use Rattle.message.specs.Message.{DATA, RQST, REPL, XPRS, meaningFrom}
 use Rattle.message.specs.Question.{ask, firstNo, hostIn, messageQuestions, sameHost}
 use Rattle.message.proofs.QuestionLaws.{and-both, all-passed}
 use Rattle.end.specs.declared.Params.{Params}
 use Rattle.end.specs.declared.Status.the-variants.{Idle, Crashed}
 use Rattle.end.specs.declared.Says.{Says}
-use Rattle.end.specs.declared.Says.the-variants.{Data, Rqst, Repl}
+use Rattle.end.specs.declared.Says.the-variants.{Data, Rqst, Repl, Xprs}
 use Rattle.end.specs.declared.End.{End}
 use Rattle.end.specs.State.{freshEnd, isMember, isCrashed, withClock}
 use Rattle.end.specs.Round.{Drawn}
-use Rattle.end.specs.Sound.{allOf, paramsTests, soundOf}
+use Rattle.end.specs.Sound.{allOf, paramsTests, delayIn, soundOf}
 use Rattle.end.specs.Answer.{Step, Result}
 use Rattle.end.specs.Arrival.{messageName, requesterIn, wordOf, wordStep, messageStep, arrivalOf}
 use Rattle.end.specs.Fire.{earliest}
@@ -30,7 +30,7 @@ use Rattle.end.proofs.Tools.{byCond, clash′}
 use Rattle.end.proofs.Grounds.{isData, isRequest}
 use Rattle.invariants.specs.Sound.{OpensSound, StaysSound}
 use Rattle.invariants.proofs.Facts.{SoundState, facts, sound, ranges-of}
-use Rattle.invariants.proofs.Readings.{message-in, data-source, asked-source}
+use Rattle.invariants.proofs.Readings.{message-in, data-source, asked-source, express-source}
 use Rattle.invariants.proofs.Ends.{clock-kept, unheard-kept}
 use Rattle.invariants.proofs.Moves.{move-kept, send-kept}
 use Rattle.invariants.proofs.Members.{step-kept, session-kept, fired-kept}
@@ -38,14 +38,16 @@ use Rattle.invariants.proofs.Questions.{passes, send-asked}
 
 -- ---- an opening
 
--- what is opened has passed questions 12 and 13
+-- what is opened has passed questions 12, 13 and 14
 fresh-sound : (h : Host) (p : Params) → openRefusal h p ≡ 0 → SoundState (freshEnd h p Idle)
 unfolding openRefusal
 fresh-sound h p q =
-    let params = ask (allOf (paramsTests p) && allOf (constrainedTests p)) 13 ∷ [] in
-    let twelve = all-passed (hostIn h) 12 params (omega arith) q in
-    let thirteen = all-passed (allOf (paramsTests p) && allOf (constrainedTests p)) 13 [] (omega arith) (twelve .1) .0 in
-    unheard-kept (freshEnd h p Idle) (ltb-true (h .0) 8 (twelve .0)) (and-both (allOf (paramsTests p)) (allOf (constrainedTests p)) thirteen .0) (omega arith) (omega arith) refl
+    let delay = ask (delayIn p) 14 ∷ [] in
+    let twelve = all-passed (hostIn h) 12 (ask (allOf (paramsTests p) && allOf (constrainedTests p)) 13 ∷ delay) (omega arith) q in
+    let thirteen = all-passed (allOf (paramsTests p) && allOf (constrainedTests p)) 13 delay (omega arith) (twelve .1) in
+    let fourteen = all-passed (delayIn p) 14 [] (omega arith) (thirteen .1) .0 in
+    unheard-kept (freshEnd h p Idle) (ltb-true (h .0) 8 (twelve .0)) (and-both (allOf (paramsTests p)) (allOf (constrainedTests p)) (thirteen .0) .0) fourteen
+    (omega arith) (omega arith) refl
 
 pub opens-sound : OpensSound
 unfolding openingOf
@@ -53,7 +55,7 @@ opens-sound h p = go (openRefusal h p) refl
   where
     go : (k : ℕ) → openRefusal h p ≡ k → soundOf (endFor k h p) ≡ true
     go zero q = sound (freshEnd h p Idle) (fresh-sound h p q)
-    go (suc k) q = sound (freshEnd (asHost 0) houseParams Crashed) (unheard-kept (freshEnd (asHost 0) houseParams Crashed) (omega arith) refl (omega arith) (omega arith) refl)
+    go (suc k) q = let e = freshEnd (asHost 0) houseParams Crashed in sound e (unheard-kept e (omega arith) refl refl (omega arith) (omega arith) refl)
 
 -- what a step leaves is sound
 abbrev Leaves : Step → Type 0
@@ -62,10 +64,11 @@ Leaves r = SoundState (r .left)
 -- ---- what a member does
 
 -- the kind of a message that says so
-abbrev kindOf : Says → ℕ
+abbrev pub kindOf : Says → ℕ
 kindOf Data = DATA
 kindOf Rqst = RQST
 kindOf Repl = REPL
+kindOf Xprs = XPRS
 
 module _ (e : End) (f : SoundState e) (us : List ℕ) (drawn : Drawn us) (member : isMember (e .status) ≡ true) where
   module _ (x : List ℕ) (read : firstNo (messageQuestions x) ≡ 0) (other : sameHost (meaningFrom x .sender) (e .host) ≡ false) where
@@ -73,19 +76,22 @@ module _ (e : End) (f : SoundState e) (us : List ℕ) (drawn : Drawn us) (member
     original Data k p = ap (λ (i : ℕ). eqb i (e .host .0)) (sym (data-source x read k)) ∙ other
     original Rqst k p = clash′ (ap isData p)
     original Repl k p = clash′ (ap isData p)
+    original Xprs k p = clash′ (ap isData p)
 
     requester : (says : Says) → requesterIn says (meaningFrom x) .0 < 8
     requester Data = message-in x read .sender
     requester Rqst = message-in x read .sender
     requester Repl = message-in x read .host
+    requester Xprs = message-in x read .sender
 
     asker : (says : Says) → eqb (meaningFrom x .kind) (kindOf says) ≡ true → isRequest says ≡ true → let k = requesterIn says (meaningFrom x) in
-        (k .0 < 8) × (sameHost k (e .host) ≡ false) × (sameHost k (messageName (meaningFrom x) .source) ≡ false)
+        (sameHost k (e .host) ≡ false) × (sameHost k (messageName (meaningFrom x) .source) ≡ false)
     asker Data k p = clash′ p
-    asker Rqst k p = (requester Rqst, other, asked-source x read k)
+    asker Rqst k p = (other, asked-source x read k)
     asker Repl k p = clash′ p
+    asker Xprs k p = (other, express-source x read k)
 
-    -- DATA, RQST, REPL
+    -- DATA, RQST, REPL, XPRS
     word-kept : (says : Says) → eqb (meaningFrom x .kind) (kindOf says) ≡ true → Leaves (wordStep us says (meaningFrom x) e)
     word-kept says k =
         let m = meaningFrom x in
@@ -97,6 +103,9 @@ module _ (e : End) (f : SoundState e) (us : List ℕ) (drawn : Drawn us) (member
           long = v .long;
           cue = v .cue;
           original = original says k;
+          sender = v .sender;
+          other = other;
+          requester = requester says;
           asker = asker says k;
         }) f member
 
@@ -108,7 +117,8 @@ module _ (e : End) (f : SoundState e) (us : List ℕ) (drawn : Drawn us) (member
         byCond Leaves (eqb (m .kind) DATA) (word-kept Data)
         (λ _. byCond Leaves (eqb (m .kind) RQST) (word-kept Rqst)
         (λ _. byCond Leaves (eqb (m .kind) REPL) (word-kept Repl)
-        (λ _. session-kept us drawn m (v .sender) (v .stamp) e f member other (v .reports))))
+        (λ _. byCond Leaves (eqb (m .kind) XPRS) (word-kept Xprs)
+        (λ _. session-kept us drawn m (v .sender) (v .stamp) e f member other (v .reports)))))
 
   arrival-kept : (x : List ℕ) → firstNo (messageQuestions x) ≡ 0 → Leaves (arrivalOf us (meaningFrom x) e)
   unfolding arrivalOf

@@ -13,7 +13,7 @@ use Rattle.message.specs.declared.Echo.{Echo}
 use Rattle.message.specs.Cue.{cueIn}
 use Rattle.message.specs.Section.{all, rises}
 use Rattle.message.specs.Entry.{asHost}
-use Rattle.message.specs.Message.{DATA, RQST, REPL, SESS, countsOf}
+use Rattle.message.specs.Message.{DATA, RQST, REPL, SESS, XPRS, countsOf}
 use Rattle.message.specs.Question.{firstNo, meaningQuestions, kindHasCounts, inRange, hostsFit, hostIn, reportIn, echoIn, notFrom, reportSource, echoHost, sameHost, ticksIn}
 use Rattle.message.proofs.QuestionLaws.{and-both}
 use Rattle.end.specs.declared.Span.{Span}
@@ -23,14 +23,14 @@ use Rattle.end.specs.declared.Heard.the-variants.{Never, At}
 use Rattle.end.specs.declared.End.{End}
 use Rattle.end.specs.State.{noSource, momentOf}
 use Rattle.end.specs.Sound.{allOf, spanTests, heardTests}
-use Rattle.end.specs.Messages.{dataMessage, requestMessage, repairMessage, sessionMessage, reportOn, echoOn, reportsBelow, echoesBelow}
+use Rattle.end.specs.Messages.{dataMessage, requestMessage, expressMessage, repairMessage, sessionMessage, reportOn, echoOn, reportsBelow, echoesBelow}
 use Rattle.end.specs.Event.{ownName}
 use Rattle.end.proofs.SoundLaws.{nth}
 use Rattle.end.proofs.Tools.{clash′}
 use Rattle.invariants.proofs.Facts.{SoundState}
 use Rattle.invariants.proofs.Gathered.{One, nothing, single, one-most, all-weaken, Gathered, gathered-none, gathered-more}
 
--- ---- DATA, RQST and REPL
+-- ---- DATA, RQST, XPRS and REPL
 module _ (e : End) (f : SoundState e) where
   host-in : hostIn (e .host) ≡ true
   host-in = lt-ltb (e .host .0) 8 (f .host)
@@ -47,6 +47,12 @@ module _ (e : End) (f : SoundState e) where
   unfolding inRange hostsFit all rises
   request-passes name hs hn other =
       rw (host-in, clock-in, lt-ltb (name .source .0) 8 hs, le-leb (name .number .0) 65535 (omega arith), eq-eqb (e .host .0) (e .host .0) refl, other)
+
+  pub express-passes : (name : Name) (k : Host) → name .source .0 < 8 → name .number .0 < 65536 → k .0 < 8 → sameHost k (e .host) ≡ false
+      → sameHost (name .source) (e .host) ≡ false → firstNo (meaningQuestions XPRS (expressMessage (momentOf e) name k)) ≡ 0
+  unfolding inRange hostsFit all rises
+  express-passes name k hs hn hk a b =
+      rw (host-in, clock-in, lt-ltb (name .source .0) 8 hs, le-leb (name .number .0) 65535 (omega arith), lt-ltb (k .0) 8 hk, a, b)
 
   pub repair-passes : (name : Name) (k : Host) (cue : List ℕ) → name .source .0 < 8 → name .number .0 < 65536 → k .0 < 8 → cueIn cue ≡ true
       → sameHost k (e .host) ≡ false → sameHost k (name .source) ≡ false → firstNo (meaningQuestions REPL (repairMessage (momentOf e) name k cue)) ≡ 0

@@ -1,43 +1,65 @@
 -- What goes out is right, as a statement; proofs/Outputs.antt proves it.
 use mathlib.Core.Path.{_≡_}
 use mathlib.Core.Bool.{true, false}
-use mathlib.Core.List.{List, []}
-use Prim.Native.Nat.{ℕ}
+use mathlib.Core.List.{List, [], _∷_}
+use Prim.Native.Nat.{ℕ, _≤_}
 use Rattle.message.specs.declared.Name.{Name}
-use Rattle.message.specs.Message.{DATA, RQST, REPL, SESS, meaningFrom}
-use Rattle.message.specs.Question.{readOf}
+use Rattle.message.specs.Message.{DATA, RQST, REPL, SESS, XPRS, Meaning, meaningFrom}
+use Rattle.message.specs.Question.{sameHost, readOf}
 use Rattle.message.specs.declared.Verdict.the-variants.{Accepted}
+use Rattle.end.specs.declared.Pair.{Pair}
 use Rattle.end.specs.declared.Record.{Record}
 use Rattle.end.specs.declared.End.{End}
 use Rattle.end.specs.State.{sourceAt}
 use Rattle.end.specs.Records.{recordAt, isHeld}
+use Rattle.end.specs.Sound.{isNoPair}
 use Rattle.end.specs.Answer.{Out, Did}
-use Rattle.end.specs.Arrival.{messageName, messageCue}
+use Rattle.end.specs.Arrival.{messageName, messageHost, messageCue}
+use Rattle.end.specs.Fire.{keptSender}
 use Rattle.end.specs.Event.{Action, Send, Arrival, ownName, eventOf}
 use Rattle.end.specs.Run.{CueArray}
 
--- what an end keeps under a name
+-- what an end keeps under a name, and the pair that it keeps of the name's source
 abbrev pub keptUnder : End → Name → Record
 keptUnder e name = recordAt (sourceAt e (name .source)) (name .number .0)
 
--- bytes that are right to put out in a call with this action and this clock, on this end
-pub record RightOut (e : End) (a : Action) (clock : ℕ) (bytes : List ℕ) : Type 0 where
-  -- the reader accepts them as a message
-  pub accepted : readOf bytes .verdict ≡ Accepted
+abbrev pub pairOf : End → Name → Pair
+pairOf e name = sourceAt e (name .source) .pair
+
+-- what goes out at once for a message that arrives: a REPL with its name and its sender as requester, for an XPRS that names this end as its
+-- host, once the reply-quiet time of the name is over
+pub record AtOnce (e : End) (clock : ℕ) (m out : Meaning) : Type 0 where
+  pub express : m .kind ≡ XPRS
+  pub named : sameHost (messageHost m) (e .host) ≡ true
+  pub over : keptUnder e (messageName m) .hush ≤ clock
+  pub repair : out .kind ≡ REPL
+  pub name : messageName out ≡ messageName m
+  pub requester : messageHost out ≡ m .sender
+
+-- a message that is right to put out in a call with this action and this clock, on this end
+pub record RightMessage (e : End) (a : Action) (clock : ℕ) (m : Meaning) : Type 0 where
   -- the sender is the end's own host, and the stamp is the clock
-  pub sender : meaningFrom bytes .sender ≡ e .host
-  pub stamp : meaningFrom bytes .stamp ≡ clock
+  pub sender : m .sender ≡ e .host
+  pub stamp : m .stamp ≡ clock
   -- by Send goes out a DATA with the end's own next name and the cue that is sent
-  pub sent : (cue : List ℕ) → a ≡ Send cue
-      → (meaningFrom bytes .kind ≡ DATA) × (messageName (meaningFrom bytes) ≡ ownName e) × (messageCue (meaningFrom bytes) ≡ cue)
-  -- by Arrival goes out a SESS, and only for a probe
-  pub probed : (x : List ℕ) → a ≡ Arrival x → (x ≡ []) × (meaningFrom bytes .kind ≡ SESS)
+  pub sent : (cue : List ℕ) → a ≡ Send cue → (m .kind ≡ DATA) × (messageName m ≡ ownName e) × (messageCue m ≡ cue)
+  -- by the Arrival of a probe goes out a SESS, and by that of a message nothing but a REPL at once
+  pub probed : a ≡ Arrival [] → m .kind ≡ SESS
+  pub answered : (b : ℕ) (s : List ℕ) → a ≡ Arrival (b ∷ s) → AtOnce e clock (meaningFrom (b ∷ s)) m
   -- a RQST names a cue that the end lacks
-  pub lacks : meaningFrom bytes .kind ≡ RQST → isHeld (keptUnder e (messageName (meaningFrom bytes)) .slot) ≡ false
+  pub lacks : m .kind ≡ RQST → isHeld (keptUnder e (messageName m) .slot) ≡ false
+  -- an XPRS too, and its host is the sender of the pair that the end keeps of the source
+  pub express : m .kind ≡ XPRS
+      → (isHeld (keptUnder e (messageName m) .slot) ≡ false)
+      × (isNoPair (pairOf e (messageName m)) ≡ false)
+      × (messageHost m ≡ keptSender (pairOf e (messageName m)))
   -- a REPL names a cue that the end holds, and carries that cue
-  pub holds : meaningFrom bytes .kind ≡ REPL
-      → (isHeld (keptUnder e (messageName (meaningFrom bytes)) .slot) ≡ true)
-      × (messageCue (meaningFrom bytes) ≡ keptUnder e (messageName (meaningFrom bytes)) .cue)
+  pub holds : m .kind ≡ REPL → (isHeld (keptUnder e (messageName m) .slot) ≡ true) × (messageCue m ≡ keptUnder e (messageName m) .cue)
+
+-- bytes that are right to put out: the reader accepts them as a message, and that message is right
+pub record RightOut (e : End) (a : Action) (clock : ℕ) (bytes : List ℕ) : Type 0 where
+  pub accepted : readOf bytes .verdict ≡ Accepted
+  pub message : RightMessage e a clock (meaningFrom bytes)
 
 -- Every Out of every call is right, on any state: one that is not sound is refused and puts nothing out. A cue that is sent has the 24
 -- bytes of its declared type.

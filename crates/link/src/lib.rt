@@ -35,7 +35,7 @@ ghost use Rattle.link.specs.Promise.{AnswerIs, Promised};
 ghost use Rattle.link.specs.Reason.{suits, Heard, memberReason, firstReason};
 ghost use Rattle.link.specs.Frame.{nothingRead, readingFor, Brought, isProbe, takenAs, takes, acted, untakenFor, Acting};
 
-// Opens an end: questions 12 and 13. Refused, it gives host 0's crashed end beside the number.
+// Opens an end: questions 12, 13 and 14. Refused, it gives host 0's crashed end beside the number.
 pub fn open(me: Host, params: Params) -> Opened
     ensures { λ r. ⌜ r ≡ openingOf me params ⌝ }
     ensures { λ r. ⌜ refusalOf (r .verdict) ≡ openRefusal me params ⌝ }

@@ -1,13 +1,14 @@
 -- The cases of the moves and of an opening, one at a time, as what a call gives.
-use mathlib.Core.Path.{_≡_, ap, _∙_}
+use mathlib.Core.Path.{_≡_, ap}
 use mathlib.Core.Bool.{Bool, true, false, cond, _&&_}
-use Prim.Native.Nat.{_≤_, _<_}
+use Prim.Native.Nat.{ℕ, _≤_, _<_}
 use borrow.Author.Tests.{lt-ltb, le-ltb, leb-true}
-use mathlib.Core.List.{[], _∷_}
+use lib.Dec.{ltb}
+use mathlib.Core.List.{List, [], _∷_}
 use Rattle.message.specs.declared.Host.{Host}
 use Rattle.message.specs.declared.Verdict.the-variants.{Accepted, Refused}
 use Rattle.message.specs.Entry.{asHost}
-use Rattle.message.specs.Question.{ask, firstNo, verdictFor}
+use Rattle.message.specs.Question.{Question, ask, firstNo, verdictFor}
 use Rattle.end.specs.declared.Params.{Params}
 use Rattle.end.specs.declared.Status.the-variants.{Idle, Crashed}
 use Rattle.end.specs.declared.Answer.the-variants as answer
@@ -15,7 +16,7 @@ use Rattle.end.specs.declared.End.{End}
 use Rattle.end.specs.declared.Move.{Move}
 use Rattle.end.specs.declared.Opened.{Opened}
 use Rattle.end.specs.State.{freshEnd}
-use Rattle.end.specs.Sound.{allOf, paramsTests}
+use Rattle.end.specs.Sound.{allOf, paramsTests, delayIn}
 use Rattle.end.specs.Opening.{constrainedTests, openRefusal, houseParams, endFor, openingOf}
 use Rattle.end.specs.Answer.{Done, Ignored, give, done, answerOf, calledOf}
 use Rattle.end.specs.Event.{moves, movedEnd, moveOf}
@@ -45,22 +46,31 @@ small p h = record {
   d3 = leb-true (p .d3) 32 (nth (paramsTests p) 5 h);
 }
 
-module _ (h : Host) (p : Params) where
-  -- what an opening gives, by the answers to its two questions
-  opened : Bool → Bool → Opened
-  opened b c = record { verdict = verdictFor (firstNo (ask b 12 ∷ ask c 13 ∷ [])); end = endFor (firstNo (ask b 12 ∷ ask c 13 ∷ [])) h p }
+-- the code's answers to questions 13 and 14
+module _ (h : Host) (p : Params) {good soon : Bool} (g : good ≡ (allOf (paramsTests p) && allOf (constrainedTests p))) (d : soon ≡ delayIn p) where
+  -- what an opening gives, by the answers to its three questions
+  questions : Bool → List Question
+  questions b = ask b 12 ∷ ask good 13 ∷ ask soon 14 ∷ []
 
-  abbrev pub Good : Bool
-  Good = allOf (paramsTests p) && allOf (constrainedTests p)
+  asked : (b : Bool) → ltb (h .0) 8 ≡ b → openingOf h p ≡ record { verdict = verdictFor (firstNo (questions b)); end = endFor (firstNo (questions b)) h p }
+  unfolding openingOf openRefusal questions
+  asked b l = rw (g, d, ← l)
 
-  pub open-idle : h .0 < 8 → Good ≡ true → openingOf h p ≡ record { verdict = Accepted; end = freshEnd h p Idle }
-  unfolding openingOf openRefusal opened
-  open-idle l g = ap (λ (b : Bool). opened b Good) (lt-ltb (h .0) 8 l) ∙ ap (opened true) g
+  abbrev refused : ℕ → Opened
+  refused k = record { verdict = Refused k; end = freshEnd (asHost 0) houseParams Crashed }
 
-  pub open-13 : h .0 < 8 → Good ≡ false → openingOf h p ≡ record { verdict = Refused 13; end = freshEnd (asHost 0) houseParams Crashed }
-  unfolding openingOf openRefusal opened
-  open-13 l g = ap (λ (b : Bool). opened b Good) (lt-ltb (h .0) 8 l) ∙ ap (opened true) g
+  pub open-idle : {e : End} → h .0 < 8 → good ≡ true → soon ≡ true → e ≡ freshEnd h p Idle → record { verdict = Accepted; end = e } ≡ openingOf h p
+  unfolding questions
+  open-idle l t u e = rw (e, asked true (lt-ltb (h .0) 8 l), t, u)
 
-  pub open-12 : 8 ≤ h .0 → openingOf h p ≡ record { verdict = Refused 12; end = freshEnd (asHost 0) houseParams Crashed }
-  unfolding openingOf openRefusal opened
-  open-12 l = ap (λ (b : Bool). opened b Good) (le-ltb (h .0) 8 l)
+  pub open-14 : {x : Opened} → h .0 < 8 → good ≡ true → soon ≡ false → x ≡ refused 14 → x ≡ openingOf h p
+  unfolding questions
+  open-14 l t u x = rw (x, asked true (lt-ltb (h .0) 8 l), t, u)
+
+  pub open-13 : {x : Opened} → h .0 < 8 → good ≡ false → x ≡ refused 13 → x ≡ openingOf h p
+  unfolding questions
+  open-13 l t x = rw (x, asked true (lt-ltb (h .0) 8 l), t)
+
+  pub open-12 : {x : Opened} → 8 ≤ h .0 → x ≡ refused 12 → x ≡ openingOf h p
+  unfolding questions
+  open-12 l x = rw (x, asked false (le-ltb (h .0) 8 l))

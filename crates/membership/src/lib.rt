@@ -6,6 +6,7 @@ use end::End;
 use end::Heard;
 use end::Move;
 use end::Opened;
+use end::Pair;
 use end::Params;
 use end::Record;
 use end::Slot;
@@ -41,6 +42,7 @@ fn unheard_source(distance: u64) -> Source
     Source {
         span: Span::Closed,
         missed: 0,
+        pair: Pair::NoPair,
         distance,
         heard: Heard::Never,
         names: [blank; 64],
@@ -104,6 +106,7 @@ fn refused_opening(number: u8) -> Opened
         d1: 4,
         d2: 4,
         d3: 8,
+        express: 0,
     };
     let end = fresh_end(Host(0), params, Status::Crashed);
     Opened {
@@ -112,17 +115,22 @@ fn refused_opening(number: u8) -> Opened
     }
 }
 
-// Questions 12 and 13, and the end that an opening gives.
+// Questions 12, 13 and 14, and the end that an opening gives.
 pub fn opening(me: Host, params: Params) -> Opened
     ensures { λ r. ⌜ r ≡ openingOf me params ⌝ }
 {
     let good = params_open(params);
+    let soon = state::delay_in(params);
     if me.0 < 8 {
         if good {
-            let end = fresh_end(me, params, Status::Idle);
-            Opened {
-                verdict: Verdict::Accepted,
-                end,
+            if soon {
+                let end = fresh_end(me, params, Status::Idle);
+                Opened {
+                    verdict: Verdict::Accepted,
+                    end,
+                }
+            } else {
+                refused_opening(14)
             }
         } else {
             refused_opening(13)

@@ -4,6 +4,8 @@
 --   | 18 RQST | 1,0,0,0       | the sender, not the source               |
 --   | 19 REPL | 1,1,0,0       | the requester, neither sender nor source |
 --   | 20 SESS | 0,0,0..8,0..7 | none                                     |
+-- and P8: "kind 21, laid out as kind 18 ..; host and source differ from its own sender":
+--   | 21 XPRS | 1,0,0,0       | not the sender; nor is the source        |
 -- Questions 9 (the counts) and 11 (the host) go by a kind's row. A kind that comes later is a line of `table`, and one of
 -- `message::row_of`.
 use Prim.Native.Nat.{ℕ, _+_, _-_}
@@ -12,7 +14,7 @@ use mathlib.Core.List.{List, [], _∷_}
 use lib.Dec.{eqb, leb}
 use Rattle.message.specs.Limit.{numberLimit, oldNumberLimit}
 use Rattle.message.specs.declared.HostRule.{HostRule}
-use Rattle.message.specs.declared.HostRule.the-variants.{SourceAndSender, SenderNotSource, NeitherSenderNorSource, NoHost}
+use Rattle.message.specs.declared.HostRule.the-variants.{SourceAndSender, SenderNotSource, NeitherSenderNorSource, AnotherOfAnother, NoHost}
 use Rattle.message.specs.declared.Row.{Row}
 
 abbrev pub DATA : ℕ
@@ -27,6 +29,9 @@ REPL = 19
 abbrev pub SESS : ℕ
 SESS = 20
 
+abbrev pub XPRS : ℕ
+XPRS = 21
+
 -- a kind's row: so many names and cues, at most so many reports and echoes, the rule of the host
 abbrev pub row : ℕ → ℕ → ℕ → ℕ → HostRule → Row
 row names cues reports echoes host = record { known = true; names = names; cues = cues; reports = reports; echoes = echoes; host = host }
@@ -37,6 +42,7 @@ table =
     ∷ (RQST, row 1 0 0 0 SenderNotSource)
     ∷ (REPL, row 1 1 0 0 NeitherSenderNorSource)
     ∷ (SESS, row 0 0 8 7 NoHost)
+    ∷ (XPRS, row 1 0 0 0 AnotherOfAnother)
     ∷ []
 
 -- what a byte has that is no kind

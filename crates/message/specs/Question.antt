@@ -17,7 +17,7 @@ use Rattle.message.specs.declared.NameEntry.{NameEntry}
 use Rattle.message.specs.declared.Report.{Report}
 use Rattle.message.specs.declared.Echo.{Echo}
 use Rattle.message.specs.declared.HostRule.{HostRule}
-use Rattle.message.specs.declared.HostRule.the-variants.{SourceAndSender, SenderNotSource, NeitherSenderNorSource, NoHost}
+use Rattle.message.specs.declared.HostRule.the-variants.{SourceAndSender, SenderNotSource, NeitherSenderNorSource, AnotherOfAnother, NoHost}
 use Rattle.message.specs.declared.Row.{Row}
 use Rattle.message.specs.declared.Counts.{Counts}
 use Rattle.message.specs.declared.Message.{Message}
@@ -52,7 +52,7 @@ refusalOf verdict.Accepted = 0
 refusalOf verdict.Probe = 0
 refusalOf (verdict.Refused k) = k
 
--- ---- 9: "Is the kind 1..4 with its counts?": the table's second column, of the kinds 17 to 20 that P7 has for 1 to 4
+-- ---- 9: "Is the kind 1..4 with its counts?": the table's second column, of the kinds 17 to 20 that P7 has for 1 to 4, and of P8's 21
 
 abbrev pub hasCounts : Row → Counts → Bool
 hasCounts r c =
@@ -92,16 +92,20 @@ inRange most M =
 abbrev pub sameHost : Host → Host → Bool
 sameHost a b = eqb (a .0) (b .0)
 
--- the host beside a name, by its rule, whether it is the source and whether it is the sender. DATA: "the source, also the sender"; RQST:
--- "the sender, not the source"; REPL: "the requester, neither sender nor source"; a kind with the host "none" has no names
-abbrev pub ruleHolds : HostRule → Bool → Bool → Bool
-ruleHolds SourceAndSender source sender = source && sender
-ruleHolds SenderNotSource source sender = sender && not source
-ruleHolds NeitherSenderNorSource source sender = not sender && not source
-ruleHolds NoHost source sender = false
+-- the host beside a name, by its rule, whether it is the source, whether it is the sender, and whether the source is the sender. DATA: "the
+-- source, also the sender"; RQST: "the sender, not the source"; REPL: "the requester, neither sender nor source"; document 02, P8, kind 21:
+-- "host and source differ from its own sender"; a kind with the host "none" has no names
+abbrev pub ruleHolds : HostRule → Bool → Bool → Bool → Bool
+ruleHolds SourceAndSender source sender own = source && sender
+ruleHolds SenderNotSource source sender own = sender && not source
+ruleHolds NeitherSenderNorSource source sender own = not sender && not source
+ruleHolds AnotherOfAnother source sender own = not sender && not own
+ruleHolds NoHost source sender own = false
 
 abbrev pub hostFits : ℕ → Host → NameEntry → Bool
-hostFits kind sender n = ruleHolds (rowOf kind .host) (sameHost (n .host) (n .name .source)) (sameHost (n .host) sender)
+hostFits kind sender n =
+    let source = n .name .source in
+    ruleHolds (rowOf kind .host) (sameHost (n .host) source) (sameHost (n .host) sender) (sameHost source sender)
 
 -- "Reports rise strictly by source, echoes by host; no echo names the sender."
 abbrev pub reportSource : Report → ℕ

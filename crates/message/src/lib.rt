@@ -97,6 +97,7 @@ pub enum HostRule {
     SourceAndSender,
     SenderNotSource,
     NeitherSenderNorSource,
+    AnotherOfAnother,
     NoHost,
 }
 
@@ -135,6 +136,8 @@ pub const RQST: u8 = 18;
 pub const REPL: u8 = 19;
 
 pub const SESS: u8 = 20;
+
+pub const XPRS: u8 = 21;
 
 // The old kinds, which are still read: from the first to the last, each so much below the kind that it stands for.
 const OLD_FIRST: u8 = 1;
@@ -179,6 +182,7 @@ pub fn row_of(kind: u8) -> Row
         RQST => known(1, 0, 0, 0, HostRule::SenderNotSource),
         REPL => known(1, 1, 0, 0, HostRule::NeitherSenderNorSource),
         SESS => known(0, 0, 8, 7, HostRule::NoHost),
+        XPRS => known(1, 0, 0, 0, HostRule::AnotherOfAnother),
         _ => Row {
             known: false,
             names: 0,
@@ -303,14 +307,15 @@ fn echo_in(e: Echo) -> bool
     (e.host.0 < HOST_LIMIT) & ((e.stamp < TICKS_LIMIT) & (e.held < TICKS_LIMIT))
 }
 
-// The rule of the host beside a name, by whether that host is the source and whether it is the sender.
-fn rule_holds(rule: HostRule, source: bool, sender: bool) -> bool
-    ensures { λ r. ⌜ r ≡ ruleHolds rule source sender ⌝ }
+// The rule of the host beside a name, by whether that host is the source, whether it is the sender, and whether the source is the sender.
+fn rule_holds(rule: HostRule, source: bool, sender: bool, own: bool) -> bool
+    ensures { λ r. ⌜ r ≡ ruleHolds rule source sender own ⌝ }
 {
     match rule {
         HostRule::SourceAndSender => source & sender,
         HostRule::SenderNotSource => sender & !source,
         HostRule::NeitherSenderNorSource => !sender & !source,
+        HostRule::AnotherOfAnother => !sender & !own,
         HostRule::NoHost => false,
     }
 }
@@ -318,9 +323,12 @@ fn rule_holds(rule: HostRule, source: bool, sender: bool) -> bool
 fn host_fits(kind: u8, sender: Host, n: NameEntry) -> bool
     ensures { λ r. ⌜ r ≡ hostFits kind sender n ⌝ }
 {
+    let as_source = n.host.0 == n.name.source.0;
+    let as_sender = n.host.0 == sender.0;
+    let own = n.name.source.0 == sender.0;
     let r = row_of(kind);
     let rule = r.host;
-    rule_holds(rule, n.host.0 == n.name.source.0, n.host.0 == sender.0)
+    rule_holds(rule, as_source, as_sender, own)
 }
 
 fn not_from(sender: Host, e: Echo) -> bool

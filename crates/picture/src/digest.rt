@@ -26,11 +26,19 @@ fn mix3(d: u64, a: u64, b: u64, c: u64) -> u64 {
     mix(mix(mix(d, a), b), c)
 }
 
+fn express(d: u64, h: Held) -> u64 {
+    if h.express == 0 {
+        mix(d, 0)
+    } else {
+        mix(mix(d, 1), h.soon)
+    }
+}
+
 fn held(d: u64, h: Held) -> u64 {
     let kind = h.kind;
     match kind {
         flat::EMPTY => mix(d, 0),
-        flat::WAITS => mix3(mix(d, 2), h.a, h.b, h.c),
+        flat::WAITS => express(mix3(mix(d, 2), h.a, h.b, h.c), h),
         _ => mix(d, 1),
     }
 }
@@ -68,6 +76,14 @@ fn span(d: u64, h: Head) -> u64 {
     }
 }
 
+fn pair(d: u64, h: Head) -> u64 {
+    if h.paired == 0 {
+        mix(d, 0)
+    } else {
+        mix3(mix(d, 1), h.requester, h.sender, h.number)
+    }
+}
+
 fn heard(d: u64, h: Head) -> u64 {
     if h.heard == 0 {
         mix(d, 0)
@@ -79,12 +95,12 @@ fn heard(d: u64, h: Head) -> u64 {
 fn source(d: u64, s: Source) -> u64 {
     let h = flat::head_of(s);
     let records = s.names;
-    let known = mix(mix(span(d, h), h.missed), h.distance);
+    let known = mix(pair(mix(span(d, h), h.missed), h), h.distance);
     names(heard(known, h), records)
 }
 
 fn params(d: u64, p: Params) -> u64 {
-    mix3(mix3(d, p.c1, p.c2, p.c3), p.d1, p.d2, p.d3)
+    mix(mix3(mix3(d, p.c1, p.c2, p.c3), p.d1, p.d2, p.d3), p.express)
 }
 
 // The digest of the whole state.

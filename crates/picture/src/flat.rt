@@ -1,5 +1,7 @@
 // The parts of an end as plain numbers, from which the digest, the comparison and the words are all made.
+use end::Express;
 use end::Heard;
+use end::Pair;
 use end::Record;
 use end::Reply;
 use end::Slot;
@@ -8,7 +10,8 @@ use end::Span;
 use end::Status;
 ghost use Prim.Native.Nat.{_≤_};
 
-// What a record holds: EMPTY; HELD; WAITS with its round, due and quiet times; or REPLIES, held with a reply's due time and requester.
+// What a record holds: EMPTY; HELD; WAITS with its round, due and quiet times, and whether (0 or 1) and when an express wait is due; or
+// REPLIES, held with a reply's due time and requester.
 pub const EMPTY: u64 = 0;
 
 pub const HELD: u64 = 1;
@@ -22,6 +25,8 @@ pub struct Held {
     pub a: u64,
     pub b: u64,
     pub c: u64,
+    pub express: u64,
+    pub soon: u64,
 }
 
 // A record: what it holds, its cue's bytes as three numbers, and its reply-quiet.
@@ -33,12 +38,16 @@ pub struct Flat {
     pub hush: u64,
 }
 
-// A source without its records. `open` and `heard` are 0 or 1, and what counts only with 1 is else 0.
+// A source without its records. `open`, `paired` and `heard` are 0 or 1, and what counts only with 1 is else 0.
 pub struct Head {
     pub open: u64,
     pub first: u64,
     pub last: u64,
     pub missed: u64,
+    pub paired: u64,
+    pub requester: u64,
+    pub sender: u64,
+    pub number: u64,
     pub distance: u64,
     pub heard: u64,
     pub stamp: u64,
@@ -46,7 +55,14 @@ pub struct Head {
 }
 
 fn holding(kind: u64, a: u64, b: u64, c: u64) -> Held {
-    Held { kind, a, b, c }
+    Held {
+        kind,
+        a,
+        b,
+        c,
+        express: 0,
+        soon: 0,
+    }
 }
 
 fn replied(r: Reply) -> Held {
@@ -56,11 +72,23 @@ fn replied(r: Reply) -> Held {
     }
 }
 
+fn with_express(h: Held, x: Express) -> Held {
+    let mut t = h;
+    match x {
+        Express::Unset => t.express = 0,
+        Express::Soon(due) => {
+            t.express = 1;
+            t.soon = due;
+        }
+    }
+    t
+}
+
 fn held_in(s: Slot) -> Held {
     match s {
         Slot::Empty => holding(EMPTY, 0, 0, 0),
         Slot::Held(r) => replied(r),
-        Slot::Waiting(q) => holding(WAITS, q.round as u64, q.due, q.quiet),
+        Slot::Waiting(q, x) => with_express(holding(WAITS, q.round as u64, q.due, q.quiet), x),
     }
 }
 
@@ -117,6 +145,20 @@ fn with_span(h: Head, s: Span) -> Head {
     t
 }
 
+fn with_pair(h: Head, pair: Pair) -> Head {
+    let mut t = h;
+    match pair {
+        Pair::NoPair => t.paired = 0,
+        Pair::Kept(requester, sender, number) => {
+            t.paired = 1;
+            t.requester = requester.0 as u64;
+            t.sender = sender.0 as u64;
+            t.number = number.0 as u64;
+        }
+    }
+    t
+}
+
 fn with_heard(h: Head, heard: Heard) -> Head {
     let mut t = h;
     match heard {
@@ -132,18 +174,23 @@ fn with_heard(h: Head, heard: Heard) -> Head {
 
 pub fn head_of(s: Source) -> Head {
     let span = s.span;
+    let pair = s.pair;
     let heard = s.heard;
     let blank = Head {
         open: 0,
         first: 0,
         last: 0,
         missed: s.missed as u64,
+        paired: 0,
+        requester: 0,
+        sender: 0,
+        number: 0,
         distance: s.distance,
         heard: 0,
         stamp: 0,
         when: 0,
     };
-    with_heard(with_span(blank, span), heard)
+    with_heard(with_pair(with_span(blank, span), pair), heard)
 }
 
 pub fn status(s: Status) -> u64 {

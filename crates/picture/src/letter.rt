@@ -13,6 +13,7 @@ pub fn kind_word(kind: u8) -> u64 {
         message::RQST => words::RQST,
         message::REPL => words::REPL,
         message::SESS => words::SESS,
+        message::XPRS => words::XPRS,
         _ => 0,
     }
 }

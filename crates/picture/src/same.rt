@@ -14,6 +14,8 @@ fn records(f: Flat, g: Flat) -> bool {
         & (a.a == b.a)
         & (a.b == b.b)
         & (a.c == b.c)
+        & (a.express == b.express)
+        & (a.soon == b.soon)
         & (f.first == g.first)
         & (f.second == g.second)
         & (f.third == g.third)
@@ -37,6 +39,10 @@ fn heads(a: Head, b: Head) -> bool {
         & (a.first == b.first)
         & (a.last == b.last)
         & (a.missed == b.missed)
+        & (a.paired == b.paired)
+        & (a.requester == b.requester)
+        & (a.sender == b.sender)
+        & (a.number == b.number)
         & (a.distance == b.distance)
         & (a.heard == b.heard)
         & (a.stamp == b.stamp)
@@ -56,6 +62,7 @@ fn params(a: Params, b: Params) -> bool {
         & (a.d1 == b.d1)
         & (a.d2 == b.d2)
         & (a.d3 == b.d3)
+        & (a.express == b.express)
 }
 
 // All but the sources.

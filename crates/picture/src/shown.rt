@@ -12,10 +12,10 @@ use end::Status;
 use trace::words;
 ghost use Prim.Native.Nat.{_≤_};
 
-// The six parameters, each but the first behind a space.
+// The six parameters and E, each but the first behind a space.
 pub fn params(out: &mut [u8; 65536], n: &mut [usize; 20], p: Params) {
     text::number(out, n, p.c1);
-    text::row(out, n, 0, [p.c2, p.c3, p.d1, p.d2, p.d3, 0], 5);
+    text::row(out, n, 0, [p.c2, p.c3, p.d1, p.d2, p.d3, p.express], 6);
 }
 
 fn status_word(s: Status) -> u64 {
@@ -52,6 +52,17 @@ pub fn heard(out: &mut [u8; 65536], n: &mut [usize; 20], h: Head) {
     two(out, n, h.heard, h.stamp, h.when, words::UNHEARD);
 }
 
+// `REQUESTER SENDER NUMBER` or `none`.
+pub fn pair(out: &mut [u8; 65536], n: &mut [usize; 20], h: Head) {
+    if h.paired == 0 {
+        text::word(out, n, words::NONE);
+    } else {
+        text::number(out, n, h.requester);
+        text::then(out, n, h.sender);
+        text::then(out, n, h.number);
+    }
+}
+
 fn held(out: &mut [u8; 65536], n: &mut [usize; 20], h: Held) {
     let kind = h.kind;
     match kind {
@@ -61,6 +72,9 @@ fn held(out: &mut [u8; 65536], n: &mut [usize; 20], h: Held) {
     }
     if kind == flat::REPLIES {
         text::then_row(out, n, words::REPLY, [h.a, h.b, 0, 0, 0, 0], 2);
+    }
+    if h.express == 1 {
+        text::then_row(out, n, words::EXPRESS, [h.soon, 0, 0, 0, 0, 0], 1);
     }
 }
 
@@ -138,11 +152,26 @@ fn part(
     }
 }
 
+fn pair_part(out: &mut [u8; 65536], n: &mut [usize; 20], h: Head) {
+    if h.paired == 0 {
+        text::then_word(out, n, words::NOPAIR);
+    } else {
+        text::then_row(
+            out,
+            n,
+            words::PAIR,
+            [h.requester, h.sender, h.number, 0, 0, 0],
+            3,
+        );
+    }
+}
+
 fn head_line(out: &mut [u8; 65536], n: &mut [usize; 20], source: u64, h: Head) {
     text::put(out, n, b' ');
     text::then_row(out, n, words::SOURCE, [source, 0, 0, 0, 0, 0], 1);
     part(out, n, h.open, words::SPAN, h.first, h.last, words::CLOSED);
     text::then_row(out, n, words::MISSED, [h.missed, 0, 0, 0, 0, 0], 1);
+    pair_part(out, n, h);
     text::then_row(out, n, words::DISTANCE, [h.distance, 0, 0, 0, 0, 0], 1);
     part(
         out,
@@ -180,13 +209,11 @@ pub fn end(out: &mut [u8; 65536], n: &mut [usize; 20], e: End) {
     let s = e.status;
     let all = e.sources;
     field(out, n, words::HOST, e.host.0 as u64);
-    line(
-        out,
-        n,
-        words::PARAMS,
-        [p.c1, p.c2, p.c3, p.d1, p.d2, p.d3],
-        6,
-    );
+    text::put(out, n, b' ');
+    text::then_word(out, n, words::PARAMS);
+    text::put(out, n, b' ');
+    params(out, n, p);
+    text::put(out, n, b'\n');
     field(out, n, words::CLOCK, e.clock);
     status_line(out, n, s);
     field(out, n, words::NEXT, e.next as u64);

@@ -19,6 +19,7 @@ fn fresh(host: u8) -> End {
         d1: 4,
         d2: 4,
         d3: 8,
+        express: 0,
     };
     let opened = link::open(Host(host), params);
     opened.end

@@ -9,7 +9,7 @@ use lib.Dec.{eqb, lit≤}
 use borrow.Author.Tests.{eqb-true}
 use Rattle.message.specs.Section.{entries, sectionFrom}
 use Rattle.message.specs.Entry.{cueOf, blankCue}
-use Rattle.message.specs.Message.{DATA, RQST, REPL, numberWidth, kindByte, Meaning, meaningWith, meaningFrom, sizeFrom, fromCues}
+use Rattle.message.specs.Message.{DATA, RQST, REPL, XPRS, numberWidth, kindByte, Meaning, meaningWith, meaningFrom, sizeFrom, fromCues}
 use Rattle.message.specs.Question.{messageQuestions, sameHost, firstNo}
 use Rattle.message.specs.declared.Name.{Name}
 use Rattle.message.proofs.LayoutLaws.{cues-at, cues-count, atCues, countsWith}
@@ -21,16 +21,18 @@ use Rattle.end.specs.declared.Reply.the-variants.{No, Due}
 use Rattle.end.specs.declared.Earliest.{Earliest}
 use Rattle.end.specs.declared.Earliest.the-variants.{NoWait, First}
 use Rattle.end.specs.declared.Says.{Says}
-use Rattle.end.specs.declared.Says.the-variants.{Data, Rqst, Repl}
+use Rattle.end.specs.declared.Says.the-variants.{Data, Rqst, Repl, Xprs}
+use Rattle.end.specs.declared.Moment.{Moment}
+use Rattle.end.specs.declared.Record.{Record}
 use Rattle.end.specs.declared.Word.{Word}
 use Rattle.end.specs.declared.Decision.{Decision}
-use Rattle.end.specs.declared.Decision.the-variants.{Ignores, Opens, Takes, Repairs, Hushes, Replies, Learns, BacksOff, Clashes}
+use Rattle.end.specs.declared.Decision.the-variants.{Ignores, Opens, Takes, Repairs, Hushes, Replies, Learns, BacksOff, Clashes, Expresses}
 use Rattle.end.specs.State.{sourceAt, isMember, isCrashed, momentOf, withClock}
 use Rattle.end.specs.Answer.{Class, PutsOut, HandsOut, Untouched, classOf, classIn, Step, Result}
 use Rattle.end.specs.Decide.{decide, effectOf, stepAt}
 use Rattle.end.specs.Session.{sessionOf}
 use Rattle.end.specs.Arrival.{messageCue, wordOf, wordStep, messageStep, arrivalOf}
-use Rattle.end.specs.Fire.{earliest, fireAt, fired}
+use Rattle.end.specs.Fire.{expressRank, earliest, fireAt, fired}
 use Rattle.end.specs.Event.{Action, Moves, Send, Arrival, Else, Fire, Report, moves, moveOf, actOf, stepOf, questionOf, ownQuestions, eventOf}
 use Rattle.end.proofs.Tools.{byCond}
 use Rattle.end.proofs.Service.Frame.{passes}
@@ -63,37 +65,40 @@ Wide Untouched = Unit {0}
 abbrev WideStep : Step → Type 0
 WideStep step = Wide (classOf (step .effect))
 
-wide-word : (w : Word) → 24 ≤ length (w .cue) → (d : Decision) → Wide (classOf (effectOf w d))
+wide-word : (t : Moment) (w : Word) (r : Record) → 24 ≤ length (w .cue) → (d : Decision) → Wide (classOf (effectOf t w r d))
 unfolding effectOf
-wide-word w h (Ignores why) = tt
-wide-word w h Opens = h
-wide-word w h Takes = h
-wide-word w h Repairs = h
-wide-word w h Hushes = tt
-wide-word w h Replies = tt
-wide-word w h Learns = tt
-wide-word w h (BacksOff k) = tt
-wide-word w h Clashes = tt
+wide-word t w r h (Ignores why) = tt
+wide-word t w r h Opens = h
+wide-word t w r h Takes = h
+wide-word t w r h Repairs = h
+wide-word t w r h Hushes = tt
+wide-word t w r h Replies = tt
+wide-word t w r h Learns = tt
+wide-word t w r h (BacksOff k) = tt
+wide-word t w r h Clashes = tt
+wide-word t w r h Expresses = tt
 
 wide-message : (us : List ℕ) (m : Meaning) (e : End) → 24 ≤ length (messageCue m) → WideStep (messageStep us m e)
 unfolding messageStep stepAt sessionOf
 wide-message us m e h =
     let word : (says : Says) → WideStep (wordStep us says m e) =
-    λ says. let w = wordOf says m e in wide-word w h (decide (momentOf e) w (sourceAt e (w .name .source))) in
+    λ says. let w = wordOf says m e in wide-word (momentOf e) w _ h (decide (momentOf e) w (sourceAt e (w .name .source))) in
     byCond WideStep (eqb (m .kind) DATA) (λ _. word Data)
-    (λ _. byCond WideStep (eqb (m .kind) RQST) (λ _. word Rqst) (λ _. byCond WideStep (eqb (m .kind) REPL) (λ _. word Repl) (λ _. tt)))
+    (λ _. byCond WideStep (eqb (m .kind) RQST) (λ _. word Rqst)
+    (λ _. byCond WideStep (eqb (m .kind) REPL) (λ _. word Repl)
+    (λ _. byCond WideStep (eqb (m .kind) XPRS) (λ _. word Xprs) (λ _. tt))))
 
-wide-fire : (us : List ℕ) (name : Name) (e : End) (slot : Slot) → WideStep (fireAt us name e slot)
+wide-fire : (us : List ℕ) (rank : ℕ) (name : Name) (e : End) (slot : Slot) → WideStep (fireAt us rank name e slot)
 unfolding fireAt
-wide-fire us name e Empty = tt
-wide-fire us name e (Waiting q) = tt
-wide-fire us name e (Held No) = tt
-wide-fire us name e (Held (Due due requester)) = tt
+wide-fire us rank name e Empty = tt
+wide-fire us rank name e (Waiting q x) = byCond WideStep (eqb rank expressRank) (λ _. tt) (λ _. tt)
+wide-fire us rank name e (Held No) = tt
+wide-fire us rank name e (Held (Due due requester)) = tt
 
 wide-fired : (us : List ℕ) (e : End) (first : Earliest) → WideStep (fired us e first)
 unfolding fired
 wide-fired us e NoWait = tt
-wide-fired us e (First w) = wide-fire us (w .name) e _
+wide-fired us e (First w) = wide-fire us (w .rank) (w .name) e _
 
 wide-act : (us : List ℕ) (a : Action) (was e : End) → firstNo (ownQuestions a was) ≡ 0 → WideStep (actOf us a e)
 unfolding actOf moveOf arrivalOf

@@ -11,10 +11,12 @@ use Rattle.guarantees.proofs.BackOff.{opened-c3-below-c1, opened-firing-ends, r
 use Rattle.guarantees.proofs.Slots.{host-and-params-stay, slots-may-become, waits-until-held, held-until-cleared, spans-may-become, retired-are-gone, held-through, waits-or-held-through}
 use Rattle.guarantees.proofs.History.{count-over-history, non-members-count-none}
 use Rattle.guarantees.proofs.HistoryRows.{ten-to-eighty, left-again, whole-season}
-use Rattle.guarantees.proofs.Rises.{rises-by-64, places-as-before, rise-as-before, nothing-retired-up-to-63, none-missed-up-to-63}
+use Rattle.guarantees.proofs.Rises.{rises-by-64, places-as-before, rise-as-before, data-rises-alike, nothing-retired-up-to-63, none-missed-up-to-63}
 use Rattle.guarantees.proofs.Arrivals.{probe-is-report, probes-answered, refused-changes-nothing, arrival-keeps-status-and-next, held-stays, untouched-stays, other-sources-stay, slots-as-heard, held-is-carried, replies-as-heard, reply-quiet-stays, spans-as-heard, distances-stay}
 use Rattle.guarantees.proofs.Clashes.{other-bytes-clash, clash-means}
 use Rattle.guarantees.proofs.Reasons.{request-quiet-waits}
+use Rattle.guarantees.proofs.Express.{express-set-by-gap, express-stays-or-goes, express-goes-out, express-answered, express-else-request}
+use Rattle.guarantees.proofs.Pairs.{pairs-may-become, pair-over-history}
 use Rattle.roundtrip.proofs.RoundTrip.{reads-back, very-bytes, old-bytes, old-numbers, still-read, means-the-same, rewritten, at-most-127, probe-is-empty, only-probe-is-empty}
 use Rattle.numbers.proofs.NumberLaws.{value-digits, digits-value}
 use Rattle.numbers.proofs.SignedLaws.{signed-back, two-bytes-back}
@@ -27,7 +29,7 @@ use Rattle.end.proofs.Service.Unclashed.{never-clashes}
 use Rattle.end.proofs.Reasons.{ignored-for-the-first-reason}
 use Rattle.end.proofs.ReasonLaws.{reason-is-first, none-holds, number-exactly, reason-exactly, none-exactly}
 use Rattle.cases.proofs.Shown.{service-shown, never-returns-clash}
-use Rattle.cases.proofs.Cases.{cases-hold, answers-hold, moves-hold, wire-holds, timed-hold, half-trips-hold, factors-hold, reasons-hold, stage-holds, quiet-holds, clashes-hold, probe-holds, season-holds}
+use Rattle.cases.proofs.Cases.{cases-hold, answers-hold, moves-hold, wire-holds, timed-hold, half-trips-hold, factors-hold, reasons-hold, stage-holds, quiet-holds, clashes-hold, probe-holds, season-holds, express-holds}
 use Rattle.promises.specs.Promises.{Promises}
 
 -- by its definition
@@ -128,11 +130,21 @@ promises = record {
     rises-by-64 = rises-by-64;
     places-as-before = places-as-before;
     rise-as-before = rise-as-before;
+    data-rises-alike = data-rises-alike;
     nothing-retired-up-to-63 = nothing-retired-up-to-63;
     none-missed-up-to-63 = none-missed-up-to-63;
     ten-to-eighty = ten-to-eighty;
     left-again = left-again;
     whole-season = whole-season;
+  };
+  express = record {
+    express-set-by-gap = express-set-by-gap;
+    express-stays-or-goes = express-stays-or-goes;
+    express-goes-out = express-goes-out;
+    express-answered = express-answered;
+    express-else-request = express-else-request;
+    pairs-may-become = pairs-may-become;
+    pair-over-history = pair-over-history;
   };
   first-reason = ignored-for-the-first-reason;
   reasons = record { reason-is-first = reason-is-first; none-holds = none-holds; request-quiet-waits = request-quiet-waits; number-exactly = number-exactly; reason-exactly = reason-exactly; none-exactly = none-exactly };
@@ -150,5 +162,6 @@ promises = record {
     clashes = clashes-hold;
     probe = probe-holds;
     season = season-holds;
+    express = express-holds;
   };
 }

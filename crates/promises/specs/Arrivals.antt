@@ -23,7 +23,7 @@ use Rattle.end.specs.Event.{Action, Arrival, Else, Report as Reporting, questio
 use Rattle.end.specs.Clashes.{Clashing}
 use Rattle.guarantees.specs.Calls.{momentAt}
 use Rattle.guarantees.specs.Records.{recordOf, slotOf, retired, HeardAs, ReplyAs}
-use Rattle.guarantees.specs.Arrivals.{hear, ProbeTaken, SameEnd, isAbout, repairs, risen, reportedUp, hasName, touches, SpanAs, isDataOf, isSessionFrom}
+use Rattle.guarantees.specs.Arrivals.{hear, ProbeTaken, SameEnd, isAbout, asks, repairs, expresses, expressBy, risen, reportedUp, hasName, touches, SpanAs, isDataOf, isSessionFrom}
 use Rattle.guarantees.specs.Clashes.{WasClash}
 
 pub record ArrivalsKept : Type 0 where
@@ -44,7 +44,7 @@ pub record ArrivalsKept : Type 0 where
   -- Every other record stays exactly as it was, with its cue, request, reply and quiet time.
   pub untouched-stays : (e : End) (bytes : List ℕ) (clock room : ℕ) (draws : List ℕ) (h n : ℕ) → h < 8
       → touches (meaningFrom bytes) h (sourceAt e (asHost h) .span) n ≡ false → recordOf (hear e bytes clock room draws .left) h n ≡ recordOf e h n
-  -- So DATA, RQST and REPL leave every record of every source but the one that they name.
+  -- So DATA, RQST, REPL and XPRS leave every record of every source but the one that they name.
   pub other-sources-stay : (e : End) (bytes : List ℕ) (clock room : ℕ) (draws : List ℕ) (h n : ℕ) → h < 8
       → hasName (meaningFrom bytes) ≡ true → eqb (messageName (meaningFrom bytes) .source .0) h ≡ false
       → recordOf (hear e bytes clock room draws .left) h n ≡ recordOf e h n
@@ -52,8 +52,8 @@ pub record ArrivalsKept : Type 0 where
   pub slots-as-heard : (e : End) (bytes : List ℕ) (clock room : ℕ) (draws : List ℕ) (h n : ℕ) → h < 8
       → retired e (hear e bytes clock room draws .left) h n ≡ false
       → HeardAs (momentAt e clock) draws (distanceTo e (asHost h)) n
-      (isAbout DATA (meaningFrom bytes) h n || isAbout REPL (meaningFrom bytes) h n) (isAbout RQST (meaningFrom bytes) h n)
-      (slotOf e h n) (slotOf (hear e bytes clock room draws .left) h n)
+      (isAbout DATA (meaningFrom bytes) h n || isAbout REPL (meaningFrom bytes) h n) (asks (meaningFrom bytes) h n)
+      (expressBy (momentAt e clock) (meaningFrom bytes) h (sourceAt e (asHost h) .pair)) (slotOf e h n) (slotOf (hear e bytes clock room draws .left) h n)
   -- A cue that was not held and is held after an arrival is the one that the message carries.
   pub held-is-carried : (e : End) (bytes : List ℕ) (clock room : ℕ) (draws : List ℕ) (h n : ℕ) → h < 8 → isHeld (slotOf e h n) ≡ false
       → isHeld (slotOf (hear e bytes clock room draws .left) h n) ≡ true
@@ -62,15 +62,19 @@ pub record ArrivalsKept : Type 0 where
   pub replies-as-heard : (e : End) (bytes : List ℕ) (clock room : ℕ) (draws : List ℕ) (h n : ℕ) → h < 8
       → retired e (hear e bytes clock room draws .left) h n ≡ false
       → ReplyAs (momentAt e clock) draws (distanceTo e (meaningFrom bytes .sender)) (meaningFrom bytes .sender) n
-      (isAbout RQST (meaningFrom bytes) h n) (repairs (meaningFrom bytes) h n (recordOf e h n)) (slotOf e h n) (recordOf e h n .hush)
-      (replyIn (slotOf e h n)) (replyIn (slotOf (hear e bytes clock room draws .left) h n))
-  -- A reply-quiet time stays or, by a REPL of its name that carries the held cue if one is held, is D3×d after the clock, where d is the
-  -- distance to the host that the REPL names, the requester; unless its number is retired.
+      (asks (meaningFrom bytes) h n)
+      (repairs (meaningFrom bytes) h n (recordOf e h n) || expresses (momentAt e clock) (meaningFrom bytes) h n (recordOf e h n))
+      (slotOf e h n) (recordOf e h n .hush) (replyIn (slotOf e h n)) (replyIn (slotOf (hear e bytes clock room draws .left) h n))
+  -- A reply-quiet time stays; or it is D3×d after the clock, by a REPL of its name that carries the held cue if one is held, where d is the
+  -- distance to the host that the REPL names, the requester, or by an XPRS of its name that is answered at once, where d is the distance to its
+  -- sender; unless its number is retired.
   pub reply-quiet-stays : (e : End) (bytes : List ℕ) (clock room : ℕ) (draws : List ℕ) (h n : ℕ) → h < 8
       → retired e (hear e bytes clock room draws .left) h n ≡ false
       → (recordOf (hear e bytes clock room draws .left) h n .hush ≡ recordOf e h n .hush)
       ⊎ ((repairs (meaningFrom bytes) h n (recordOf e h n) ≡ true)
       × (recordOf (hear e bytes clock room draws .left) h n .hush ≡ quietAfterReply (momentAt e clock) (distanceTo e (messageHost (meaningFrom bytes)))))
+      ⊎ ((expresses (momentAt e clock) (meaningFrom bytes) h n (recordOf e h n) ≡ true)
+      × (recordOf (hear e bytes clock room draws .left) h n .hush ≡ quietAfterReply (momentAt e clock) (distanceTo e (meaningFrom bytes .sender))))
   -- Whatever arrives, a DATA of a source alone gives it a first. First and last then stay, or last rises and first is the greater of itself
   -- and last − 63.
   pub spans-as-heard : (e : End) (bytes : List ℕ) (clock room : ℕ) (draws : List ℕ) (h : ℕ) → h < 8

@@ -28,7 +28,8 @@ pub record FiresKept : Type 0 where
   pub choice-is-earliest : (e : End) (w : Wait) → earliest e 8 ≡ First w → IsEarliest e w
   -- Where it chooses none, none is due.
   pub no-choice-none-due : (e : End) → earliest e 8 ≡ NoWait → (w : Wait) → IsDue e w → ⊥
-  -- What goes out is about the earliest wait that is due at the call's clock.
+  -- What goes out is about the earliest wait that is due at the call's clock: an express wait goes out as XPRS, a request as RQST, a reply as
+  -- REPL.
   pub out-is-earliest : (e : End) (clock room : ℕ) (draws bytes : List ℕ) → fire e clock room draws .outcome ≡ Did (Out bytes)
       → (w : Wait) × IsEarliest (withClock e clock) w × TellsOf e clock w bytes
   -- Nothing is answered only where no wait is due.
@@ -44,16 +45,17 @@ pub record FiresKept : Type 0 where
   -- No call changes host or parameters.
   pub host-and-params-stay : (e : End) (a : Action) (clock room : ℕ) (draws : List ℕ)
       → (eventOf e a clock room draws .left .host ≡ e .host) × (eventOf e a clock room draws .left .params ≡ e .params)
-  -- Each Fire that puts something out leaves one wait less that is due, where C1 is 1 or more. (A sound state may have C1 = 0; only an
-  -- opening asks for C3 < C1. Then a request could be due again at once.)
+  -- Each Fire that puts something out leaves one wait less that is due, where C1 is 1 or more: a request beside an express wait that goes out
+  -- stays, and an express wait beside a request that goes out stays too. (A sound state may have C1 = 0; only an opening asks for C3 < C1. Then
+  -- a request could be due again at once.)
   pub one-less-due : (e : End) (clock room : ℕ) (draws bytes : List ℕ) → 1 ≤ e .params .c1 → fire e clock room draws .outcome ≡ Did (Out bytes)
       → dueWaits (fire e clock room draws .left) + 1 ≡ dueWaits (withClock e clock)
   -- Repeated Fire at one clock ends: at most as many calls put something out as waits were due before the first, and these are at most
-  -- one for each of the latest 64 numbers of 8 sources. (A sound state may have C1 = 0; only an opening asks for C3 < C1. Then a request could be due again at
-  -- once.)
+  -- two, a request and an express wait, for each of the latest 64 numbers of 8 sources. (A sound state may have C1 = 0; only an opening asks
+  -- for C3 < C1. Then a request could be due again at once.)
   pub firing-ends : (e : End) (clock room : ℕ) (calls : List (List ℕ)) → 1 ≤ e .params .c1 → AllOut clock room e calls
-      → (length calls ≤ dueWaits (withClock e clock)) × (dueWaits (withClock e clock) ≤ 512)
-  -- So after any calls on an end that was opened, at most 512 calls of Fire in a row at one clock put something out; so the 513th
+      → (length calls ≤ dueWaits (withClock e clock)) × (dueWaits (withClock e clock) ≤ 1024)
+  -- So after any calls on an end that was opened, at most 1,024 calls of Fire in a row at one clock put something out; so the 1,025th
   -- unrefused Fire of a member at one clock, at the latest, is Nothing.
   pub opened-firing-ends : (me : Host) (p : Params) (before : List OneCall) (clock room : ℕ) (calls : List (List ℕ))
-      → AllOut clock room (afterAll (openingOf me p .end) before) calls → length calls ≤ 512
+      → AllOut clock room (afterAll (openingOf me p .end) before) calls → length calls ≤ 1024

@@ -7,3 +7,4 @@ pub mod BackOff
 pub mod Reasons
 pub mod Promises
 pub mod Season
+pub mod Express

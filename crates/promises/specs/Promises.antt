@@ -23,6 +23,7 @@ use Rattle.cases.specs.Quiet.{quietRows}
 use Rattle.cases.specs.Clashes.{clashRows}
 use Rattle.cases.specs.Probe.{probeRows}
 use Rattle.cases.specs.Season.{seasonRows}
+use Rattle.cases.specs.Express.{expressRows}
 use Rattle.promises.specs.Wire.{WireKept}
 use Rattle.promises.specs.Service.{ServiceKept}
 use Rattle.promises.specs.States.{StatesKept}
@@ -31,9 +32,10 @@ use Rattle.promises.specs.Arrivals.{ArrivalsKept}
 use Rattle.promises.specs.BackOff.{BackOffKept}
 use Rattle.promises.specs.Reasons.{ReasonsKept}
 use Rattle.promises.specs.Season.{SeasonKept}
+use Rattle.promises.specs.Express.{ExpressKept}
 
 -- document 01's cases and what else is pinned by computed rows: the answers one by one, the 25 moves by status, messages as bytes, times, a run by answers and
--- buffers, reply-quiet times, clashes, the probe, a season's rises
+-- buffers, reply-quiet times, clashes, the probe, a season's rises, express repair
 pub record CasesKept : Type 0 where
   pub starred : Hold rows
   pub answers : Hold answerRows
@@ -48,6 +50,7 @@ pub record CasesKept : Type 0 where
   pub clashes : Hold clashRows
   pub probe : Hold probeRows
   pub season : Hold seasonRows
+  pub express : Hold expressRows
 
 pub record Promises : Type 0 where
   -- demand 2, the wire: "Each message written reads back as itself, and each accepted message is the very bytes .."
@@ -70,5 +73,7 @@ pub record Promises : Type 0 where
   pub back-off : BackOffKept
   -- the latest 64 numbers of a source are kept, and the count of those retired without a cue is right: document 02, P7
   pub season : SeasonKept
+  -- a lost cue is asked for of the host that answered last, and repaired at once: document 02, P8
+  pub express : ExpressKept
   -- "Cases (* is proved)"
   pub cases : CasesKept

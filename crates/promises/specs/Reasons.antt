@@ -6,7 +6,6 @@ use mathlib.Core.Option.{some}
 use Prim.Native.Nat.{ℕ, _≤_, _<_}
 use lib.ListN.{length}
 use Rattle.end.specs.declared.Request.{Request}
-use Rattle.end.specs.declared.Slot.the-variants.{Waiting}
 use Rattle.end.specs.declared.Word.{Word}
 use Rattle.end.specs.declared.Reason.{Reason}
 use Rattle.end.specs.declared.Reason.the-variants.{RequestQuiet}
@@ -16,6 +15,7 @@ use Rattle.end.specs.State.{sourceAt, withClock}
 use Rattle.end.specs.Decide.{known}
 use Rattle.end.specs.Answer.{Effect, Ignored, Refused, Did}
 use Rattle.end.specs.Event.{Action, eventOf}
+use Rattle.guarantees.specs.Records.{requestIn}
 use Rattle.end.specs.Why.{namedBy, reasonHolds, reasonNumber, isIgnored, whyOf}
 
 pub record ReasonsKept : Type 0 where
@@ -26,7 +26,8 @@ pub record ReasonsKept : Type 0 where
   pub none-holds : (e : End) (clock : ℕ) (a : Action) → whyOf e clock a ≡ why.NoReason → (reason : Reason) → reasonHolds e clock a reason ≡ false
   -- Where "request quiet" is named, a request for the name waits, and the clock is at most its quiet-until.
   pub request-quiet-waits : (e : End) (clock : ℕ) (a : Action) → whyOf e clock a ≡ why.Because RequestQuiet
-      → (w : Word) × (q : Request) × (namedBy a (withClock e clock) ≡ some w) × (known w (sourceAt e (w .name .source)) .slot ≡ Waiting q) × (clock ≤ q .quiet)
+      → (w : Word) × (q : Request) × (namedBy a (withClock e clock) ≡ some w)
+      × (requestIn (known w (sourceAt e (w .name .source)) .slot) ≡ some q) × (clock ≤ q .quiet)
   -- For every state, event, clock, output of at least 128 bytes and 64 draws: a number exactly where the event is refused with it ..
   pub number-exactly : (e : End) (clock : ℕ) (a : Action) (k room : ℕ) (draws : List ℕ) → 128 ≤ room → length draws ≡ 64
       → (whyOf e clock a ≡ why.Refused k → eventOf e a clock room draws .outcome ≡ Refused k)

@@ -4,24 +4,24 @@ use mathlib.Core.Path.{_≡_}
 use mathlib.Core.Bool.{true, false}
 use mathlib.Core.List.{List}
 use mathlib.Core.Logic.{_⊎_}
+use mathlib.Core.Option.{some}
 use Prim.Native.Nat.{ℕ, _+_, _-_, _≤_, _<_, min, max}
 use lib.ListN.{getD}
 use Rattle.message.specs.declared.Host.{Host}
 use Rattle.message.specs.Entry.{asHost}
 use Rattle.end.specs.declared.Params.{Params}
 use Rattle.end.specs.declared.Request.{Request}
-use Rattle.end.specs.declared.Slot.the-variants.{Waiting}
 use Rattle.end.specs.declared.Source.{Source}
 use Rattle.end.specs.declared.Moment.{Moment}
 use Rattle.end.specs.declared.End.{End}
 use Rattle.end.specs.State.{blankRecord, sourceAt, isMember}
 use Rattle.end.specs.Records.{place, isBelow, isHeld}
 use Rattle.end.specs.Round.{drawAt}
-use Rattle.end.specs.Names.{rise}
+use Rattle.end.specs.Names.{isRequester, rise, riseByData}
 use Rattle.end.specs.Event.{Action, eventOf}
 use Rattle.end.specs.Opening.{openingOf}
 use Rattle.guarantees.specs.Calls.{OneCall, afterAll}
-use Rattle.guarantees.specs.Records.{recordOf, slotOf, clearing, SpanMayBecome, retired}
+use Rattle.guarantees.specs.Records.{recordOf, slotOf, requestOf, clearing, SpanMayBecome, retired}
 use Rattle.guarantees.specs.BackOff.{NoneClears}
 use Rattle.guarantees.specs.History.{told, sinceJoining, AsTold}
 use Rattle.guarantees.specs.HistoryRows.{TenToEighty, LeftAgain, WholeSeason}
@@ -46,15 +46,18 @@ pub record SeasonKept : Type 0 where
   pub held-through : (cs : List OneCall) (e : End) (h n : ℕ) → h < 8 → NoneClears cs → isHeld (slotOf e h n) ≡ true
       → isBelow (sourceAt (afterAll e cs) (asHost h) .span) n ≡ false
       → (isHeld (slotOf (afterAll e cs) h n) ≡ true) × (recordOf (afterAll e cs) h n .cue ≡ recordOf e h n .cue)
-  pub waits-or-held-through : (cs : List OneCall) (e : End) (h n : ℕ) (q : Request) → h < 8 → NoneClears cs → slotOf e h n ≡ Waiting q
+  pub waits-or-held-through : (cs : List OneCall) (e : End) (h n : ℕ) (q : Request) → h < 8 → NoneClears cs → requestOf e h n ≡ some q
       → isBelow (sourceAt (afterAll e cs) (asHost h) .span) n ≡ false
-      → ((p : Request) × (slotOf (afterAll e cs) h n ≡ Waiting p)) ⊎ (isHeld (slotOf (afterAll e cs) h n) ≡ true)
+      → ((p : Request) × (requestOf (afterAll e cs) h n ≡ some p)) ⊎ (isHeld (slotOf (afterAll e cs) h n) ≡ true)
   -- However far last rises, at most 64 records are written and at most 64 looked at.
   pub rises-by-64 : (first last n : ℕ) → first ≤ last → last ≤ first + 63
       → (max last n + 1 - max (max first (max last n - 63)) (last + 1) ≤ 64) × (min (max first (max last n - 63)) (last + 1) - first ≤ 64)
   -- With numbers up to 63 nothing differs from document 01: places and draws, the rise, nothing is retired, nothing is counted.
   pub places-as-before : (us : List ℕ) (n : ℕ) → n ≤ 63 → (place n ≡ n) × (drawAt us n ≡ getD us n 0)
   pub rise-as-before : (t : Moment) (us : List ℕ) (n : ℕ) (s : Source) → n ≤ 63 → UpTo63 (s .span) → rise t us n s (s .span) ≡ riseBefore t us n s (s .span)
+  -- Before a DATA the rise is the same, unless the end is the requester of the kept pair.
+  pub data-rises-alike : (t : Moment) (us : List ℕ) (n : ℕ) (s : Source) → isRequester (t .me) (s .pair) ≡ false
+      → riseByData t us n s (s .span) ≡ rise t us n s (s .span)
   pub nothing-retired-up-to-63 : (e : End) (a : Action) (clock room : ℕ) (draws : List ℕ) (h n : ℕ) → h < 8
       → UpTo63 (sourceAt (eventOf e a clock room draws .left) (asHost h) .span) → retired e (eventOf e a clock room draws .left) h n ≡ false
   pub none-missed-up-to-63 : (host : Host) (p : Params) (cs : List OneCall) (s : ℕ) → s < 8

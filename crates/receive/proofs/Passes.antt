@@ -16,7 +16,7 @@ use Rattle.message.specs.Question.{hostIn, numberIn, ticksIn, nameIn, reportIn,
 use Rattle.message.specs.Cue.{cueIn}
 use Rattle.message.proofs.QuestionLaws.{and-both}
 use Rattle.end.specs.declared.Says.{Says}
-use Rattle.end.specs.declared.Says.the-variants.{Data, Rqst, Repl}
+use Rattle.end.specs.declared.Says.the-variants.{Data, Rqst, Repl, Xprs}
 use Rattle.end.specs.declared.Moment.{Moment}
 use Rattle.end.specs.declared.Source.{Source}
 use Rattle.end.specs.declared.Word.{Word}
@@ -75,6 +75,7 @@ module _ (m : Meaning) (h : inRange 65535 m ≡ true) where
       go Data = in-range m h .sender
       go Rqst = in-range m h .sender
       go Repl = in-range m h .host
+      go Xprs = in-range m h .sender
 
   pub subject-in : subjectOf m .0 < 8
   subject-in = go (isNamed (m .kind))

@@ -4,9 +4,9 @@ use Prim.Native.Nat.{ℕ}
 use mathlib.Core.Bool.{cond}
 use mathlib.Core.Option.{none, some}
 use lib.Dec.{eqb}
-use Rattle.message.specs.Message.{DATA, RQST, REPL, Meaning}
+use Rattle.message.specs.Message.{DATA, RQST, REPL, XPRS, Meaning}
 use Rattle.end.specs.declared.Says.{Says}
-use Rattle.end.specs.declared.Says.the-variants.{Data, Rqst, Repl}
+use Rattle.end.specs.declared.Says.the-variants.{Data, Rqst, Repl, Xprs}
 use Rattle.end.specs.declared.Record.{Record}
 use Rattle.end.specs.declared.Span.{Span}
 use Rattle.end.specs.declared.Span.the-variants.{Closed, Open}
@@ -16,9 +16,9 @@ use Rattle.end.specs.declared.Source.{Source}
 use Rattle.end.specs.declared.Decision.{Decision}
 use Rattle.end.specs.declared.End.{End}
 use Rattle.end.specs.State.{sourceAt, distanceTo, momentOf}
-use Rattle.end.specs.Decide.{known, decideData, reached, decideRequest, decideRepair, decideAs, decide}
+use Rattle.end.specs.Decide.{known, decideData, reached, decideRequest, decideExpress, decideRepair, decideAs, decide}
 use Rattle.end.specs.Reasons.{reasonOf}
-use Rattle.end.specs.Arrival.{messageName, messageCue, requesterIn, wordOf, namedIn}
+use Rattle.end.specs.Arrival.{messageName, messageHost, messageCue, requesterIn, wordOf, namedIn}
 use Rattle.end.proofs.Tools.{byTest}
 use Rattle.end.proofs.ReasonLaws.{later, later-decided}
 use Rattle.receive.specs.Steps.{isNamed}
@@ -26,17 +26,27 @@ use Rattle.receive.specs.Reason.{namedReason}
 
 -- the word of a message, with any distance to who asked
 abbrev wordAway : Says → Meaning → ℕ → Word
-wordAway says m d = record { says = says; name = messageName m; requester = requesterIn says m; distance = d; cue = messageCue m }
+wordAway says m d = record {
+  says = says;
+  name = messageName m;
+  host = messageHost m;
+  sender = m .sender;
+  requester = requesterIn says m;
+  distance = d;
+  cue = messageCue m;
+}
 
 -- a decision does not look at the distance
 apart : (t : Moment) (m : Meaning) (d k : ℕ) (r : Record) (says : Says) (x : Span) → decideAs says t (wordAway says m d) r x ≡ decideAs says t (wordAway says m k) r x
-unfolding decideAs decideData reached decideRequest decideRepair
+unfolding decideAs decideData reached decideRequest decideExpress decideRepair
 apart t m d k r Data Closed = refl
 apart t m d k r Data (Open first last) = refl
 apart t m d k r Rqst Closed = refl
 apart t m d k r Rqst (Open first last) = refl
 apart t m d k r Repl Closed = refl
 apart t m d k r Repl (Open first last) = refl
+apart t m d k r Xprs Closed = refl
+apart t m d k r Xprs (Open first last) = refl
 
 module _ (m : Meaning) (e : End) where
   decided : (says : Says) → reasonOf (decide (momentOf e) (wordAway says m 0) (sourceAt e (messageName m .source))) ≡ later e (some (wordOf says m e))
@@ -47,4 +57,5 @@ module _ (m : Meaning) (e : End) where
   pub named-later : cond (isNamed (m .kind)) (namedReason m e) none ≡ later e (namedIn m e)
   named-later = byTest (eqb (m .kind) DATA) (λ d. rw d (decided Data))
       (λ d. byTest (eqb (m .kind) RQST) (λ r. rw (d, r) (decided Rqst))
-      (λ r. byTest (eqb (m .kind) REPL) (λ p. rw (d, r, p) (decided Repl)) (λ p. rw (d, r, p))))
+      (λ r. byTest (eqb (m .kind) REPL) (λ p. rw (d, r, p) (decided Repl))
+      (λ p. byTest (eqb (m .kind) XPRS) (λ x. rw (d, r, p, x) (decided Xprs)) (λ x. rw (d, r, p, x)))))

@@ -4,8 +4,7 @@ use mathlib.Core.Bool.{true}
 use Prim.Native.Nat.{ℕ, _-_, _≤_, _<_}
 use Rattle.message.specs.declared.Host.{Host}
 use Rattle.message.specs.declared.Message.{Message}
-use Rattle.message.specs.Limit.{numberLimit}
-use Rattle.message.specs.Entry.{cueWidth}
+use Rattle.message.specs.Limit.{numberLimit, roomNeeded}
 use Rattle.message.specs.Message.{meaningOf}
 use Rattle.message.specs.Question.{kindHasCounts, inRange}
 use Rattle.end.specs.declared.Moment.{Moment}
@@ -19,7 +18,7 @@ use Rattle.state.specs.Counted.{Counted}
 -- a message that passed the reader's questions, and the call's draws and room
 pub record Passed (m : Message) (draws room : ℕ) : Type 0 where
   pub draws-in : draws ≡ drawCount
-  pub room-in : cueWidth ≤ room
+  pub room-in : roomNeeded ≤ room
   pub counts-in : kindHasCounts (m .kind) (m .counts) ≡ true
   pub ranges-in : inRange (numberLimit - 1) (meaningOf m) ≡ true
 

@@ -25,12 +25,12 @@ use message::NameEntry;
 use message::REPL;
 use message::RQST;
 use message::Report;
+use message::XPRS;
 use state::Change;
 ghost use mathlib.Core.Path.{_≡_};
 ghost use mathlib.Core.Bool.{true, cond, _||_, _&&_};
-ghost use mathlib.Core.List.{_++_};
 ghost use Prim.Native.Nat.{_+_, _-_, _≤_, _<_};
-ghost use lib.ListN.{length, getD, take, drop};
+ghost use lib.ListN.{length, getD, take};
 ghost use lib.Dec.{leb};
 ghost use Rattle.message.specs.Limit.{numberLimit, ticksLimit};
 ghost use Rattle.message.specs.Section.{all};
@@ -40,13 +40,11 @@ ghost use Rattle.message.specs.Question.{echoIn, inRange, sameHost};
 ghost use Rattle.end.specs.Round.{halfTrip};
 ghost use Rattle.end.specs.Answer.{Did, answerOf, done, calledOf, bufferOf};
 ghost use Rattle.end.specs.Ready.{Ranges, Numbered};
-ghost use Rattle.end.specs.Decide.{decide, effectOf};
 ghost use Rattle.end.specs.Session.{reportedSource, measured, heardFrom};
 ghost use Rattle.end.specs.Why.{because};
 ghost use Rattle.end.specs.Arrival.{messageCue, requesterIn, arrivalOf};
 ghost use Rattle.state.specs.Counted.{Counted};
-ghost use Rattle.decide.specs.Step.{Heeded, stepped};
-ghost use Rattle.receive.specs.Steps.{isNamed, saysIn, askerIn, wordIn, subjectOf, effectOn, leftOn, isGot};
+ghost use Rattle.receive.specs.Steps.{isNamed, saysIn, askerIn, wordIn, subjectOf, effectOn, leftOn};
 ghost use Rattle.receive.specs.Reason.{namedReason, reasonFor};
 ghost use Rattle.receive.specs.Hearing.{Hearing, HearingOn};
 
@@ -56,7 +54,7 @@ ghost use Rattle.receive.specs.Hearing.{Hearing, HearingOn};
 fn is_named(kind: u8) -> bool
     ensures { λ r. ⌜ r ≡ isNamed kind ⌝ }
 {
-    (kind == DATA) | ((kind == RQST) | (kind == REPL))
+    (kind == DATA) | ((kind == RQST) | ((kind == REPL) | (kind == XPRS)))
 }
 
 fn says_in(kind: u8) -> Says
@@ -65,7 +63,10 @@ fn says_in(kind: u8) -> Says
     if kind == DATA {
         return Says::Data;
     }
-    if kind == RQST { Says::Rqst } else { Says::Repl }
+    if kind == RQST {
+        return Says::Rqst;
+    }
+    if kind == REPL { Says::Repl } else { Says::Xprs }
 }
 
 // The first name of a message, or a blank where it has none.
@@ -107,6 +108,7 @@ fn requester_in(says: Says, m: Message) -> Host
             let entry = entry_of(m);
             entry.host
         }
+        Says::Xprs => m.sender,
     }
 }
 
@@ -124,11 +126,15 @@ fn word_in(m: Message, d: u64) -> Word
     let says = says_in(m.kind);
     let entry = entry_of(m);
     let name = entry.name;
+    let named = entry.host;
+    let sender = m.sender;
     let requester = asker_in(m);
     let cue = cue_of(m);
     Word {
         says,
         name,
+        host: named,
+        sender,
         requester,
         distance: d,
         cue,
@@ -224,47 +230,6 @@ fn hear(t: Moment, m: Message, s: Source) -> Source
     state::with_heard(s, d, Heard::At(m.stamp, t.clock))
 }
 
-// ---- a message about a name
-
-// Whether an answer hands out a cue.
-fn is_got(answer: Answer) -> bool
-    ensures { λ r. ⌜ r ≡ isGot answer ⌝ }
-{
-    match answer {
-        Answer::Refused(_) => false,
-        Answer::Out(_) => false,
-        Answer::Got(_) => true,
-        Answer::Done => false,
-        Answer::Ignored => false,
-        Answer::Nothing => false,
-        Answer::Clash(_) => false,
-    }
-}
-
-// Got puts its cue into the first output bytes; every other answer leaves them.
-fn emit(answer: Answer, cue: &[u8; 24], out: &mut [u8])
-    requires { ⌜ 24 ≤ length (now out) ⌝ }
-    ensures { λ _. ⌜ now (out .exit) ≡ cond (isGot answer) (now (cue .entry) ++ drop (length (now (cue .entry))) (now (out .entry))) (now (out .entry)) ⌝ }
-{
-    if is_got(answer) {
-        numbers::put_bytes(out, 0, cue);
-    }
-}
-
-// Its step on the name's source, and the cue of a Got in the output.
-fn about_name(t: Moment, draws: &[Draw], w: Word, s: Source, out: &mut [u8]) -> Change
-    requires { ⌜ Heeded t w s (length (now draws)) ⌝ }
-    requires { ⌜ 24 ≤ length (now out) ⌝ }
-    ensures { λ r. ⌜ r ≡ stepped t (now (draws .entry)) w s ⌝ }
-    ensures { λ _. ⌜ now (out .exit) ≡ bufferOf (Did (effectOf w (decide t w s))) (now (out .entry)) ⌝ }
-{
-    let change = decide::step(t, draws, w, s);
-    let answer = change.answer;
-    let cue = w.cue;
-    emit(answer, &cue, out);
-    change
-}
-
 // ---- why a message is ignored
 
 // What is decided on a message about a name, if it is that the message is ignored. No distance is looked at.
@@ -310,7 +275,7 @@ fn step_source(t: Moment, draws: &[Draw], m: Message, d: u64, s: Source, out: &m
     }
     if is_named(m.kind) {
         let w = word_in(m, d);
-        return about_name(t, draws, w, s, out);
+        return decide::step(t, draws, w, s, out);
     }
     Change {
         answer: Answer::Done,

@@ -1,17 +1,23 @@
 -- What the equations of a function's calls come to, over plain values: one law for each function. A proof finds the equations that its
 -- law asks for by itself (`search`), so that it counts no positions.
 use mathlib.Core.Path.{_≡_, sym, ap, _∙_}
-use Prim.Native.Nat.{ℕ, _+_, _-_, _≤_, min, max}
+use Prim.Native.Nat.{ℕ, _+_, _-_, _≤_, _<_, min, max}
 use native.Mathlib.Omega.{arith}
-use mathlib.Core.Bool.{Bool, true, false, _&&_}
+use mathlib.Core.Bool.{Bool, true, false, cond, _&&_}
 use mathlib.Core.List.{List}
 use lib.ListN.{getD}
-use lib.Dec.{ltb, leb}
+use lib.Dec.{ltb, leb, eqb}
+use borrow.Author.Tests.{le-leb, lt-leb}
 use Rattle.message.specs.declared.Host.{Host}
 use Rattle.message.specs.declared.CueNumber.{CueNumber}
 use Rattle.message.specs.Entry.{asNumber}
 use Rattle.end.specs.declared.Request.{Request}
 use Rattle.end.specs.declared.Slot.{Slot}
+use Rattle.end.specs.declared.Slot.the-variants.{Waiting}
+use Rattle.end.specs.declared.Express.{Express}
+use Rattle.end.specs.declared.Express.the-variants.{Unset, Soon}
+use Rattle.end.specs.declared.Pair.{Pair}
+use Rattle.end.specs.declared.Pair.the-variants.{Kept}
 use Rattle.end.specs.declared.Reply.the-variants.{No, Due}
 use Rattle.end.specs.declared.Record.{Record}
 use Rattle.end.specs.declared.Span.{Span}
@@ -19,9 +25,10 @@ use Rattle.end.specs.declared.Span.the-variants.{Open}
 use Rattle.end.specs.declared.Source.{Source}
 use Rattle.end.specs.declared.Moment.{Moment}
 use Rattle.end.specs.State.{noRecord, blankRecord}
-use Rattle.end.specs.Records.{within, isBelow, isAbove, place, isHeld, rawAt, recordAt, withRecord, withReply}
+use Rattle.end.specs.Records.{within, isBelow, isAbove, place, isHeld, rawAt, recordAt, withRecord, withReply, expressIn, withExpress}
 use Rattle.end.specs.Round.{requestAt, replyDue, quietAfterReply}
-use Rattle.end.specs.Names.{asking, setRound, setReply, quietReply, asked, filled, lacking, holdsCue, riseWith, rise}
+use Rattle.end.specs.Names.{setRound, setReply, quietReply, dropExpress, latest, isRequester}
+use Rattle.end.specs.Names.{expressed, asked, filled, lacking, holdsCue, riseWith, riseByData}
 use Rattle.end.proofs.RecordLaws.{within-in, at-inside}
 use Rattle.end.proofs.Lacking.{lacking-same}
 
@@ -47,9 +54,10 @@ unfolding recordAt
 at-out s n r w t = rw (r, ← w, t)
 
 -- ---- one name of a source: its record read, changed and stored
-pub round-set : (t : Moment) (us : List ℕ) (n k : ℕ) (s : Source) {q : Request} {r : Record} {x : Source}
-    → x ≡ withRecord s n (asking r q) → r ≡ recordAt s n → q ≡ requestAt t us (s .distance) n k → x ≡ setRound t us n k s
-round-set t us n k s x r q = rw (x, r, q)
+pub round-set : (t : Moment) (us : List ℕ) (n k : ℕ) (s : Source) {q : Request} {r : Record} {express : Express} {x : Source}
+    → x ≡ withRecord s n (record { slot = Waiting q express; cue = r .cue; hush = r .hush }) → express ≡ expressIn (r .slot)
+    → r ≡ recordAt s n → q ≡ requestAt t us (s .distance) n k → x ≡ setRound t us n k s
+round-set t us n k s x express r q = rw (x, express, r, q)
 
 pub reply-set : (t : Moment) (us : List ℕ) (n d : ℕ) (requester : Host) (s : Source) {due : ℕ} {r : Record} {slot : Slot} {x : Source}
     → x ≡ withRecord s n (record { slot = slot; cue = r .cue; hush = r .hush }) → slot ≡ withReply (Due due requester) (r .slot)
@@ -61,24 +69,65 @@ pub reply-quieted : (t : Moment) (n d : ℕ) (s : Source) {hush : ℕ} {r : Reco
     → r ≡ recordAt s n → hush ≡ quietAfterReply t d → x ≡ quietReply t n d s
 reply-quieted t n d s x slot r hush = rw (x, slot, r, hush)
 
+pub express-dropped : (n : ℕ) (s : Source) {r : Record} {slot : Slot} {x : Source}
+    → x ≡ withRecord s n (record { slot = slot; cue = r .cue; hush = r .hush }) → slot ≡ withExpress Unset (r .slot)
+    → r ≡ recordAt s n → x ≡ dropExpress n s
+express-dropped n s x slot r = rw (x, slot, r)
+
+-- ---- the kept pair, which was matched
+module _ {pair : Pair} {r s : Host} {k : CueNumber} (e : pair ≡ Kept r s k) where
+  pub latest-new : (requester sender : Host) (n : CueNumber) → k .0 ≤ n .0 → Kept requester sender n ≡ latest pair requester sender n
+  latest-new requester sender n l = rw (e, le-leb (k .0) (n .0) l)
+
+  pub latest-old : (requester sender : Host) (n : CueNumber) → n .0 < k .0 → Kept r s k ≡ latest pair requester sender n
+  latest-old requester sender n l = rw (e, lt-leb (k .0) (n .0) l)
+
+  pub kept-requester : (me : Host) → eqb (r .0) (me .0) ≡ isRequester me pair
+  kept-requester me = rw e
+
+-- the express wait, by the test whether this end is the requester
+module _ (t : Moment) (pair : Pair) {test : Bool} (is : test ≡ isRequester (t .me) pair) where
+  abbrev wait : Express
+  wait = cond (isRequester (t .me) pair) (Soon (t .clock + t .params .express)) Unset
+
+  pub express-set : test ≡ true → Soon (t .clock + t .params .express) ≡ wait
+  express-set h = rw (← is, h)
+
+  pub express-unset : test ≡ false → Unset ≡ wait
+  express-unset h = rw (← is, h)
+
 -- ---- last rises
-module _ (t : Moment) (us : List ℕ) (n : ℕ) (s : Source) (first last : CueNumber) where
+module _ (new : ℕ → Record) (n : ℕ) (s : Source) (first last : CueNumber) where
   -- of first..last, what stands in a number's place is its record
   in-places : {old : ℕ} → s .span ≡ Open first last → old ≤ last .0 + 1
       → lacking (λ m. isHeld (rawAt (s .names) m .slot)) (old - first .0) (first .0) ≡ lacking (holdsCue s) (old - first .0) (first .0)
   in-places {old} e most = lacking-same _ (holdsCue s) (old - first .0) (first .0)
       (λ j a b. ap (λ (r : Record). isHeld (r .slot)) (sym (at-inside s j (rw e (within-in (first .0) (last .0) j a (omega arith))))))
 
-  pub all-risen : {l floor lo old new lacked passed : ℕ} {names : List Record} → s .span ≡ Open first last
-      → l ≡ max (last .0) n → floor ≡ l - 63 → lo ≡ max (first .0) floor → old ≡ min lo (last .0 + 1) → new ≡ max lo (last .0 + 1)
+  pub all-risen : {l floor lo old from lacked passed : ℕ} {names : List Record} → s .span ≡ Open first last
+      → l ≡ max (last .0) n → floor ≡ l - 63 → lo ≡ max (first .0) floor → old ≡ min lo (last .0 + 1) → from ≡ max lo (last .0 + 1)
       → lacked ≡ lacking (λ m. isHeld (rawAt (s .names) m .slot)) (old - first .0) (first .0) → passed ≡ lo - (last .0 + 1)
-      → names ≡ filled (asked t us (s .distance)) (l + 1 - new) new (s .names)
-      → record { span = Open (asNumber lo) (asNumber l); missed = s .missed + lacked + passed; distance = s .distance; heard = s .heard; names = names }
-      ≡ rise t us n s (Open first last)
+      → names ≡ filled new (l + 1 - from) from (s .names)
+      → record {
+        span = Open (asNumber lo) (asNumber l);
+        missed = s .missed + lacked + passed;
+        pair = s .pair;
+        distance = s .distance;
+        heard = s .heard;
+        names = names;
+      }
+      ≡ riseWith new n s (Open first last)
   unfolding riseWith
-  all-risen {old = k} e l floor lo old new lacked passed names =
+  all-risen {old = k} e l floor lo old from lacked passed names =
       let most : k ≤ last .0 + 1 = omega (arith, old) in
-      rw (names, passed, lacked, in-places e most, new, old, lo, floor, l)
+      rw (names, passed, lacked, in-places e most, from, old, lo, floor, l)
 
-  pub rise-open : {x : Source} → x ≡ rise t us n s (Open first last) → s .span ≡ Open first last → x ≡ rise t us n s (s .span)
-  rise-open x e = x ∙ ap (λ (y : Span). rise t us n s y) (sym e)
+  pub rise-open : {x : Source} → x ≡ riseWith new n s (Open first last) → s .span ≡ Open first last → x ≡ riseWith new n s (s .span)
+  rise-open x e = x ∙ ap (λ (y : Span). riseWith new n s y) (sym e)
+
+-- the express wait of each new number is that of a gap before a DATA
+pub rise-data : (t : Moment) (us : List ℕ) (n : ℕ) (s : Source) {express : Express} {x : Source}
+    → x ≡ riseWith (λ m. expressed express (asked t us (s .distance) m)) n s (s .span)
+    → express ≡ cond (isRequester (t .me) (s .pair)) (Soon (t .clock + t .params .express)) Unset
+    → x ≡ riseByData t us n s (s .span)
+rise-data t us n s x express = rw (x, express)

@@ -2,8 +2,10 @@
 // are helpers of the crates above and no calls of the product: each asks in its `requires` for what soundness and the questions give.
 // Where a number's record and draw stand is said by `state::place` alone.
 use end::Draw;
+use end::Express;
 use end::KEPT;
 use end::Moment;
+use end::Pair;
 use end::Record;
 use end::Reply;
 use end::Request;
@@ -13,13 +15,16 @@ use end::Span;
 use message::CueNumber;
 use message::Host;
 ghost use mathlib.Core.Path.{_≡_};
-ghost use Prim.Native.Nat.{_-_, _≤_, _<_, min, max};
+ghost use mathlib.Core.Bool.{cond};
+ghost use Prim.Native.Nat.{_+_, _-_, _≤_, _<_, min, max};
 ghost use lib.ListN.{length};
-ghost use Rattle.message.specs.Limit.{numberLimit};
+ghost use Rattle.message.specs.Limit.{numberLimit, ticksLimit};
 ghost use Rattle.end.specs.State.{blankRecord};
 ghost use Rattle.end.specs.Records.{within, isBelow, isAbove, isHeld, rawAt, recordAt, withRecord};
 ghost use Rattle.end.specs.Round.{drawCount, drawAt, requestAt, replyDue};
-ghost use Rattle.end.specs.Names.{setRound, hold, setReply, quietReply, asked, filled, lacks, lacking, rise};
+ghost use Rattle.end.specs.Names.{setRound, hold, setReply, quietReply, dropExpress, latest, keepPair, isRequester};
+ghost use Rattle.end.specs.Names.{expressed, asked, filled, lacks, lacking, riseWith, rise, riseByData};
+ghost use Rattle.end.specs.declared.Express.the-variants.{Unset, Soon};
 ghost use Rattle.end.specs.Ready.{Ranges, Numbered};
 ghost use Rattle.state.specs.Counted.{Counted};
 
@@ -118,7 +123,7 @@ fn reply_time(t: Moment, draws: &[Draw], d: u64, n: CueNumber) -> u64
     timing::reply_due(t, u, d)
 }
 
-// Sets round k of a number, with the distance to the source.
+// Sets round k of a number, with the distance to the source. An express wait beside the request stays.
 pub fn set_round(s: Source, t: Moment, draws: &[Draw], n: CueNumber, k: u8) -> Source
     requires { ⌜ Ranges t (s .distance) ⌝ }
     requires { ⌜ Numbered (n .0) (length (now draws)) ⌝ }
@@ -127,9 +132,11 @@ pub fn set_round(s: Source, t: Moment, draws: &[Draw], n: CueNumber, k: u8) -> S
 {
     let q = request_for(t, draws, s.distance, n, k);
     let r = record_at(s, n);
+    let was = r.slot;
     let cue = r.cue;
+    let x = state::express_in(was);
     let asked = Record {
-        slot: Slot::Waiting(q),
+        slot: Slot::Waiting(q, x),
         cue,
         hush: r.hush,
     };
@@ -189,6 +196,70 @@ pub fn quiet_reply(s: Source, t: Moment, n: CueNumber, d: u64) -> Source
     with_record(s, n, hushed)
 }
 
+// Drops a number's express wait.
+pub fn drop_express(s: Source, n: CueNumber) -> Source
+    ensures { λ r. ⌜ r ≡ dropExpress (n .0) s ⌝ }
+{
+    let r = record_at(s, n);
+    let was = r.slot;
+    let cue = r.cue;
+    let slot = state::with_express(Express::Unset, was);
+    let dropped = Record {
+        slot,
+        cue,
+        hush: r.hush,
+    };
+    with_record(s, n, dropped)
+}
+
+// ---- the kept pair
+
+// The pair after a REPL of a number: the kept one stays where it named a higher number.
+fn latest(pair: Pair, requester: Host, sender: Host, n: CueNumber) -> Pair
+    ensures { λ r. ⌜ r ≡ latest pair requester sender n ⌝ }
+{
+    match pair {
+        Pair::NoPair => Pair::Kept(requester, sender, n),
+        Pair::Kept(_, _, k) => {
+            if k.0 <= n.0 {
+                Pair::Kept(requester, sender, n)
+            } else {
+                pair
+            }
+        }
+    }
+}
+
+// Keeps the requester and the sender of a REPL of a number.
+pub fn keep_pair(s: Source, requester: Host, sender: Host, n: CueNumber) -> Source
+    ensures { λ r. ⌜ r ≡ keepPair requester sender n s ⌝ }
+{
+    let pair = s.pair;
+    let kept = latest(pair, requester, sender, n);
+    state::with_pair(s, kept)
+}
+
+fn is_requester(me: Host, pair: Pair) -> bool
+    ensures { λ r. ⌜ r ≡ isRequester me pair ⌝ }
+{
+    match pair {
+        Pair::NoPair => false,
+        Pair::Kept(requester, _, _) => requester.0 == me.0,
+    }
+}
+
+// The express wait beside round 1 by a gap before a DATA: the kept requester sets one.
+fn express_by_data(t: Moment, pair: Pair) -> Express
+    requires { ⌜ (t .clock < ticksLimit) × (t .params .express ≤ 1000) ⌝ }
+    ensures { λ r. ⌜ r ≡ cond (isRequester (t .me) pair) (Soon (t .clock + t .params .express)) Unset ⌝ }
+{
+    if is_requester(t.me, pair) {
+        Express::Soon(t.clock + t.params.express)
+    } else {
+        Express::Unset
+    }
+}
+
 // ---- last rises
 
 fn greater(a: u64, b: u64) -> u64
@@ -236,15 +307,15 @@ fn count_lacking(names: [Record; 64], from: u64, to: u64) -> u64
     count
 }
 
-// What an end keeps of a new number: round 1, with the distance d to the source.
-fn fresh_record(t: Moment, draws: &[Draw], d: u64, n: CueNumber) -> Record
+// What an end keeps of a new number: round 1, with the distance d to the source, and this express wait beside it.
+fn fresh_record(t: Moment, draws: &[Draw], d: u64, x: Express, n: CueNumber) -> Record
     requires { ⌜ Ranges t d ⌝ }
     requires { ⌜ Numbered (n .0) (length (now draws)) ⌝ }
-    ensures { λ r. ⌜ r ≡ asked t (now (draws .entry)) d (n .0) ⌝ }
+    ensures { λ r. ⌜ r ≡ expressed x (asked t (now (draws .entry)) d (n .0)) ⌝ }
 {
     let q = request_for(t, draws, d, n, 1);
     Record {
-        slot: Slot::Waiting(q),
+        slot: Slot::Waiting(q, x),
         cue: [0; 24],
         hush: 0,
     }
@@ -256,19 +327,20 @@ fn request_all(
     t: Moment,
     draws: &[Draw],
     d: u64,
+    x: Express,
     from: u64,
     to: u64,
 ) -> [Record; 64]
     requires { ⌜ Ranges t d ⌝ }
     requires { ⌜ (length (now draws) ≡ drawCount) × (to ≤ numberLimit) ⌝ }
-    ensures { λ r. ⌜ r ≡ filled (asked t (now (draws .entry)) d) (to - from) from names ⌝ }
+    ensures { λ r. ⌜ r ≡ filled (λ m. expressed x (asked t (now (draws .entry)) d m)) (to - from) from names ⌝ }
 {
     let mut out = names;
     let mut i = from;
     while i < to {
         let k = i as u16;
         let n = CueNumber(k);
-        let r = fresh_record(t, draws, d, n);
+        let r = fresh_record(t, draws, d, x, n);
         let at = state::place(i);
         out[at] = r;
         i += 1;
@@ -282,6 +354,7 @@ fn risen(
     s: Source,
     t: Moment,
     draws: &[Draw],
+    x: Express,
     first: CueNumber,
     last: CueNumber,
     n: CueNumber,
@@ -289,8 +362,9 @@ fn risen(
     requires { ⌜ Ranges t (s .distance) ⌝ }
     requires { ⌜ Numbered (n .0) (length (now draws)) ⌝ }
     requires { ⌜ (s .missed < numberLimit) × (s .span ≡ Span.Open first last) ⌝ }
-    ensures { λ r. ⌜ r ≡ rise t (now (draws .entry)) (n .0) s (Span.Open first last) ⌝ }
+    ensures { λ r. ⌜ r ≡ riseWith (λ m. expressed x (asked t (now (draws .entry)) (s .distance) m)) (n .0) s (Span.Open first last) ⌝ }
 {
+    let pair = s.pair;
     let heard = s.heard;
     let names = s.names;
     let low = first.0 as u64;
@@ -302,29 +376,52 @@ fn risen(
     let new = greater(lo, next);
     let lacked = count_lacking(names, low, old);
     let passed = above(lo, next);
-    let renewed = request_all(names, t, draws, s.distance, new, l + 1);
+    let renewed = request_all(names, t, draws, s.distance, x, new, l + 1);
     let lowest = lo as u16;
     let highest = l as u16;
     let missed = s.missed + lacked as u32 + passed as u32;
     Source {
         span: Span::Open(CueNumber(lowest), CueNumber(highest)),
         missed,
+        pair,
         distance: s.distance,
         heard,
         names: renewed,
     }
 }
 
-// All that happens when last of a source rises to n.
+// All that happens when last of a source rises to n, with this express wait beside each new request.
+fn rise_with(s: Source, t: Moment, draws: &[Draw], x: Express, n: CueNumber) -> Source
+    requires { ⌜ Ranges t (s .distance) ⌝ }
+    requires { ⌜ Numbered (n .0) (length (now draws)) ⌝ }
+    requires { ⌜ Counted s ⌝ }
+    ensures { λ r. ⌜ r ≡ riseWith (λ m. expressed x (asked t (now (draws .entry)) (s .distance) m)) (n .0) s (s .span) ⌝ }
+{
+    let span = s.span;
+    match span {
+        Span::Closed => s,
+        Span::Open(first, last) => risen(s, t, draws, x, first, last, n),
+    }
+}
+
+// Last of a source rises to n, by anything but a DATA.
 pub fn rise_to(s: Source, t: Moment, draws: &[Draw], n: CueNumber) -> Source
     requires { ⌜ Ranges t (s .distance) ⌝ }
     requires { ⌜ Numbered (n .0) (length (now draws)) ⌝ }
     requires { ⌜ Counted s ⌝ }
     ensures { λ r. ⌜ r ≡ rise t (now (draws .entry)) (n .0) s (s .span) ⌝ }
 {
-    let span = s.span;
-    match span {
-        Span::Closed => s,
-        Span::Open(first, last) => risen(s, t, draws, first, last, n),
-    }
+    rise_with(s, t, draws, Express::Unset, n)
+}
+
+// Last of a source rises to n, by a DATA.
+pub fn rise_by_data(s: Source, t: Moment, draws: &[Draw], n: CueNumber) -> Source
+    requires { ⌜ Ranges t (s .distance) ⌝ }
+    requires { ⌜ Numbered (n .0) (length (now draws)) ⌝ }
+    requires { ⌜ Counted s ⌝ }
+    ensures { λ r. ⌜ r ≡ riseByData t (now (draws .entry)) (n .0) s (s .span) ⌝ }
+{
+    let pair = s.pair;
+    let x = express_by_data(t, pair);
+    rise_with(s, t, draws, x, n)
 }

@@ -46,6 +46,7 @@ fn member(host: Host) -> End {
         d1: 4,
         d2: 4,
         d3: 8,
+        express: 0,
     };
     let mut out = [0u8; 128];
     let opened = link::open(host, params);

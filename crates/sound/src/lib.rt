@@ -1,9 +1,11 @@
 // Question 3: whether a state is sound, as a test of any state value whatever. Its promise is `soundOf` of the crate end,
 // specs/Sound.antt; each function here is one definition of that file. The state is gone through once.
 use end::End;
+use end::Express;
 use end::Heard;
 use end::KEPT;
 use end::NUMBERS;
+use end::Pair;
 use end::Record;
 use end::Reply;
 use end::Request;
@@ -21,8 +23,8 @@ ghost use Rattle.message.specs.Limit.{hostLimit};
 ghost use Rattle.message.specs.Cue.{cueIn};
 ghost use Rattle.end.specs.Records.{within, isClosed};
 ghost use Rattle.end.specs.State.{places};
-ghost use Rattle.end.specs.Sound.{allOf, requestTests, replyTests, heldTests, insideSound, outsideSound, isNever, recordSound, namesSound};
-ghost use Rattle.end.specs.Sound.{spanTests, distanceSound, heardTests, nonMemberTests, sourceSound, sourcesSound, soundOf};
+ghost use Rattle.end.specs.Sound.{allOf, requestTests, replyTests, heldTests, expressSound, insideSound, outsideSound, isNever, recordSound, namesSound};
+ghost use Rattle.end.specs.Sound.{spanTests, pairTests, distanceSound, heardTests, nonMemberTests, sourceSound, sourcesSound, soundOf};
 
 fn request_sound(q: Request) -> bool
     ensures { λ r. ⌜ r ≡ allOf (requestTests q) ⌝ }
@@ -58,13 +60,26 @@ fn held_sound(me: Host, source: Host, r: Record, reply: Reply) -> bool
     cue_sound(cue) & reply_sound(me, source, reply) & (r.hush < TIME_LIMIT)
 }
 
-fn inside_sound(me: Host, source: Host, r: Record, slot: Slot) -> bool
-    ensures { λ b. ⌜ b ≡ insideSound me source r slot ⌝ }
+// An express wait stands only with a kept pair.
+fn express_sound(pair: Pair, x: Express) -> bool
+    ensures { λ r. ⌜ r ≡ expressSound pair x ⌝ }
+{
+    match x {
+        Express::Unset => true,
+        Express::Soon(due) => (due < TIME_LIMIT) & !state::is_no_pair(pair),
+    }
+}
+
+fn inside_sound(me: Host, source: Host, pair: Pair, r: Record, slot: Slot) -> bool
+    ensures { λ b. ⌜ b ≡ insideSound me source pair r slot ⌝ }
 {
     match slot {
         Slot::Empty => false,
         Slot::Held(reply) => held_sound(me, source, r, reply),
-        Slot::Waiting(q) => !(source.0 == me.0) & (request_sound(q) & (r.hush < TIME_LIMIT)),
+        Slot::Waiting(q, x) => {
+            !(source.0 == me.0)
+                & (request_sound(q) & ((r.hush < TIME_LIMIT) & express_sound(pair, x)))
+        }
     }
 }
 
@@ -74,7 +89,7 @@ fn outside_sound(r: Record, slot: Slot) -> bool
     match slot {
         Slot::Empty => r.hush == 0,
         Slot::Held(_) => false,
-        Slot::Waiting(_) => false,
+        Slot::Waiting(_, _) => false,
     }
 }
 
@@ -88,20 +103,20 @@ fn is_within(span: Span, n: u64) -> bool
     }
 }
 
-fn record_sound(me: Host, source: Host, span: Span, n: u64, r: Record) -> bool
-    ensures { λ b. ⌜ b ≡ recordSound me source span n r ⌝ }
+fn record_sound(me: Host, source: Host, pair: Pair, span: Span, n: u64, r: Record) -> bool
+    ensures { λ b. ⌜ b ≡ recordSound me source pair span n r ⌝ }
 {
     let slot = r.slot;
     if is_within(span, n) {
-        inside_sound(me, source, r, slot)
+        inside_sound(me, source, pair, r, slot)
     } else {
         outside_sound(r, slot)
     }
 }
 
 // What stands in each of the 64 places: they are those of the 64 numbers from first on.
-fn names_sound(me: Host, source: Host, span: Span, names: [Record; 64]) -> bool
-    ensures { λ r. ⌜ r ≡ namesSound me source span names places ⌝ }
+fn names_sound(me: Host, source: Host, pair: Pair, span: Span, names: [Record; 64]) -> bool
+    ensures { λ r. ⌜ r ≡ namesSound me source pair span names places ⌝ }
     ensures { λ _. ⌜ length names ≡ places ⌝ }
 {
     let from = state::start_of(span);
@@ -111,7 +126,7 @@ fn names_sound(me: Host, source: Host, span: Span, names: [Record; 64]) -> bool
         let n = from + i;
         let at = state::place(n);
         let r = names[at];
-        ok = ok & record_sound(me, source, span, n, r);
+        ok = ok & record_sound(me, source, pair, span, n, r);
         i += 1;
     }
     ok
@@ -130,6 +145,19 @@ fn span_sound(own: bool, next: u32, missed: u32, span: Span) -> bool
                 & (!own | (high + 1 == next as u64))
                 & (high <= low + (KEPT - 1))
                 & (missed as u64 <= low)
+        }
+    }
+}
+
+// A kept pair's sender is another.
+fn pair_sound(me: Host, pair: Pair) -> bool
+    ensures { λ r. ⌜ r ≡ allOf (pairTests me pair) ⌝ }
+{
+    match pair {
+        Pair::NoPair => true,
+        Pair::Kept(requester, sender, n) => {
+            let number = n.0 as u32;
+            (requester.0 < 8) & (sender.0 < 8) & !(sender.0 == me.0) & (number < NUMBERS)
         }
     }
 }
@@ -172,7 +200,8 @@ fn non_member_sound(own: bool, s: Source) -> bool
 {
     let span = s.span;
     let heard = s.heard;
-    is_closed(span) & is_never(heard) & (own | (s.distance == 40))
+    let pair = s.pair;
+    is_closed(span) & is_never(heard) & (own | (s.distance == 40)) & state::is_no_pair(pair)
 }
 
 // One source, for the end of host me with this next number and clock.
@@ -181,13 +210,15 @@ fn source_sound(me: Host, next: u32, clock: u64, member: bool, h: Host, s: Sourc
 {
     let own = h.0 == me.0;
     let span = s.span;
+    let pair = s.pair;
     let heard = s.heard;
     let names = s.names;
     span_sound(own, next, s.missed, span)
         & distance_sound(own, s.distance)
         & heard_sound(own, clock, heard)
         & (member | non_member_sound(own, s))
-        & names_sound(me, h, span, names)
+        & names_sound(me, h, pair, span, names)
+        & pair_sound(me, pair)
 }
 
 // Each of the eight sources. They are read from an array of their own: an end of which parts are read by constant places is taken
@@ -221,4 +252,5 @@ pub fn sound(e: End) -> bool
         & (e.clock < TICKS_LIMIT)
         & (e.next <= NUMBERS)
         & sources_sound(e)
+        & state::delay_in(e.params)
 }

@@ -13,6 +13,7 @@ use Rattle.end.specs.declared.Slot.the-variants.{Empty, Held, Waiting}
 use Rattle.end.specs.declared.Reply.{Reply}
 use Rattle.end.specs.declared.Reply.the-variants.{No, Due}
 use Rattle.end.specs.declared.Record.{Record}
+use Rattle.end.specs.declared.Pair.{Pair}
 use Rattle.end.specs.declared.Span.{Span}
 use Rattle.end.specs.declared.Heard.{Heard}
 use Rattle.end.specs.declared.Heard.the-variants.{Never, At}
@@ -29,12 +30,12 @@ use Rattle.state.specs.Settled.{Asked, Settled}
 use Rattle.state.proofs.Counted.{counted}
 
 -- ---- from the tests
-asked-in : (me source : Host) (span : Span) (n : ℕ) (r : Record) → recordSound me source span n r ≡ true → Asked (replyIn (r .slot))
-asked-in me source span n r h = go (within span n) (r .slot) h
+asked-in : (me source : Host) (pair : Pair) (span : Span) (n : ℕ) (r : Record) → recordSound me source pair span n r ≡ true → Asked (replyIn (r .slot))
+asked-in me source pair span n r h = go (within span n) (r .slot) h
   where
-    go : (t : Bool) (x : Slot) → cond t (insideSound me source r x) (outsideSound r x) ≡ true → Asked (replyIn x)
+    go : (t : Bool) (x : Slot) → cond t (insideSound me source pair r x) (outsideSound r x) ≡ true → Asked (replyIn x)
     go t Empty p = tt
-    go t (Waiting q) p = tt
+    go t (Waiting q x) p = tt
     go t (Held No) p = tt
     go true (Held (Due due requester)) p =
         ltb-true (requester .0) 8 (nth (replyTests me source (Due due requester)) 1 (nth (heldTests me source r (Due due requester)) 2 p))
@@ -59,7 +60,7 @@ settled e t h l m =
       host = s .host;
       counts = λ k hk. counted e k h hk;
       asked = λ k n hk. at-elim (λ (r : Record). Asked (replyIn (r .slot))) (sourceAt e k) n
-          (λ w. asked-in (e .host) k (sourceAt e k .span) n (rawAt (sourceAt e k .names) n) (f .records (k .0) n hk w))
+          (λ w. asked-in (e .host) k (sourceAt e k .pair) (sourceAt e k .span) n (rawAt (sourceAt e k .names) n) (f .records (k .0) n hk w))
           (λ w. tt);
       heard = λ k hk. heard-in (sameHost k (e .host)) (e .clock) t (sourceAt e k .heard) m (heard (k .0) hk);
       own = never-own (sameHost (e .host) (e .host)) (e .clock) (sourceAt e (e .host) .heard) (eq-eqb (e .host .0) (e .host .0) refl)

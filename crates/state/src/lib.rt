@@ -3,9 +3,11 @@
 // a line in each setter here.
 use end::Answer;
 use end::End;
+use end::Express;
 use end::Heard;
 use end::KEPT;
 use end::Moment;
+use end::Pair;
 use end::Params;
 use end::Record;
 use end::Reply;
@@ -16,9 +18,9 @@ use end::Status;
 ghost use mathlib.Core.Path.{_≡_};
 ghost use Prim.Native.Nat.{_<_};
 ghost use Rattle.message.specs.Limit.{numberLimit};
-ghost use Rattle.end.specs.State.{momentOf, withSpan, withHeard, withDistance, withNames, withClock, withStatus, isMember, isCrashed};
-ghost use Rattle.end.specs.Records.{start, place, isHeld, isNo, replyIn, withReply};
-ghost use Rattle.end.specs.Sound.{allOf, paramsTests};
+ghost use Rattle.end.specs.State.{momentOf, withSpan, withPair, withHeard, withDistance, withNames, withClock, withStatus, isMember, isCrashed};
+ghost use Rattle.end.specs.Records.{start, place, isHeld, isNo, replyIn, withReply, expressIn, withExpress};
+ghost use Rattle.end.specs.Sound.{allOf, paramsTests, delayIn, isNoPair};
 ghost use Rattle.end.specs.declared.Answer.the-variants.{Ignored};
 
 // What a step changes: its answer, and the one source that it was given, as the step leaves it.
@@ -57,7 +59,7 @@ pub fn is_held(slot: Slot) -> bool
     match slot {
         Slot::Empty => false,
         Slot::Held(_) => true,
-        Slot::Waiting(_) => false,
+        Slot::Waiting(_, _) => false,
     }
 }
 
@@ -77,7 +79,7 @@ pub fn reply_in(slot: Slot) -> Reply
     match slot {
         Slot::Empty => Reply::No,
         Slot::Held(reply) => reply,
-        Slot::Waiting(_) => Reply::No,
+        Slot::Waiting(_, _) => Reply::No,
     }
 }
 
@@ -88,7 +90,38 @@ pub fn with_reply(reply: Reply, slot: Slot) -> Slot
     match slot {
         Slot::Empty => Slot::Empty,
         Slot::Held(_) => Slot::Held(reply),
-        Slot::Waiting(q) => Slot::Waiting(q),
+        Slot::Waiting(q, x) => Slot::Waiting(q, x),
+    }
+}
+
+// The express wait beside a request.
+pub fn express_in(slot: Slot) -> Express
+    ensures { λ r. ⌜ r ≡ expressIn slot ⌝ }
+{
+    match slot {
+        Slot::Empty => Express::Unset,
+        Slot::Held(_) => Express::Unset,
+        Slot::Waiting(_, x) => x,
+    }
+}
+
+// The slot of a request with this express wait; beside anything else there is none.
+pub fn with_express(x: Express, slot: Slot) -> Slot
+    ensures { λ r. ⌜ r ≡ withExpress x slot ⌝ }
+{
+    match slot {
+        Slot::Empty => Slot::Empty,
+        Slot::Held(reply) => Slot::Held(reply),
+        Slot::Waiting(q, _) => Slot::Waiting(q, x),
+    }
+}
+
+pub fn is_no_pair(pair: Pair) -> bool
+    ensures { λ r. ⌜ r ≡ isNoPair pair ⌝ }
+{
+    match pair {
+        Pair::NoPair => true,
+        Pair::Kept(_, _, _) => false,
     }
 }
 
@@ -117,6 +150,13 @@ pub fn params_small(p: Params) -> bool
     (p.c1 <= 32) & (p.c2 <= 32) & (p.c3 <= 32) & (p.d1 <= 32) & (p.d2 <= 32) & (p.d3 <= 32)
 }
 
+// E is 0..1000.
+pub fn delay_in(p: Params) -> bool
+    ensures { λ r. ⌜ r ≡ delayIn p ⌝ }
+{
+    p.express <= 1000
+}
+
 // The moment of a call on an end whose clock is the call's.
 pub fn moment_of(e: End) -> Moment
     ensures { λ r. ⌜ r ≡ momentOf e ⌝ }
@@ -133,11 +173,29 @@ pub fn moment_of(e: End) -> Moment
 pub fn with_span(s: Source, span: Span) -> Source
     ensures { λ r. ⌜ r ≡ withSpan s span ⌝ }
 {
+    let pair = s.pair;
     let heard = s.heard;
     let names = s.names;
     Source {
         span,
         missed: s.missed,
+        pair,
+        distance: s.distance,
+        heard,
+        names,
+    }
+}
+
+pub fn with_pair(s: Source, pair: Pair) -> Source
+    ensures { λ r. ⌜ r ≡ withPair s pair ⌝ }
+{
+    let span = s.span;
+    let heard = s.heard;
+    let names = s.names;
+    Source {
+        span,
+        missed: s.missed,
+        pair,
         distance: s.distance,
         heard,
         names,
@@ -157,10 +215,12 @@ pub fn with_heard(s: Source, distance: u64, heard: Heard) -> Source
     ensures { λ r. ⌜ r ≡ withHeard (withDistance s distance) heard ⌝ }
 {
     let span = s.span;
+    let pair = s.pair;
     let names = s.names;
     Source {
         span,
         missed: s.missed,
+        pair,
         distance,
         heard,
         names,

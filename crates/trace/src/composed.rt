@@ -30,6 +30,7 @@ fn kind_of(word: u64) -> u8 {
         words::RQST => message::RQST,
         words::REPL => message::REPL,
         words::SESS => message::SESS,
+        words::XPRS => message::XPRS,
         _ => 0,
     }
 }

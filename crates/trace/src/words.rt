@@ -130,6 +130,18 @@ pub const WAITS: u64 = 0x7761697473;
 // reply
 pub const REPLY: u64 = 0x7265706C79;
 
+// pair
+pub const PAIR: u64 = 0x70616972;
+
+// nopair
+pub const NOPAIR: u64 = 0x6E6F70616972;
+
+// express
+pub const EXPRESS: u64 = 0x65787072657373;
+
+// xprs
+pub const XPRS: u64 = 0x78707273;
+
 // cue
 pub const CUE: u64 = 0x637565;
 

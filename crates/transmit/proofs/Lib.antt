@@ -1,3 +1,3 @@
-pub mod PutLaws
+pub mod GiveLaws
 pub mod SendLaws
 pub mod FireLaws

@@ -4,11 +4,15 @@
 // calls of the product: what they ask for in their `requires`, the records of specs/Given.antt, the call has seen to.
 use end::Answer;
 use end::Draw;
+use end::EXPRESS;
 use end::Earliest;
 use end::End;
 use end::Moment;
+use end::Pair;
+use end::REPLY;
 use end::Record;
 use end::Reply;
+use end::Request;
 use end::Slot;
 use end::Source;
 use end::Span;
@@ -16,50 +20,21 @@ use end::Stepped;
 use message::CueNumber;
 use message::DATA;
 use message::Host;
-use message::Message;
 use message::Name;
 use message::REPL;
 use message::RQST;
+use message::XPRS;
 ghost use mathlib.Core.Path.{_≡_};
-ghost use mathlib.Core.List.{[], _∷_};
+ghost use mathlib.Core.List.{[]};
 ghost use Prim.Native.Nat.{_≤_};
-ghost use lib.ListN.{length, take};
+ghost use lib.ListN.{length};
 ghost use Rattle.message.specs.Limit.{roomNeeded};
-ghost use Rattle.message.specs.Message.{Small, numberWidth, meaningOf, bytesOf};
-ghost use Rattle.end.specs.Messages.{aboutName};
-ghost use Rattle.end.specs.Answer.{Out, Did, done, answerOf, calledOf, bufferOf};
-ghost use Rattle.end.specs.Fire.{fireOf};
+ghost use Rattle.end.specs.Ready.{Ranges, Numbered};
+ghost use Rattle.end.specs.Answer.{Did, done, answerOf, calledOf, bufferOf};
+ghost use Rattle.end.specs.Fire.{keptSender, fireOf};
 ghost use Rattle.end.specs.Event.{Report, extended, sentSource, sendOf, otherOf};
 ghost use Rattle.transmit.specs.Given.{Sending, Rising, Firing, Reporting, Waited};
-ghost use Rattle.transmit.specs.Fired.{nameOf, recordOf, askerIn, firedEffect, firedSource};
-
-// ---- a message goes out
-
-fn put(m: Message, out: &mut [u8]) -> Answer
-    requires { ⌜ Small (numberWidth (m .kind)) (m .counts) × (roomNeeded ≤ length (now out)) ⌝ }
-    ensures { λ r. ⌜ r ≡ answerOf (Did (Out (bytesOf (meaningOf m)))) ⌝ }
-    ensures { λ _. ⌜ now (out .exit) ≡ bufferOf (Did (Out (bytesOf (meaningOf m)))) (now (out .entry)) ⌝ }
-{
-    let len = layout::put_message(out, m);
-    Answer::Out(len)
-}
-
-fn put_name(
-    kind: u8,
-    t: Moment,
-    name: Name,
-    host: Host,
-    cues: usize,
-    cue: [u8; 24],
-    out: &mut [u8],
-) -> Answer
-    requires { ⌜ (cues ≤ 1) × (roomNeeded ≤ length (now out)) ⌝ }
-    ensures { λ r. ⌜ r ≡ answerOf (Did (Out (bytesOf (aboutName kind t name host (take cues (cue ∷ [])))))) ⌝ }
-    ensures { λ _. ⌜ now (out .exit) ≡ bufferOf (Did (Out (bytesOf (aboutName kind t name host (take cues (cue ∷ [])))))) (now (out .entry)) ⌝ }
-{
-    let m = compose::about_name(kind, t, name, host, cues, cue);
-    put(m, out)
-}
+ghost use Rattle.transmit.specs.Fired.{nameOf, rankOf, recordOf, askerIn, askedEffect, firedEffect, askedSource, firedSource};
 
 // ---- Send
 
@@ -96,7 +71,7 @@ pub fn send(e: End, draws: &[Draw], cue: [u8; 24], out: &mut [u8]) -> Stepped
     let mut sources = e.sources;
     let number = CueNumber(e.next as u16);
     let name = Name { source: me, number };
-    let answer = put_name(DATA, t, name, me, 1, cue, out);
+    let answer = compose::put_name(DATA, t, name, me, 1, cue, out);
     let at = me.0 as usize;
     let s = sources[at];
     let s1 = sent_source(s, t, draws, number, cue);
@@ -121,6 +96,16 @@ fn name_of(first: Earliest) -> Name
     }
 }
 
+// Its rank; where none waits, the last, which is no express wait's.
+fn rank_of(first: Earliest) -> u8
+    ensures { λ r. ⌜ r ≡ rankOf first ⌝ }
+{
+    match first {
+        Earliest::NoWait => REPLY,
+        Earliest::First(w) => w.rank,
+    }
+}
+
 // Its record; where none waits, a blank one.
 fn record_of(s: Source, first: Earliest) -> Record
     ensures { λ r. ⌜ r ≡ recordOf s first ⌝ }
@@ -137,7 +122,7 @@ fn asker_in(me: Host, slot: Slot) -> Host
 {
     match slot {
         Slot::Empty => me,
-        Slot::Waiting(_) => me,
+        Slot::Waiting(_, _) => me,
         Slot::Held(reply) => match reply {
             Reply::No => me,
             Reply::Due(_, requester) => requester,
@@ -145,34 +130,83 @@ fn asker_in(me: Host, slot: Slot) -> Host
     }
 }
 
-// What waits under a name goes out.
-fn fired_answer(t: Moment, name: Name, cue: [u8; 24], slot: Slot, out: &mut [u8]) -> Answer
-    requires { ⌜ roomNeeded ≤ length (now out) ⌝ }
-    ensures { λ r. ⌜ r ≡ answerOf (Did (firedEffect t name cue slot)) ⌝ }
-    ensures { λ _. ⌜ now (out .exit) ≡ bufferOf (Did (firedEffect t name cue slot)) (now (out .entry)) ⌝ }
+// The sender of the kept pair; where none is kept, host 0.
+fn kept_sender(pair: Pair) -> Host
+    ensures { λ r. ⌜ r ≡ keptSender pair ⌝ }
 {
-    let me = t.me;
+    match pair {
+        Pair::NoPair => Host(0),
+        Pair::Kept(_, sender, _) => sender,
+    }
+}
+
+// A cue is asked for: an express wait goes out as XPRS, which names the kept sender, and a request as RQST.
+fn put_request(t: Moment, rank: u8, name: Name, kept: Host, cue: [u8; 24], out: &mut [u8]) -> Answer
+    requires { ⌜ roomNeeded ≤ length (now out) ⌝ }
+    ensures { λ r. ⌜ r ≡ answerOf (Did (askedEffect t rank name kept)) ⌝ }
+    ensures { λ _. ⌜ now (out .exit) ≡ bufferOf (Did (askedEffect t rank name kept)) (now (out .entry)) ⌝ }
+{
+    if rank == EXPRESS {
+        compose::put_name(XPRS, t, name, kept, 0, cue, out)
+    } else {
+        compose::put_name(RQST, t, name, t.me, 0, cue, out)
+    }
+}
+
+// What waits under a name goes out.
+fn fired_answer(
+    t: Moment,
+    rank: u8,
+    name: Name,
+    kept: Host,
+    cue: [u8; 24],
+    slot: Slot,
+    out: &mut [u8],
+) -> Answer
+    requires { ⌜ roomNeeded ≤ length (now out) ⌝ }
+    ensures { λ r. ⌜ r ≡ answerOf (Did (firedEffect t rank name kept cue slot)) ⌝ }
+    ensures { λ _. ⌜ now (out .exit) ≡ bufferOf (Did (firedEffect t rank name kept cue slot)) (now (out .entry)) ⌝ }
+{
     match slot {
         Slot::Empty => Answer::Nothing,
-        Slot::Waiting(_) => put_name(RQST, t, name, me, 0, cue, out),
+        Slot::Waiting(_, _) => put_request(t, rank, name, kept, cue, out),
         Slot::Held(reply) => match reply {
             Reply::No => Answer::Nothing,
-            Reply::Due(_, requester) => put_name(REPL, t, name, requester, 1, cue, out),
+            Reply::Due(_, requester) => compose::put_name(REPL, t, name, requester, 1, cue, out),
         },
     }
 }
 
-// The source once it has: the next round, or no reply and its quiet time, by the distance d to who asked.
-fn fired_source(t: Moment, draws: &[Draw], n: CueNumber, d: u64, slot: Slot, s: Source) -> Source
+// The source once its cue was asked for: an express wait is dropped, and a request has its next round.
+fn asked_source(t: Moment, draws: &[Draw], rank: u8, n: CueNumber, q: Request, s: Source) -> Source
+    requires { ⌜ Ranges t (s .distance) ⌝ }
+    requires { ⌜ Numbered (n .0) (length (now draws)) ⌝ }
+    ensures { λ r. ⌜ r ≡ askedSource t (now (draws .entry)) rank (n .0) q s ⌝ }
+{
+    if rank == EXPRESS {
+        records::drop_express(s, n)
+    } else {
+        let k = timing::next_round(q.round);
+        records::set_round(s, t, draws, n, k)
+    }
+}
+
+// The source once it has: no express wait or the next round, or no reply and its quiet time, by the distance d to who asked.
+fn fired_source(
+    t: Moment,
+    draws: &[Draw],
+    rank: u8,
+    n: CueNumber,
+    d: u64,
+    slot: Slot,
+    s: Source,
+) -> Source
     requires { ⌜ Waited t s (n .0) d (length (now draws)) ⌝ }
-    ensures { λ r. ⌜ r ≡ firedSource t (now (draws .entry)) (n .0) d slot s ⌝ }
+    ensures { λ r. ⌜ r ≡ firedSource t (now (draws .entry)) rank (n .0) d slot s ⌝ }
 {
     match slot {
         Slot::Empty => s,
-        Slot::Waiting(q) => {
-            let k = timing::next_round(q.round);
-            records::set_round(s, t, draws, n, k)
-        }
+        Slot::Waiting(q, _) => asked_source(t, draws, rank, n, q, s),
         Slot::Held(reply) => match reply {
             Reply::No => s,
             Reply::Due(_, _) => records::quiet_reply(s, t, n, d),
@@ -190,8 +224,11 @@ pub fn fire(e: End, draws: &[Draw], out: &mut [u8]) -> Stepped
     let t = state::moment_of(e);
     let first = earliest::earliest_wait(e);
     let name = name_of(first);
+    let rank = rank_of(first);
     let at = name.source.0 as usize;
     let s = end.sources[at];
+    let pair = s.pair;
+    let kept = kept_sender(pair);
     let r = record_of(s, first);
     let slot = r.slot;
     let cue = r.cue;
@@ -199,8 +236,8 @@ pub fn fire(e: End, draws: &[Draw], out: &mut [u8]) -> Stepped
     let to = asker.0 as usize;
     let asked = end.sources[to];
     let d = asked.distance;
-    let answer = fired_answer(t, name, cue, slot, out);
-    let s1 = fired_source(t, draws, name.number, d, slot, s);
+    let answer = fired_answer(t, rank, name, kept, cue, slot, out);
+    let s1 = fired_source(t, draws, rank, name.number, d, slot, s);
     end.sources[at] = s1;
     Stepped { answer, end }
 }
@@ -214,6 +251,6 @@ pub fn report(e: End, out: &mut [u8]) -> Stepped
     ensures { λ _. ⌜ now (out .exit) ≡ bufferOf (Did (otherOf [] Report e .effect)) (now (out .entry)) ⌝ }
 {
     let m = compose::session_message(e);
-    let answer = put(m, out);
+    let answer = compose::put(m, out);
     Stepped { answer, end: e }
 }

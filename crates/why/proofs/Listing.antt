@@ -11,7 +11,7 @@ use Rattle.end.specs.Sound.{allBelow, soundOf}
 use Rattle.end.specs.Round.{factor, share}
 use Rattle.end.specs.Names.{filled, lacking, riseWith}
 use Rattle.end.specs.Records.{recordAt}
-use Rattle.end.specs.Decide.{sameCue, decideData, reached, decideReply, decideRound, decideRequest, decideRepair, decideAs, apply, effectOf, stepAt}
+use Rattle.end.specs.Decide.{sameCue, decideData, reached, decideReply, decideRound, decideRequest, decideExpress, decideRepair, decideAs, apply, effectOf, stepAt}
 use Rattle.end.specs.Session.{allReported, measured, sessionOf}
 use Rattle.end.specs.Arrival.{messageStep}
 use Rattle.end.specs.Fire.{foldUp, earliest, fireAt, fired}
@@ -49,5 +49,5 @@ prints =
     49 ∷ 32 ∷ 49 ∷ 51 ∷ 32 ∷ 105 ∷ 103 ∷ 110 ∷ 111 ∷ 114 ∷ 101 ∷ 100 ∷ 58 ∷ 32 ∷ 97 ∷ 108 ∷ 114 ∷ 101 ∷ 97 ∷ 100 ∷ 121 ∷ 32 ∷ 104 ∷ 101 ∷ 108 ∷ 100 ∷ 10 ∷ []
 
 pub listing : reasonedOf script ≡ prints
-unfolding valueAfter digits cueIn cueWith entries flat section sectionFrom after all rises bytesWith meaningWith inRange hostsFit readRefusal allBelow soundOf factor share filled lacking riseWith recordAt sameCue decideData reached decideReply decideRound decideRequest decideRepair decideAs apply effectOf stepAt allReported measured sessionOf messageStep foldUp earliest fireAt fired movedEnd moveOf arrivalOf actOf stepOf questionOf eventOf whyOf openRefusal openingOf figures decimal signedDecimal allDigits wellWritten unsignedWord signedWord numberAfter onto words same plainVerb laterVerb verbWith lineIn lineOf answerWords answerLine turnOf playedOf printedLine printsFrom
+unfolding valueAfter digits cueIn cueWith entries flat section sectionFrom after all rises bytesWith meaningWith inRange hostsFit readRefusal allBelow soundOf factor share filled lacking riseWith recordAt sameCue decideData reached decideReply decideRound decideRequest decideExpress decideRepair decideAs apply effectOf stepAt allReported measured sessionOf messageStep foldUp earliest fireAt fired movedEnd moveOf arrivalOf actOf stepOf questionOf eventOf whyOf openRefusal openingOf figures decimal signedDecimal allDigits wellWritten unsignedWord signedWord numberAfter onto words same plainVerb laterVerb verbWith lineIn lineOf answerWords answerLine turnOf playedOf printedLine printsFrom
 listing = refl

@@ -5,7 +5,7 @@ use std::fmt::Write as _;
 use std::io::{self, BufWriter, Write};
 use twin::cue::Cue;
 use twin::message::{
-    put_together, put_together_old, Echo, Message, Name, Report, DATA, REPL, RQST, SESS,
+    put_together, put_together_old, Echo, Message, Name, Report, DATA, REPL, RQST, SESS, XPRS,
 };
 use twin::panel::{cue_test, verdict, write_data};
 use twin::CLOCK_MAX;
@@ -108,9 +108,9 @@ fn host_but(dice: &mut Dice, none: &[u8]) -> u8 {
     dice.pick(&hosts)
 }
 
-/// A message of one of the four kinds, as it should be.
+/// A message of one of the five kinds, as it should be.
 fn good(dice: &mut Dice) -> Message {
-    let kind = dice.pick(&[DATA, RQST, REPL, SESS]);
+    let kind = dice.pick(&[DATA, RQST, REPL, SESS, XPRS]);
     let mut message = Message {
         kind,
         sender: host(dice),
@@ -133,6 +133,7 @@ fn name(dice: &mut Dice, message: &mut Message) {
     let sender = message.sender;
     let (source, host) = match message.kind {
         RQST => (host_but(dice, &[sender]), sender),
+        XPRS => (host_but(dice, &[sender]), host_but(dice, &[sender])),
         REPL => {
             let source = host(dice);
             (source, host_but(dice, &[sender, source]))
@@ -145,7 +146,7 @@ fn name(dice: &mut Dice, message: &mut Message) {
         number,
         host,
     });
-    if message.kind != RQST {
+    if message.kind != RQST && message.kind != XPRS {
         message.cues.push(cue(dice));
     }
 }

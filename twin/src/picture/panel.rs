@@ -397,7 +397,8 @@ fn line_class(status: Status) -> &'static str {
 pub fn class_of(kind: u8) -> &'static str {
     match kind {
         message::DATA => "data",
-        message::RQST => "rqst",
+        // Kind 21 asks as RQST does, and has its colour.
+        message::RQST | message::XPRS => "rqst",
         message::REPL => "repl",
         message::SESS => "sess",
         _ => "bytes",

@@ -269,6 +269,7 @@ fn sent(bytes: &[u8]) -> Sent {
         message::DATA => "DATA",
         message::RQST => "RQST",
         message::REPL => "REPL",
+        message::XPRS => "XPRS",
         _ => "SESS",
     };
     let words = match name_in(&message) {

@@ -2,14 +2,14 @@
 
 use super::stage::Spot;
 use super::Run;
-use crate::end::{Heard, Params, Reply, Request, Status, TIME_LIMIT};
+use crate::end::{Heard, Pair, Params, Reply, Request, Status, TIME_LIMIT};
 use crate::trace::{At, Field};
 use crate::{CLOCK_MAX, HOSTS};
 
 type Change = fn(&mut Run, usize);
 
 /// One row for each field of an end.
-const CHANGES: [(u64, Change); 17] = [
+const CHANGES: [(u64, Change); 19] = [
     (3, next),
     (2, clock),
     (2, parameter),
@@ -17,6 +17,8 @@ const CHANGES: [(u64, Change); 17] = [
     (2, status),
     (4, span),
     (4, missed),
+    (5, pair),
+    (4, express),
     (4, distance),
     (4, heard),
     (2, body),
@@ -93,9 +95,14 @@ fn clock(run: &mut Run, place: usize) {
 }
 
 fn parameter(run: &mut Run, place: usize) {
-    let which = run.dice.below(6) as usize;
+    let which = run.dice.below(8) as usize;
     let value = run.dice.pick(&[33, 32, 255, 0]);
     let mut p = run.stage.ends[place].params;
+    if which >= 6 {
+        // "E above 1000" (document 02, P8).
+        p.e = run.dice.pick(&[0, 1, 1000, 1001, 1001, 65_535]);
+        return run.stage.set(place, Field::Params(p));
+    }
     let Params {
         c1,
         c2,
@@ -103,6 +110,7 @@ fn parameter(run: &mut Run, place: usize) {
         d1,
         d2,
         d3,
+        e: _,
     } = &mut p;
     *[c1, c2, c3, d1, d2, d3][which] = value;
     run.stage.set(place, Field::Params(p));
@@ -168,6 +176,60 @@ fn missed(run: &mut Run, place: usize) {
     run.stage.set(place, Field::Missed(source, value));
 }
 
+/// "a kept pair's sender is always another, and non-members keep none" (document 02, P8).
+fn pair(run: &mut Run, place: usize) {
+    let me = run.stage.ends[place].host;
+    let source = run.likely_source(place);
+    let other = run.dice.host_but(&[me]);
+    let (requester, sender) = run.dice.pick(&[
+        (me, other),
+        (other, other),
+        (other, source),
+        (source, other),
+        (me, me),
+        (other, me),
+        (HOSTS, other),
+        (255, other),
+        (me, HOSTS),
+        (me, 255),
+    ]);
+    let number = run.name_near(place, source).number;
+    let pair = Pair {
+        requester,
+        sender,
+        number,
+    };
+    let field = match run.dice.one_in(8) {
+        true => Field::NoPair(source),
+        false => Field::Pair(source, pair),
+    };
+    run.stage.set(place, field);
+}
+
+/// "a sound state has one only beside a request and with a kept pair"; "due and quiet times are below 2^48+2^32".
+fn express(run: &mut Run, place: usize) {
+    let spot = run.other_spot(place);
+    let me = run.stage.ends[place].host;
+    let (now, limit) = (run.own_clock(place), run.limit());
+    let express = Some(run.dice.pick(&[now, limit]));
+    let request = Request {
+        express,
+        ..request(1, now, 0)
+    };
+    run.stage.set(place, Field::Waits(spot, request));
+    let source = spot.source;
+    if run.dice.one_in(3) {
+        run.stage.set(place, Field::NoPair(source));
+    } else {
+        let pair = Pair {
+            requester: run.dice.small(8),
+            sender: run.dice.host_but(&[me]),
+            number: 0,
+        };
+        run.stage.set(place, Field::Pair(source, pair));
+    }
+}
+
 fn distance(run: &mut Run, place: usize) {
     let source = run.dice.small(8);
     let value = run.dice.pick(&[0, 1001, u64::MAX, 1000, 1, 39, 41]);
@@ -209,6 +271,7 @@ fn request(round: u8, due: u64, quiet_until: u64) -> Request {
         round,
         due,
         quiet_until,
+        express: None,
     }
 }
 

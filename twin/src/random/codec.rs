@@ -133,7 +133,7 @@ impl Run {
             place: self.dice.small(64),
         };
         let other = self.dice.small(10);
-        let asked = match self.dice.below(14) {
+        let asked = match self.dice.below(16) {
             0 => return self.stage.line(Does::AskOutput),
             1 => Asked::Clock,
             2 => Asked::Next,
@@ -145,6 +145,7 @@ impl Run {
             8 => Asked::Heard(source),
             9 => Asked::Same(other),
             10 | 11 => Asked::Missed(source),
+            12 | 13 => Asked::Pair(source),
             _ => Asked::Record(at),
         };
         self.stage.line(Does::Ask { end, asked });

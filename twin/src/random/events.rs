@@ -2,7 +2,7 @@
 
 use super::messages::Reader;
 use super::Run;
-use crate::end::{Body, Status};
+use crate::end::{Body, Record, Status};
 use crate::trace::Verb;
 use crate::CLOCK_MAX;
 
@@ -47,6 +47,16 @@ const OF_MEMBERS: [(u64, Option<Kind>); 5] = [
     (7, None),
 ];
 
+/// When what waits in a record is due.
+fn dues(record: &Record) -> impl Iterator<Item = u64> {
+    let (express, other) = match (record.body, record.reply) {
+        (Body::Waiting(request), _) => (request.express, Some(request.due)),
+        (_, Some(reply)) => (None, Some(reply.due)),
+        _ => (None, None),
+    };
+    express.into_iter().chain(other)
+}
+
 impl Run {
     /// The next event of one of the eight: mostly what leads to membership and belongs to it.
     pub fn kind(&mut self, who: usize) -> Kind {
@@ -85,11 +95,7 @@ impl Run {
     fn due_about(&mut self, who: usize, usual: u64) -> Option<u64> {
         let records = self.stage.ends[who].sources.iter().flat_map(|s| &s.names);
         let dues: Vec<u64> = records
-            .filter_map(|record| match (record.body, record.reply) {
-                (Body::Waiting(request), _) => Some(request.due),
-                (_, Some(reply)) => Some(reply.due),
-                _ => None,
-            })
+            .flat_map(dues)
             .filter(|&due| due > usual && due < usual + 20_000 && due < CLOCK_MAX)
             .collect();
         if dues.is_empty() {
@@ -98,6 +104,12 @@ impl Run {
         let clock = self.dice.pick(&dues) - 1 + self.dice.pick(&[0, 1, 1, 1, 2]);
         self.now = self.now.max(clock.saturating_sub(self.ahead[who]));
         Some(clock)
+    }
+
+    /// The earliest due time of an end.
+    pub fn first_due(&self, who: usize) -> Option<u64> {
+        let records = self.stage.ends[who].sources.iter().flat_map(|s| &s.names);
+        records.flat_map(dues).min()
     }
 
     pub fn bad_clock(&mut self, own: u64) -> u64 {

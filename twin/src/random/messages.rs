@@ -22,7 +22,7 @@ pub fn about(kind: u8, sender: u8, stamp: u64, name: Spot, host: u8, cue: Cue) -
             host,
         }],
         cues: match kind {
-            message::RQST => vec![],
+            message::RQST | message::XPRS => vec![],
             _ => vec![cue],
         },
         reports: vec![],
@@ -135,7 +135,7 @@ impl Run {
         let mut bytes = self.dice.bytes(length as usize);
         // Every other time it begins as a message would, with counts of sections that may fit.
         if length >= 12 && self.dice.one_in(2) {
-            bytes[0] = self.dice.pick(&[1, 17]) + self.dice.small(4);
+            bytes[0] = self.dice.pick(&[1, 17]) + self.dice.small(5);
             bytes[1] = self.dice.small(8);
             bytes[2..8].fill(0);
             bytes[8] = self.dice.small(2);
@@ -305,11 +305,17 @@ impl Run {
             (4, message::RQST),
             (4, message::REPL),
             (4, message::SESS),
+            (3, message::XPRS),
         ]) {
             message::DATA => about(message::DATA, source, stamp, name, source, cue),
             message::RQST => {
                 let sender = self.dice.host_but(&[source]);
                 about(message::RQST, sender, stamp, name, sender, cue)
+            }
+            message::XPRS => {
+                let sender = self.dice.host_but(&[source]);
+                let host = self.named_by(sender, reader.place);
+                about(message::XPRS, sender, stamp, name, host, cue)
             }
             message::REPL => {
                 let sender = self.dice.small(8);
@@ -317,6 +323,15 @@ impl Run {
                 about(message::REPL, sender, stamp, name, requester, cue)
             }
             _ => self.compose_session(reader.place, clock, stamp),
+        }
+    }
+
+    /// The host that kind 21 names: every other time its reader, else any; never its sender.
+    pub fn named_by(&mut self, sender: u8, place: usize) -> u8 {
+        let reader = self.stage.ends[place].host;
+        match reader < 8 && reader != sender && self.dice.one_in(2) {
+            true => reader,
+            false => self.dice.host_but(&[sender]),
         }
     }
 

@@ -38,8 +38,9 @@ pub fn trace(seed: u64, steps: u64) -> Result<String, String> {
 type Part = fn(&mut Run);
 
 /// The parts of a run, and how many of 100 draws choose each.
-const PARTS: [(u64, Part); 10] = [
-    (44, Run::on_one),
+const PARTS: [(u64, Part); 11] = [
+    (43, Run::on_one),
+    (1, Run::way),
     (1, Run::burst),
     (1, Run::late),
     (2, Run::opening),
@@ -167,6 +168,7 @@ impl Run {
             d1,
             d2,
             d3,
+            e: self.express_ticks(),
         }
     }
 
@@ -189,7 +191,21 @@ impl Run {
             d1,
             d2,
             d3,
+            e: self.express_ticks(),
         }
+    }
+
+    /// E (document 02, P8): mostly soon, its edge, now and then past it.
+    fn express_ticks(&mut self) -> u16 {
+        self.dice.weighted(&[
+            (4, 0),
+            (3, 1),
+            (3, 5),
+            (2, 60),
+            (2, 1000),
+            (1, 1001),
+            (1, 65_535),
+        ])
     }
 
     /// An opening whose end is dropped.
@@ -272,6 +288,77 @@ impl Run {
             self.now = CLOCK_MAX.min(self.now + 70_000);
             self.plays(who, Verb::Fire);
         }
+    }
+
+    /// "Lost cues in one row of rooms take the same way every time" (document 02, P8): cues of the talker are lost on their way to one
+    /// other, again and again; its request, or kind 21, and the repair are heard by all.
+    fn way(&mut self) {
+        let who = self.talker;
+        let members: Vec<usize> = (0..8)
+            .filter(|&host| self.stage.ends[host].status == Status::Member)
+            .collect();
+        let others: Vec<usize> = members.iter().copied().filter(|&h| h != who).collect();
+        if others.len() == members.len() || others.is_empty() {
+            return self.on_one();
+        }
+        self.surround(false);
+        let loser = self.dice.pick(&others);
+        for _ in 0..2 + self.dice.below(2) {
+            if self.lost_on_way(who, loser, &others).is_none() {
+                return;
+            }
+        }
+    }
+
+    /// One cue is lost, the next is heard; what the loser fires is heard, and what answers it. None where something of this does not come.
+    fn lost_on_way(&mut self, who: usize, loser: usize, others: &[usize]) -> Option<()> {
+        let cue = self.good_cue();
+        let lost = self.puts_out(who, Verb::Send(cue))?;
+        let cue = self.good_cue();
+        let next = self.puts_out(who, Verb::Send(cue))?;
+        for &host in others {
+            if host != loser && !self.dice.one_in(6) {
+                self.plays(host, Verb::Hear(self.stage.brought(&lost)));
+            }
+            self.plays(host, Verb::Hear(self.stage.brought(&next)));
+        }
+        let request = self.fires(loser)?;
+        let hearers = others.iter().copied().chain([who]);
+        let hearers: Vec<usize> = hearers.filter(|&host| host != loser).collect();
+        let mut reply = None;
+        for &host in &hearers {
+            let heard = self.puts_out(host, Verb::Hear(self.stage.brought(&request)));
+            reply = heard.or(reply);
+        }
+        let reply = match reply {
+            Some(reply) => reply,
+            None => {
+                let host = self.dice.pick(&hearers);
+                self.fires(host)?
+            }
+        };
+        for host in hearers.into_iter().chain([loser]) {
+            if !self.dice.one_in(6) {
+                self.plays(host, Verb::Hear(self.stage.brought(&reply)));
+            }
+        }
+        Some(())
+    }
+
+    /// The message that an event puts out, if any.
+    fn puts_out(&mut self, who: usize, verb: Verb) -> Option<PutOut> {
+        let before = self.stage.messages.len();
+        self.plays(who, verb);
+        self.stage.messages.get(before).cloned()
+    }
+
+    /// A fire at the time when the first of an end's waits is due.
+    fn fires(&mut self, who: usize) -> Option<PutOut> {
+        let due = self.first_due(who)?;
+        if due < self.now + 100_000 {
+            self.now = self.now.max(due.saturating_sub(self.ahead[who]));
+        }
+        self.puts_out(who, Verb::Fire)
     }
 
     /// An original or a repair comes late to one of the eight: of a number just inside the latest 64 of its source, or just below them.

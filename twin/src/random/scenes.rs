@@ -9,7 +9,7 @@ use crate::message::{self, Echo, Message, Report};
 use crate::trace::{Asked, Brought, Does, Field, Verb};
 use crate::{CLOCK_MAX, NUMBERS, PLACES};
 
-const SCENES: [(u64, Part); 19] = [
+const SCENES: [(u64, Part); 22] = [
     (8, request_quiet),
     (8, reply_quiet),
     (10, ties),
@@ -29,6 +29,9 @@ const SCENES: [(u64, Part); 19] = [
     (2, own_window),
     (6, last_number),
     (4, old_kinds),
+    (14, express_gap),
+    (8, pairs),
+    (10, kind_21),
 ];
 
 impl Run {
@@ -76,7 +79,14 @@ fn ties(run: &mut Run) {
         let due = due + run.dice.pick(&[0, 0, 0, 1]);
         if name.source != me && run.dice.one_in(2) {
             let round = 1 + run.dice.small(16);
-            run.waits(name, round, due, 0);
+            match run.dice.below(3) {
+                // "Express waits come before requests in ties." (document 02, P8)
+                0 => {
+                    let request = due + run.dice.pick(&[0, 0, 1, 500]);
+                    run.waits_express(name, round, request, due);
+                }
+                _ => run.waits(name, round, due, 0),
+            }
         } else {
             run.replies(name, due);
         }
@@ -141,7 +151,7 @@ fn span_edges(run: &mut Run) {
     let name = run.name_near(SPARE, source);
     let kind = run
         .dice
-        .pick(&[message::DATA, message::RQST, message::REPL]);
+        .pick(&[message::DATA, message::RQST, message::REPL, message::XPRS]);
     let ticks = run.dice.below(3);
     run.hears_of(kind, name, ticks);
 }
@@ -158,6 +168,11 @@ impl Run {
             message::RQST => {
                 let sender = self.dice.host_but(&[me, source]);
                 about(message::RQST, sender, stamp, name, sender, cue)
+            }
+            message::XPRS => {
+                let sender = self.dice.host_but(&[me, source]);
+                let host = self.named_by(sender, SPARE);
+                about(message::XPRS, sender, stamp, name, host, cue)
             }
             message::REPL => {
                 let sender = self.dice.host_but(&[me]);
@@ -289,6 +304,10 @@ fn looped(run: &mut Run) {
     let requester = run.dice.host_but(&[me, source]);
     let message = match run.dice.below(3) {
         0 if source == me => about(message::DATA, me, 5, name, me, cue),
+        0 if source != me && run.dice.one_in(2) => {
+            let host = run.dice.host_but(&[me]);
+            about(message::XPRS, me, 5, name, host, cue)
+        }
         0 if source != me => about(message::RQST, me, 5, name, me, cue),
         1 => about(message::REPL, me, 5, name, requester, cue),
         _ => {
@@ -337,7 +356,7 @@ fn two_reasons(run: &mut Run) {
 }
 
 impl Run {
-    /// An RQST or REPL about a name, every other time of oneself.
+    /// An RQST, kind 21 or REPL about a name, every other time of oneself.
     fn looped_or_not(&mut self, me: u8, name: Spot) -> Message {
         let source = name.source;
         let other = self.dice.host_but(&[me, source]);
@@ -345,6 +364,10 @@ impl Run {
         let cue = self.cue_of(SPARE, name);
         if self.dice.one_in(2) && !(looped && source == me) {
             let sender = if looped { me } else { other };
+            if self.dice.one_in(3) {
+                let host = self.named_by(sender, SPARE);
+                return about(message::XPRS, sender, 5, name, host, cue);
+            }
             return about(message::RQST, sender, 5, name, sender, cue);
         }
         let sender = if looped { me } else { other };
@@ -416,8 +439,14 @@ fn probe(run: &mut Run) {
     }
 }
 
-/// The four kinds by which another's last rises.
-const RISES: [u8; 4] = [message::DATA, message::RQST, message::REPL, message::SESS];
+/// The kinds by which another's last rises.
+const RISES: [u8; 5] = [
+    message::DATA,
+    message::RQST,
+    message::REPL,
+    message::SESS,
+    message::XPRS,
+];
 
 /// "An end keeps the latest 64 numbers of each source: when last rises to L, numbers below L−63 are retired with their waits" (document
 /// 02, P7): another's window is filled by a report, its lowest numbers are stirred, and then a number just below, inside or above it comes.
@@ -543,5 +572,127 @@ fn old_kinds(run: &mut Run) {
         let bytes = run.old_kind(&reader);
         let verb = Verb::Hear(Brought::Bytes(bytes));
         run.stage.act(COPY, clock, verb);
+    }
+}
+
+/// "A member that sets round 1 by a gap before a DATA, not a REPL, and is that requester also sets an express wait, due E ticks on"; "An
+/// express wait goes with its request" (document 02, P8): a gap, then something that leaves, renews or ends the request, and fires about the
+/// due time.
+fn express_gap(run: &mut Run) {
+    let source = run.name(true).source;
+    let (_, last) = run.stage.span(SPARE, source).unwrap_or((0, 0));
+    if !run.dice.one_in(8) {
+        run.keeps_pair(source, last);
+    }
+    let e = run.dice.pick(&[0, 1, 5, 5, 60, 1000]);
+    let mut params = run.stage.ends[SPARE].params;
+    params.e = e;
+    run.stage.set(SPARE, Field::Params(params));
+    let number = last.saturating_add(run.dice.pick(&[1, 2, 2, 2, 3, 3, 5, 63, 64, 65, 70]));
+    let kind = run.dice.weighted(&[
+        (8, message::DATA),
+        (2, message::REPL),
+        (1, message::RQST),
+        (1, message::SESS),
+        (1, message::XPRS),
+    ]);
+    run.hears_of(kind, Spot { source, number }, 0);
+    let between = Spot {
+        source,
+        number: number.saturating_sub(1),
+    };
+    match run.dice.below(8) {
+        0 => run.hears_of(message::DATA, between, 0),
+        1 => run.hears_of(message::REPL, between, 0),
+        2 | 3 => {
+            let ticks = run.dice.pick(&[1, 500, 5000]);
+            run.hears_request(between, ticks);
+        }
+        4 => {
+            let number = number.saturating_add(run.dice.pick(&[62, 63, 64]));
+            run.hears_of(message::SESS, Spot { source, number }, 0);
+        }
+        5 => {
+            // "with the sender then kept": another pair before it fires.
+            let number = last.saturating_add(run.dice.pick(&[0, 1]));
+            run.hears_of(message::REPL, Spot { source, number }, 0);
+        }
+        6 if run.dice.one_in(3) => {
+            let clock = run.after(0);
+            for event in [Verb::Leave, Verb::Left, Verb::Join, Verb::Joined] {
+                run.does(clock, event);
+            }
+        }
+        _ => {}
+    }
+    let e = u64::from(e);
+    let ticks = run
+        .dice
+        .pick(&[e.saturating_sub(1), e, e, e + 1, e + 20_000]);
+    let clock = run.after(ticks);
+    for _ in 0..3 {
+        run.does(clock, Verb::Fire);
+    }
+}
+
+/// "the requester and sender of the latest REPL answered Got or Done that named a number at least as high as the kept one's" (document 02,
+/// P8): REPLs about the kept number.
+fn pairs(run: &mut Run) {
+    let name = run.name(false);
+    let Spot { source, number } = name;
+    if !run.dice.one_in(4) {
+        let near = run.dice.pick(&[
+            number,
+            number,
+            number.saturating_sub(1),
+            number.saturating_add(1),
+            0,
+            65_535,
+        ]);
+        run.keeps_pair(source, near);
+    }
+    for _ in 0..2 {
+        let number = run.dice.pick(&[
+            number,
+            number,
+            number.saturating_sub(1),
+            number.saturating_add(1),
+        ]);
+        run.hears_of(message::REPL, Spot { source, number }, 1);
+        let end = SPARE as u8;
+        let asked = Asked::Pair(source);
+        run.stage.line(Does::Ask { end, asked });
+    }
+}
+
+/// "The named sender, if it holds the cue and clock ≥ reply-quiet, drops its waiting reply, sets reply-quiet as Fire does and answers Out
+/// REPL in that call [...]. Otherwise it, like every other end, treats kind 21 as RQST from its sender." (document 02, P8)
+fn kind_21(run: &mut Run) {
+    let me = run.me();
+    let name = run.name(false);
+    let quiet = 1 + run.dice.below(5);
+    match run.dice.below(5) {
+        0 if name.source != me => run.waits(name, 1, 9, quiet),
+        1 | 2 => run.replies(name, 9),
+        _ => run.held(name),
+    }
+    if !run.dice.one_in(3) {
+        run.hush(name, quiet);
+    }
+    if run.dice.one_in(3) {
+        let distance = run.dice.pick(&[1, 7, 999]);
+        let host = run.dice.host_but(&[me]);
+        run.stage.set(SPARE, Field::Distance(host, distance));
+    }
+    let sender = run.dice.host_but(&[me, name.source]);
+    let other = run.dice.host_but(&[sender]);
+    let host = run.dice.pick(&[me, me, me, other]);
+    let cue = run.good_cue();
+    let ticks = quiet - 1 + run.dice.below(3);
+    let clock = run.after(ticks);
+    run.hears(clock, about(message::XPRS, sender, 7, name, host, cue));
+    if run.dice.one_in(2) {
+        let clock = run.after(9);
+        run.does(clock, Verb::Fire);
     }
 }

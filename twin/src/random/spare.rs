@@ -4,7 +4,7 @@ use super::events::ANY;
 use super::messages::{about, composed};
 use super::stage::{Spot, COPY, SPARE};
 use super::Run;
-use crate::end::{Reply, Request, Status};
+use crate::end::{Pair, Reply, Request, Status};
 use crate::message::{self, Message};
 use crate::trace::{Does, Field, Verb};
 use crate::CLOCK_MAX;
@@ -204,8 +204,39 @@ impl Run {
             round,
             due: now + due,
             quiet_until: now + quiet,
+            express: None,
         };
         self.stage.set(SPARE, Field::Waits(name.at(), request));
+    }
+
+    /// A request of this name waits with its express wait (document 02, P8), their times so many ticks on; a pair is kept.
+    pub fn waits_express(&mut self, name: Spot, round: u8, due: u64, express: u64) {
+        if self.stage.ends[SPARE].sources[usize::from(name.source)]
+            .pair
+            .is_none()
+        {
+            self.keeps_pair(name.source, name.number);
+        }
+        let now = self.spare_now();
+        let request = Request {
+            round,
+            due: now + due,
+            quiet_until: now,
+            express: Some(now + express),
+        };
+        self.stage.set(SPARE, Field::Waits(name.at(), request));
+    }
+
+    /// A pair is kept for a source, mostly with oneself as requester.
+    pub fn keeps_pair(&mut self, source: u8, number: u16) {
+        let me = self.me();
+        let other = self.dice.host_but(&[me]);
+        let pair = Pair {
+            requester: self.dice.pick(&[me, me, me, other]),
+            sender: self.dice.host_but(&[me]),
+            number,
+        };
+        self.stage.set(SPARE, Field::Pair(source, pair));
     }
 
     /// A reply for this name waits, its due time so many ticks on; the cue is held.
@@ -237,6 +268,10 @@ impl Run {
         let soon = self.dice.below(3);
         match self.dice.below(3) {
             0 => self.replies(name, soon),
+            1 if name.source != self.me() && self.dice.one_in(3) => {
+                let (round, due) = (1 + self.dice.small(16), self.dice.below(3));
+                self.waits_express(name, round, due, soon);
+            }
             1 if name.source != self.me() => {
                 let (round, quiet) = (1 + self.dice.small(16), self.dice.below(3));
                 self.waits(name, round, soon, quiet);
@@ -252,9 +287,14 @@ impl Run {
         let cue = self.good_cue();
         let clock = self.after(ticks);
         let stamp = self.dice.below(1000);
-        self.hears(
-            clock,
-            about(message::RQST, sender, stamp, name, sender, cue),
-        );
+        // Every other end "treats kind 21 as RQST from its sender" (document 02, P8).
+        let message = match self.dice.one_in(4) {
+            true => {
+                let host = self.named_by(sender, SPARE);
+                about(message::XPRS, sender, stamp, name, host, cue)
+            }
+            false => about(message::RQST, sender, stamp, name, sender, cue),
+        };
+        self.hears(clock, message);
     }
 }

@@ -4,7 +4,8 @@
 use twin::cue::Cue;
 use twin::end::place_of;
 use twin::end::{
-    Answer, Body, End, Event, Heard, Record, Reply, Request, Source, Status, TIME_LIMIT,
+    Answer, Body, End, Event, Heard, Pair, Params, Record, Reply, Request, Source, Status,
+    TIME_LIMIT,
 };
 use twin::message::Message;
 use twin::{CLOCK_MAX, DRAWS, OUTPUT_LEN};
@@ -43,6 +44,7 @@ fn sound_end(rng: &mut Rng) -> End {
     let mut p = [0; 6];
     p.fill_with(|| rng.small(33));
     end.params = params(p);
+    end.params.e = rng.number(1001);
     end.clock = match rng.below(3) {
         0 => CLOCK_MAX - rng.below(100),
         1 => rng.below(CLOCK_MAX),
@@ -68,6 +70,15 @@ fn sound_end(rng: &mut Rng) -> End {
                 });
             }
         }
+        let pair = &mut end.sources[usize::from(source)].pair;
+        if !rng.once_in(3) {
+            *pair = Some(Pair {
+                requester: if rng.once_in(2) { host } else { rng.small(8) },
+                sender: other_than(rng, &[host]),
+                number: any_number(rng),
+            });
+        }
+        let paired = pair.is_some();
         if rng.once_in(3) || (own && end.next == 0) {
             continue;
         }
@@ -102,6 +113,10 @@ fn sound_end(rng: &mut Rng) -> End {
                     round: 1 + rng.small(16),
                     due: time(rng, end.clock),
                     quiet_until: time(rng, end.clock),
+                    express: match paired && rng.once_in(2) {
+                        true => Some(time(rng, end.clock)),
+                        false => None,
+                    },
                 });
             }
             end.sources[usize::from(source)].names[place_of(number)] = record;
@@ -124,7 +139,8 @@ fn any_number(rng: &mut Rng) -> u16 {
 fn any_message(rng: &mut Rng) -> Message {
     let (source, number, cue) = (rng.small(8), any_number(rng), rng.cue());
     let sender = other_than(rng, &[source]);
-    let mut message = match rng.below(4) {
+    let mut message = match rng.below(5) {
+        4 => xprs(sender, source, number, other_than(rng, &[sender])),
         0 => data(source, number, cue),
         1 => rqst(sender, source, number),
         2 => {
@@ -218,6 +234,7 @@ fn any_record(rng: &mut Rng) -> Record {
                 round: any(rng) as u8,
                 due: any(rng),
                 quiet_until: any(rng),
+                express: maybe(rng, any),
             }),
         },
         cue,
@@ -229,11 +246,20 @@ fn any_record(rng: &mut Rng) -> Record {
     }
 }
 
+fn any_pair(rng: &mut Rng) -> Pair {
+    Pair {
+        requester: any(rng) as u8,
+        sender: any(rng) as u8,
+        number: any(rng) as u16,
+    }
+}
+
 fn any_source(rng: &mut Rng) -> Source {
     Source {
         first: maybe(rng, |rng| any(rng) as u16),
         last: maybe(rng, |rng| any(rng) as u16),
         missed: any(rng) as u32,
+        pair: maybe(rng, any_pair),
         distance: any(rng),
         heard: maybe(rng, |rng| Heard {
             stamp: any(rng),
@@ -252,7 +278,9 @@ fn any_state_can_be_asked() {
     for _ in 0..6000 {
         let mut end = sound_end(&mut rng);
         let (s, n) = (rng.small(8) as usize, rng.small(64) as usize);
-        match rng.below(11) {
+        match rng.below(13) {
+            11 => end.params.e = any(&mut rng) as u16,
+            12 => end.sources[s].pair = maybe(&mut rng, any_pair),
             0 => end.host = any(&mut rng) as u8,
             1 => end.params.c1 = any(&mut rng) as u8,
             2 => end.params.d3 = any(&mut rng) as u8,
@@ -286,7 +314,10 @@ fn anything_at_all_can_be_asked() {
         p.fill_with(|| rng.byte());
         let mut end = End {
             host: any(&mut rng) as u8,
-            params: params(p),
+            params: Params {
+                e: any(&mut rng) as u16,
+                ..params(p)
+            },
             clock: any(&mut rng),
             status: STATUSES[rng.below(5) as usize],
             next: any(&mut rng) as u32,

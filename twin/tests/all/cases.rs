@@ -47,6 +47,19 @@ fn opening() {
         assert_eq!(end, crashed);
         assert!(end.sound());
     }
+    // Document 02, P8: "Opening with E above 1000 is refused as 14, checked after 13."
+    for (host, p, e, number) in [
+        (3, [9, 8, 4, 4, 4, 8], 1000, None),
+        (3, [9, 8, 4, 4, 4, 8], 1001, Some(14)),
+        (3, [9, 8, 4, 4, 4, 8], u16::MAX, Some(14)),
+        (3, [9, 8, 9, 4, 4, 8], 1001, Some(13)),
+        (8, [9, 8, 4, 4, 4, 8], 1001, Some(12)),
+    ] {
+        let opened = End::open(host, Params { e, ..params(p) });
+        assert_eq!(opened.0, number);
+        assert_eq!(opened.1.params.e, if number.is_none() { e } else { 0 });
+        assert!(opened.1.sound());
+    }
     for p in [
         [5, 0, 4, 1, 0, 8],
         [9, 32, 8, 4, 5, 8],

@@ -185,6 +185,7 @@ fn rounds() {
             round: round as u8,
             due: clock + f * 9 * 7 + f * 8 * 7 * 25_699 / 65535,
             quiet_until: clock + f * 4 * 7,
+            express: None,
         };
         assert_eq!(request(&end, 0, 4), expected);
         // 56 × 25699 = 1439144; 32768 times that is 719582 × 65535 and 64222 more.
@@ -242,6 +243,7 @@ fn largest_due_stays_below_the_limit() {
         round: 16,
         due: 0,
         quiet_until: 0,
+        express: None,
     });
     let heard = Event::Arrival(bytes(&rqst(2, 0, 1)));
     let answer = watched(&mut end, &heard, CLOCK_MAX, &[65535; DRAWS], OUTPUT_LEN).0;
@@ -252,6 +254,7 @@ fn largest_due_stays_below_the_limit() {
             round: 16,
             due: CLOCK_MAX + 32768 * 64 * 1000,
             quiet_until: CLOCK_MAX + 32768 * 31 * 1000,
+            express: None,
         }
     );
 }
@@ -279,6 +282,7 @@ fn data_rules() {
                 round: 1,
                 due: 10 + 360,
                 quiet_until: 10 + 160,
+                express: None,
             }
         );
     }
@@ -358,6 +362,7 @@ fn rqst_above_last() {
                 round,
                 due: 50 + f * 360,
                 quiet_until: 50 + f * 160,
+                express: None,
             }
         );
     }
@@ -381,6 +386,7 @@ fn rqst_of_a_waiting_name() {
             round: 2,
             due: 161 + 720,
             quiet_until: 161 + 320,
+            express: None,
         }
     );
 }
@@ -541,6 +547,7 @@ fn sess_raises_lasts() {
                 round: 1,
                 due: 20 + 360,
                 quiet_until: 20 + 160,
+                express: None,
             }
         );
     }

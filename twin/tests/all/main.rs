@@ -4,6 +4,7 @@ mod arbitrary;
 mod book;
 mod cases;
 mod events;
+mod express;
 mod house;
 mod messages;
 mod picture;

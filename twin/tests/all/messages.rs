@@ -2,7 +2,7 @@
 
 use twin::cue::Cue;
 use twin::message::{is_old, put_together_old, write, write_probe};
-use twin::message::{Datagram, Echo, Message, Name, Report, DATA, REPL, RQST, SESS};
+use twin::message::{Datagram, Echo, Message, Name, Report, DATA, REPL, RQST, SESS, XPRS};
 use twin::{CLOCK_MAX, OUTPUT_LEN};
 
 use crate::support::*;
@@ -31,6 +31,8 @@ fn samples() -> Vec<Message> {
         rqst(1, 0, 1),
         repl(2, 0, 9, 1, numbered_cue()),
         repl(0, 0, 9, 1, numbered_cue()),
+        xprs(2, 0, 9, 3),
+        xprs(2, 0, 9, 0),
         sess(3, 0, &[], &[]),
         sess(3, 77, &[(0, 1), (3, 0)], &[(1, 10, 20), (7, 30, 40)]),
         full_sess(),
@@ -135,7 +137,8 @@ fn question_8() {
 /// "the old kinds are still read, numbers to 63, as the same meanings and no longer written".
 #[test]
 fn old_kinds() {
-    for message in samples() {
+    // Kind 21 is for no old one.
+    for message in samples().into_iter().filter(|m| m.kind != XPRS) {
         let small = changed(&message, |m| {
             m.names.iter_mut().for_each(|name| name.number %= 64);
             m.reports.iter_mut().for_each(|report| report.last %= 64);
@@ -158,7 +161,7 @@ fn old_kinds() {
             assert_eq!(answer.err(), refused.then_some(10));
         }
     }
-    for kind in [0, 5, 16, 21, 255] {
+    for kind in [0, 5, 16, 22, 255] {
         let message = changed(&rqst(1, 0, 1), |m| m.kind = kind);
         assert_eq!(read(&put_together_old(&message)), Err(8));
         assert_eq!(read(&lay(&message)), Err(9));
@@ -239,18 +242,19 @@ fn question_9() {
         refused_by_both(&changed(&message, |m| m.names.extend([name, name])), 9);
         refused_by_both(&changed(&message, |m| m.cues.extend([Cue::ZERO; 2])), 9);
     }
-    for message in &samples()[..4] {
+    for message in &samples()[..6] {
         refused_by_both(&changed(message, |m| m.names.clear()), 9);
         refused_by_both(&changed(message, |m| m.reports.push(report)), 9);
         refused_by_both(&changed(message, |m| m.echoes.push(echo)), 9);
         // A SESS with names, a request with a cue, a repair without.
         refused_by_both(&changed(message, |m| m.kind = SESS), 9);
-        let other = if message.kind == RQST { REPL } else { RQST };
+        let asks = [RQST, XPRS].contains(&message.kind);
+        let other = if asks { REPL } else { RQST };
         refused_by_both(&changed(message, |m| m.kind = other), 9);
     }
     refused_by_both(&changed(&full_sess(), |m| m.reports.push(report)), 9);
     refused_by_both(&changed(&full_sess(), |m| m.echoes.push(echo)), 9);
-    refused_by_both(&changed(&samples()[4], |m| m.kind = DATA), 9);
+    refused_by_both(&changed(&samples()[6], |m| m.kind = DATA), 9);
 }
 
 #[test]
@@ -258,7 +262,7 @@ fn question_10() {
     for message in samples() {
         refused_by_both(&changed(&message, |m| m.sender = 8), 10);
     }
-    for message in &samples()[..4] {
+    for message in &samples()[..6] {
         refused_by_both(&changed(message, |m| m.names[0].source = 8), 10);
         refused_by_both(&changed(message, |m| m.names[0].host = 255), 10);
     }
@@ -312,6 +316,10 @@ fn question_11() {
     refused_by_both(&repl(1, 0, 1, 1, Cue::ZERO), 11);
     refused_by_both(&repl(1, 0, 1, 0, Cue::ZERO), 11);
     refused_by_both(&repl(1, 1, 1, 1, Cue::ZERO), 11);
+    // Kind 21: "host and source differ from its own sender, else 11" (document 02, P8).
+    refused_by_both(&xprs(1, 0, 1, 1), 11);
+    refused_by_both(&xprs(1, 1, 1, 2), 11);
+    refused_by_both(&xprs(1, 1, 1, 1), 11);
     // "Reports rise strictly by source, echoes by host; no echo names the sender."
     refused_by_both(&sess(3, 0, &[(2, 0), (2, 1)], &[]), 11);
     refused_by_both(&sess(3, 0, &[(2, 0), (1, 1)], &[]), 11);

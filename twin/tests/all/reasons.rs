@@ -1,6 +1,8 @@
 //! The reason behind Ignored: document 02, P3.
 
-use crate::support::{act, bytes, data, hear, idle, member, repl, rqst, send, sess, with_status};
+use crate::support::{
+    act, bytes, data, hear, idle, member, repl, rqst, send, sess, with_status, xprs,
+};
 use twin::cue::Cue;
 use twin::end::{Body, End, Event, Reply, Request, Status};
 use twin::message::Message;
@@ -83,6 +85,20 @@ fn messages_at_a_member() {
         (rqst(4, 1, 4), 201, None),
         (repl(3, 1, 4, 2, C), 50, None),
         (sess(3, 5, &[(1, 9)], &[(2, 9, 9)]), 50, None),
+        // Document 02, P8: another "treats kind 21 as RQST from its sender", the named one too where it does not answer at once.
+        (xprs(2, 1, 2, 3), 50, Some(OwnMessage)),
+        (xprs(3, 4, 0, 2), 50, Some(SourceNotOpen)),
+        (xprs(3, 1, 2, 2), 50, Some(BelowFirst)),
+        (xprs(3, 2, 1, 2), 50, Some(OwnAboveLast)),
+        (xprs(3, 1, 6, 2), 50, None),
+        (xprs(4, 1, 3, 1), 50, Some(ReplyWaiting)),
+        (xprs(4, 1, 3, 2), 50, None),
+        (xprs(4, 1, 5, 1), 59, Some(ReplyQuiet)),
+        (xprs(4, 1, 5, 2), 59, Some(ReplyQuiet)),
+        (xprs(4, 1, 5, 2), 60, None),
+        (xprs(4, 1, 4, 2), 200, Some(RequestQuiet)),
+        (xprs(4, 1, 4, 2), 201, None),
+        (xprs(4, 2, 0, 2), 50, None),
     ];
     for (message, clock, expected) in rows {
         let expected = expected.map_or(Why::None, Why::Ignored);
@@ -96,6 +112,8 @@ fn messages_at_a_member() {
     let mut both = end.clone();
     both.sources[1].names[3].reply_quiet = 90;
     let asked = why(&both, &arrival(&rqst(4, 1, 3)), 50);
+    assert_eq!(asked, Why::Ignored(ReplyWaiting));
+    let asked = why(&both, &arrival(&xprs(4, 1, 3, 2)), 50);
     assert_eq!(asked, Why::Ignored(ReplyWaiting));
     both.sources[1].names[3].reply = None;
     let asked = why(&both, &arrival(&rqst(4, 1, 3)), 50);

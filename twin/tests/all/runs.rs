@@ -16,6 +16,8 @@ struct Seen {
     repairs: u32,
     requests: u32,
     replies: u32,
+    express: u32,
+    at_once: u32,
     reports: u32,
     left: u32,
     retired: u32,
@@ -45,7 +47,9 @@ fn admissible(rng: &mut Rng) -> Params {
     loop {
         let mut p = [0; 6];
         p.fill_with(|| rng.small(33));
-        let p = params(p);
+        let e = rng.number(1001);
+        let e = [0, 5, e][rng.below(3) as usize];
+        let p = Params { e, ..params(p) };
         if End::open(0, p).0.is_none() {
             return p;
         }
@@ -162,7 +166,9 @@ fn note(seen: &mut Seen, call: &Call) {
             message::DATA => seen.originals += 1,
             _ => seen.repairs += 1,
         },
+        (Event::Fire, Answer::Out(16)) if call.out[0] == message::XPRS => seen.express += 1,
         (Event::Fire, Answer::Out(16)) => seen.requests += 1,
+        (Event::Arrival(bytes), Answer::Out(40)) if !bytes.is_empty() => seen.at_once += 1,
         (Event::Fire, Answer::Out(40)) => seen.replies += 1,
         (Event::Report, Answer::Out(_)) => seen.reports += 1,
         (Event::Left, Answer::Done) => seen.left += 1,
@@ -189,6 +195,7 @@ fn eight_ends() {
     assert!(seen.requests > 1000, "{seen:?}");
     assert!(seen.replies > 100, "{seen:?}");
     assert!(seen.reports > 100, "{seen:?}");
+    assert!(seen.express > 20 && seen.at_once > 0, "{seen:?}");
     assert!(seen.left > 100, "{seen:?}");
     assert!(seen.retired > 100 && seen.missed > 10, "{seen:?}");
     for number in [1, 2, 4, 5, 6, 8, 9, 10, 11] {

@@ -1,7 +1,7 @@
 //! Each clause of "A state is sound if", by a state that breaks just it.
 
 use twin::cue::Cue;
-use twin::end::{Answer, Body, End, Event, Heard, Reply, Request, Status, TIME_LIMIT};
+use twin::end::{Answer, Body, End, Event, Heard, Pair, Reply, Request, Status, TIME_LIMIT};
 use twin::CLOCK_MAX;
 
 use crate::support::*;
@@ -57,6 +57,9 @@ fn fields_in_range() {
     unsound(&end, |e| e.params.d1 = 33);
     unsound(&end, |e| e.params.d2 = 33);
     unsound(&end, |e| e.params.d3 = 255);
+    sound(&end, |e| e.params.e = 1000);
+    unsound(&end, |e| e.params.e = 1001);
+    unsound(&end, |e| e.params.e = u16::MAX);
     // The opening's constraints are question 13's and not the soundness test's.
     sound(&end, |e| e.params = params([0, 32, 32, 32, 32, 32]));
 
@@ -225,6 +228,42 @@ fn heard_stamps() {
     unsound(&end, with(1, 0, 0));
 }
 
+fn pair(requester: u8, sender: u8, number: u16) -> Option<Pair> {
+    Some(Pair {
+        requester,
+        sender,
+        number,
+    })
+}
+
+#[test]
+fn pairs_and_express_waits() {
+    let end = busy();
+    // Document 02, P8: "a sound state has one only beside a request and with a kept pair".
+    unsound(&end, |e| waiting(e).express = Some(0));
+    unsound(&end, |e| {
+        waiting(e).express = Some(0);
+        e.sources[2].pair = pair(1, 2, 0);
+    });
+    let with = |due| {
+        move |e: &mut End| {
+            waiting(e).express = Some(due);
+            e.sources[0].pair = pair(1, 2, 0);
+        }
+    };
+    sound(&end, with(0));
+    sound(&end, with(TIME_LIMIT - 1));
+    unsound(&end, with(TIME_LIMIT));
+    // "a kept pair's sender is always another": oneself is 1.
+    for source in 0..8 {
+        sound(&end, |e| e.sources[source].pair = pair(1, 0, 65_535));
+        sound(&end, |e| e.sources[source].pair = pair(7, 7, 0));
+        unsound(&end, |e| e.sources[source].pair = pair(0, 1, 0));
+        unsound(&end, |e| e.sources[source].pair = pair(0, 8, 0));
+        unsound(&end, |e| e.sources[source].pair = pair(8, 0, 0));
+    }
+}
+
 #[test]
 fn non_members() {
     // "a non-member has no first, request, reply or heard stamp, and distances to
@@ -239,6 +278,8 @@ fn non_members() {
         let end = with_status(1, status);
         unsound(&end, |e| e.sources[2].distance = 41);
         unsound(&end, |e| e.sources[2].missed = 1);
+        // P8: "non-members keep none".
+        unsound(&end, |e| e.sources[3].pair = pair(2, 0, 0));
         unsound(&end, |e| e.sources[1].distance = 40);
         unsound(&end, |e| {
             e.sources[2].heard = Some(Heard { stamp: 0, at: 0 })

@@ -79,6 +79,7 @@ pub fn params([c1, c2, c3, d1, d2, d3]: [u8; 6]) -> Params {
         d1,
         d2,
         d3,
+        e: 0,
     }
 }
 
@@ -116,6 +117,11 @@ pub fn data(source: u8, number: u16, cue: Cue) -> Message {
 
 pub fn rqst(sender: u8, source: u8, number: u16) -> Message {
     named(message::RQST, sender, (source, number, sender), vec![])
+}
+
+/// Document 02, P8's kind 21, to the host that is named.
+pub fn xprs(sender: u8, source: u8, number: u16, host: u8) -> Message {
+    named(message::XPRS, sender, (source, number, host), vec![])
 }
 
 pub fn repl(sender: u8, source: u8, number: u16, requester: u8, cue: Cue) -> Message {

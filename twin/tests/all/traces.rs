@@ -48,7 +48,7 @@ const AT: At = At {
 };
 
 /// One line of each form, each as it is printed.
-const LINES: [&str; 84] = [
+const LINES: [&str; 91] = [
     "start",
     "draws 66 65535 7",
     "draws 0 0 0",
@@ -57,6 +57,7 @@ const LINES: [&str; 84] = [
     "room 200",
     "fill 165",
     "0 open 255 9 8 4 4 4 8",
+    "0 open 0 9 8 4 4 4 8 65535",
     "9 join 0",
     "0 joined 18446744073709551615",
     "1 leave 2",
@@ -91,7 +92,13 @@ const LINES: [&str; 84] = [
     "0 set host 255",
     "0 set clock 18446744073709551615",
     "0 set next 4294967295",
-    "0 set params 0 1 2 3 4 255",
+    "0 set params 0 1 2 3 4 255 65535",
+    "0 set pair 7 255 255 65535",
+    "0 set nopair 7",
+    "0 ask pair 7",
+    "0 set waits 7 63 1 2 3 express 18446744073709551615",
+    "8 hear 9 xprs 1 392 name 0 1 2",
+    "write xprs 1 392 name 0 65535 2",
     "0 set status idle",
     "0 set status joining",
     "0 set status member",
@@ -192,6 +199,7 @@ fn forms_have_their_values() {
         round: 1,
         due: 2,
         quiet_until: 3,
+        express: None,
     };
     assert_eq!(
         does("2 set waits 3 63 1 2 3"),
@@ -241,7 +249,7 @@ fn expectations_and_remarks() {
 }
 
 /// Lines that are malformed in one place each.
-const MALFORMED: [&str; 118] = [
+const MALFORMED: [&str; 134] = [
     " ",
     "0",
     "stop",
@@ -285,7 +293,23 @@ const MALFORMED: [&str; 118] = [
     "0 open 256 9 8 4 4 4 8",
     "0 open 0 9 8 4 4 4",
     "0 open 0 9 8 4 4 4 256",
-    "0 open 0 9 8 4 4 4 8 0",
+    "0 open 0 9 8 4 4 4 8 0 0",
+    "0 open 0 9 8 4 4 4 8 65536",
+    "0 open 0 9 8 4 4 4 8 ",
+    "0 set params 9 8 4 4 4 8",
+    "0 set params 9 8 4 4 4 8 65536",
+    "0 set params 9 8 4 4 4 8 0 0",
+    "0 set pair 8 0 0 0",
+    "0 set pair 0 256 0 0",
+    "0 set pair 0 0 256 0",
+    "0 set pair 0 0 0 65536",
+    "0 set pair 0 0 0",
+    "0 set nopair 8",
+    "0 set nopair 0 0",
+    "0 set waits 0 0 1 2 3 express",
+    "0 set waits 0 0 1 2 3 4",
+    "0 set waits 0 0 1 2 3 express 18446744073709551616",
+    "0 ask pair 8",
     "0 send 0",
     "0 send 0 -0",
     "0 send 0 -",
@@ -475,9 +499,9 @@ fn the_digest_is_the_pages() {
     // fresh end of host 0, and what the script leaves of host 1's.
     assert_eq!(
         answers("3 open 0 9 8 4 4 4 8\n"),
-        ["1 opened; none; BE7C99559F8A3FC4"]
+        ["1 opened; none; 4950C7E071E5615F"]
     );
-    assert!(answers(SCRIPT)[13].ends_with("; 9026FEC0297383D0; none"));
+    assert!(answers(SCRIPT)[13].ends_with("; 99CC314D970C1CB2; none"));
 }
 
 #[test]
@@ -486,7 +510,11 @@ fn every_field_counts_in_the_digest_and_in_same() {
         "host 1",
         "clock 1",
         "next 1",
-        "params 9 8 4 4 4 7",
+        "params 9 8 4 4 4 7 0",
+        "params 9 8 4 4 4 8 1",
+        "pair 0 0 0 0",
+        "pair 7 0 0 0",
+        "waits 7 63 1 0 0 express 0",
         "status member",
         "span 0 0 0",
         "missed 0 1",
@@ -514,7 +542,10 @@ fn states_are_set_and_asked() {
         ("next 6", "next", "6"),
         ("status leaving", "status", "leaving"),
         ("host 7", "host", "7"),
-        ("params 1 2 3 4 5 6", "params", "1 2 3 4 5 6"),
+        ("params 1 2 3 4 5 6 7", "params", "1 2 3 4 5 6 7"),
+        ("pair 7 8 9 10", "pair 7", "8 9 10"),
+        ("pair 6 8 9 10", "pair 7", "none"),
+        ("nopair 7", "pair 7", "none"),
         ("distance 7 8", "distance 7", "8"),
         ("span 7 8 9", "span 7", "8 9"),
         ("closed 7", "span 7", "closed"),
@@ -536,6 +567,11 @@ fn states_are_set_and_asked() {
         ("4 set reply 7 63 8 9\n4 set empty 7 63", "empty"),
         (
             "4 set reply 7 63 8 9\n4 set waits 7 63 1 2 3",
+            "waits 1 2 3",
+        ),
+        ("4 set waits 7 63 1 2 3 express 4", "waits 1 2 3 express 4"),
+        (
+            "4 set waits 7 63 1 2 3 express 4\n4 set waits 7 63 1 2 3",
             "waits 1 2 3",
         ),
         (
@@ -658,6 +694,8 @@ fn openings() {
     assert_eq!(last("5 open 5 9 8 4 4 4 8\n"), "opened");
     assert_eq!(last("5 open 8 9 8 4 4 4 8\n"), "refused 12");
     assert_eq!(last("5 open 5 8 8 4 4 4 7\n"), "refused 13");
+    assert_eq!(last("5 open 5 9 8 4 4 4 8 1000\n"), "opened");
+    assert_eq!(last("5 open 5 9 8 4 4 4 8 1001\n"), "refused 14");
     // "host 0's crashed end with parameters 9,8,4,4,4,8, otherwise fresh"
     assert_eq!(
         last("5 open 5 8 8 4 4 4 7\n8 set status crashed\n5 ask same 8\n"),
@@ -737,30 +775,30 @@ fn rows() {
 
 #[test]
 fn words() {
-    let trace = "0 set span 2 3 4\n0 set missed 2 9\n0 set heard 2 5 6\n0 set hush 1 7 8\ntest 0\n0 fire 0\n";
-    let mut lines = vec!["5 in range".to_string()];
+    let trace = "0 set span 2 3 4\n0 set missed 2 9\n0 set heard 2 5 6\n0 set hush 1 7 8\n0 set pair 2 10 11 12\ntest 0\n0 fire 0\n";
+    let mut lines = vec!["6 in range".to_string()];
     let printed = played(trace, Mode::Words);
     let fired = printed.lines().nth(1).unwrap();
-    assert!(fired.starts_with("6 refused 3; none; "));
+    assert!(fired.starts_with("7 refused 3; none; "));
     lines.push(fired.to_string());
     let state = [
         "host 0",
-        "params 9 8 4 4 4 8",
+        "params 9 8 4 4 4 8 0",
         "clock 0",
         "status idle",
         "next 0",
-        "source 0 closed missed 0 distance 0 unheard",
-        "source 1 closed missed 0 distance 40 unheard",
+        "source 0 closed missed 0 nopair distance 0 unheard",
+        "source 1 closed missed 0 nopair distance 40 unheard",
         "record 1 7 empty hush 8 cue 000000000000000000000000000000000000000000000000",
-        "source 2 span 3 4 missed 9 distance 40 heard 5 6",
-        "source 3 closed missed 0 distance 40 unheard",
-        "source 4 closed missed 0 distance 40 unheard",
-        "source 5 closed missed 0 distance 40 unheard",
-        "source 6 closed missed 0 distance 40 unheard",
-        "source 7 closed missed 0 distance 40 unheard",
+        "source 2 span 3 4 missed 9 pair 10 11 12 distance 40 heard 5 6",
+        "source 3 closed missed 0 nopair distance 40 unheard",
+        "source 4 closed missed 0 nopair distance 40 unheard",
+        "source 5 closed missed 0 nopair distance 40 unheard",
+        "source 6 closed missed 0 nopair distance 40 unheard",
+        "source 7 closed missed 0 nopair distance 40 unheard",
     ];
     lines.extend(state.iter().map(|line| format!("  {line}")));
-    lines.push("6 lines, 2 calls, 0 right, 0 wrong\n".to_string());
+    lines.push("7 lines, 2 calls, 0 right, 0 wrong\n".to_string());
     assert_eq!(printed, lines.join("\n"));
     let shown = played(&trace.replace("test 0\n0 fire 0", "0 show"), Mode::Plain);
     assert_eq!(shown.lines().count(), state.len() + 1);

@@ -22,17 +22,14 @@ take-cue-requires c κs = search needs
 enum-told-4 : tie.Need-enum-told-4
 enum-told-4 c = search needs
 
-take-cue-requires-2 : tie.Need-take-cue-requires-2
-take-cue-requires-2 c κs = search needs
-
-quiet-reply-requires : tie.Need-quiet-reply-requires
-quiet-reply-requires c κs = search needs
+repair-requires : tie.Need-repair-requires
+repair-requires c κs = search needs
 
 enum-told-5 : tie.Need-enum-told-5
 enum-told-5 c = search needs
 
-quiet-reply-requires-2 : tie.Need-quiet-reply-requires-2
-quiet-reply-requires-2 c κs = search needs
+hush-requires : tie.Need-hush-requires
+hush-requires c κs = search needs
 
 enum-told-6 : tie.Need-enum-told-6
 enum-told-6 c = search needs
@@ -55,6 +52,12 @@ back-off-requires c κs = search needs
 enum-told-8 : tie.Need-enum-told-8
 enum-told-8 c = search needs
 
+enum-told-9 : tie.Need-enum-told-9
+enum-told-9 c = search needs
+
+quiet-reply-requires : tie.Need-quiet-reply-requires
+quiet-reply-requires c κs = search needs
+
 returns : tie.Need-returns
 unfolding apply
 returns c = rw (c .enum-told .given .1)
@@ -69,11 +72,11 @@ returns-3 c = rw (c .before .enum-told3 .given .1) (c .take-cue .ensures)
 
 returns-4 : tie.Need-returns-4
 unfolding apply
-returns-4 c = rw (c .before .before .enum-told4 .given .1, c .quiet-reply .ensures, c .before .take-cue2 .ensures)
+returns-4 c = rw (c .before .enum-told4 .given .1) (c .repair .ensures)
 
 returns-5 : tie.Need-returns-5
 unfolding apply
-returns-5 c = rw (c .before .enum-told5 .given .1) (c .quiet-reply2 .ensures)
+returns-5 c = rw (c .before .enum-told5 .given .1) (c .hush .ensures)
 
 returns-6 : tie.Need-returns-6
 unfolding apply
@@ -91,7 +94,11 @@ returns-9 : tie.Need-returns-9
 unfolding apply
 returns-9 c = rw (c .enum-told8 .given .1)
 
+returns-10 : tie.Need-returns-10
+unfolding apply
+returns-10 c = rw (c .before .enum-told9 .given .1) (c .quiet-reply .ensures)
+
 pub apply-spec : {M : Type 1} → statement M
-apply-spec = tie.close (tie.spec enum-told enum-told-2 open-source-requires enum-told-3 take-cue-requires enum-told-4 take-cue-requires-2
-    quiet-reply-requires enum-told-5 quiet-reply-requires-2 enum-told-6 set-reply-requires enum-told-7 learn-requires enum-known-d back-off-requires
-    enum-told-8 returns returns-2 returns-3 returns-4 returns-5 returns-6 returns-7 returns-8 returns-9)
+apply-spec = tie.close (tie.spec enum-told enum-told-2 open-source-requires enum-told-3 take-cue-requires enum-told-4 repair-requires
+    enum-told-5 hush-requires enum-told-6 set-reply-requires enum-told-7 learn-requires enum-known-d back-off-requires enum-told-8 enum-told-9
+    quiet-reply-requires returns returns-2 returns-3 returns-4 returns-5 returns-6 returns-7 returns-8 returns-9 returns-10)

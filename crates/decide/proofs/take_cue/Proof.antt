@@ -3,14 +3,14 @@ use borrow.Author.Needs.{needs}
 use Rattle.decide.proofs.take_cue.Statement.{statement}
 use Rattle.decide.proofs.take_cue.Tie as tie
 
-rise-to-requires : tie.Need-rise-to-requires
-rise-to-requires c κs = search needs
+rise-by-data-requires : tie.Need-rise-by-data-requires
+rise-by-data-requires c κs = search needs
 
 hold-cue-requires : tie.Need-hold-cue-requires
 hold-cue-requires c κs = search needs
 
 returns : tie.Need-returns
-returns c = rw (c .hold-cue .ensures, c .before .rise-to .ensures)
+returns c = rw (c .hold-cue .ensures, c .before .rise-by-data .ensures)
 
 pub take-cue-spec : {M : Type 1} → statement M
-take-cue-spec = tie.close (tie.spec rise-to-requires hold-cue-requires returns)
+take-cue-spec = tie.close (tie.spec rise-by-data-requires hold-cue-requires returns)

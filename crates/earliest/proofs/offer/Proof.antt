@@ -10,6 +10,9 @@ enum-told c = search needs
 enum-known-slot : tie.Need-enum-known-slot
 enum-known-slot c = search needs
 
+offer-express-requires : tie.Need-offer-express-requires
+offer-express-requires c κs = search needs
+
 if-due-requires : tie.Need-if-due-requires
 if-due-requires c κs = search needs
 
@@ -38,5 +41,5 @@ returns-4 : tie.Need-returns-4
 returns-4 c = search offered-reply
 
 pub offer-spec : {M : Type 1} → statement M
-offer-spec = tie.close (tie.spec enum-told enum-known-slot if-due-requires enum-known-slot-2 enum-told-2 enum-known-reply
+offer-spec = tie.close (tie.spec enum-told enum-known-slot offer-express-requires if-due-requires enum-known-slot-2 enum-told-2 enum-known-reply
     if-due-requires-2 returns returns-2 returns-3 returns-4)

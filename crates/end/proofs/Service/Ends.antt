@@ -11,7 +11,7 @@ use borrow.Author.Tests.{eqb-true, eqb-false, eq-eqb, ltb-true, lt-ltb, leb-true
 use Rattle.numbers.proofs.Cases.{by-order}
 use Rattle.message.specs.Cue.{cueIn as cueFits}
 use Rattle.message.specs.Section.{all, rises}
-use Rattle.message.specs.Message.{DATA, RQST, REPL, SESS, Meaning, meaningFrom, datagramFrom, bytesOf}
+use Rattle.message.specs.Message.{DATA, RQST, REPL, SESS, XPRS, Meaning, meaningFrom, datagramFrom, bytesOf}
 use Rattle.message.specs.Question.{ask, firstNo, messageQuestions, readQuestions, readRefusal, sameHost, inRange, hostsFit}
 use Rattle.message.proofs.QuestionLaws.{all-passed}
 use Rattle.message.proofs.SectionLaws as sections
@@ -20,7 +20,7 @@ use Rattle.end.specs.declared.Status.the-variants.{Idle, Joining, Member
 use Rattle.end.specs.declared.Span.{Span}
 use Rattle.end.specs.declared.Span.the-variants.{Closed, Open}
 use Rattle.end.specs.declared.Says.{Says}
-use Rattle.end.specs.declared.Says.the-variants.{Data, Rqst, Repl}
+use Rattle.end.specs.declared.Says.the-variants.{Data, Rqst, Repl, Xprs}
 use Rattle.end.specs.declared.Move.{Move}
 use Rattle.end.specs.declared.Move.the-variants.{Join, Joined, Leave, Left, Crash}
 use Rattle.end.specs.declared.Moment.{Moment}
@@ -191,6 +191,7 @@ abbrev kindOf : Says → ℕ
 kindOf Data = DATA
 kindOf Rqst = RQST
 kindOf Repl = REPL
+kindOf Xprs = XPRS
 
 module _ (e : End) (f : Facts e) (us : List ℕ) (member : isMember (e .status) ≡ true) (x : List ℕ) (m : Meaning) (p : readAs x ≡ some m)
     (other : eqb (m .sender .0) (e .host .0) ≡ false) where
@@ -199,21 +200,25 @@ module _ (e : End) (f : Facts e) (us : List ℕ) (member : isMember (e .status) 
   data-says Data k = k
   data-says Rqst k = ap (λ (i : ℕ). eqb i DATA) (eqb-true (m .kind) RQST k)
   data-says Repl k = ap (λ (i : ℕ). eqb i DATA) (eqb-true (m .kind) REPL k)
+  data-says Xprs k = ap (λ (i : ℕ). eqb i DATA) (eqb-true (m .kind) XPRS k)
 
   repair-says : (says : Says) → eqb (m .kind) (kindOf says) ≡ true → isRepair m ≡ isRepairing says
   repair-says Data k = ap (λ (i : ℕ). eqb i REPL) (eqb-true (m .kind) DATA k)
   repair-says Rqst k = ap (λ (i : ℕ). eqb i REPL) (eqb-true (m .kind) RQST k)
   repair-says Repl k = k
+  repair-says Xprs k = ap (λ (i : ℕ). eqb i REPL) (eqb-true (m .kind) XPRS k)
 
   about : (says : Says) → eqb (m .kind) (kindOf says) ≡ true → isAboutName m ≡ true
-  about Data k = ap (λ (i : ℕ). eqb i DATA || (eqb i RQST || eqb i REPL)) (eqb-true (m .kind) DATA k)
-  about Rqst k = ap (λ (i : ℕ). eqb i DATA || (eqb i RQST || eqb i REPL)) (eqb-true (m .kind) RQST k)
-  about Repl k = ap (λ (i : ℕ). eqb i DATA || (eqb i RQST || eqb i REPL)) (eqb-true (m .kind) REPL k)
+  about Data k = ap (λ (i : ℕ). eqb i DATA || (eqb i RQST || (eqb i REPL || eqb i XPRS))) (eqb-true (m .kind) DATA k)
+  about Rqst k = ap (λ (i : ℕ). eqb i DATA || (eqb i RQST || (eqb i REPL || eqb i XPRS))) (eqb-true (m .kind) RQST k)
+  about Repl k = ap (λ (i : ℕ). eqb i DATA || (eqb i RQST || (eqb i REPL || eqb i XPRS))) (eqb-true (m .kind) REPL k)
+  about Xprs k = ap (λ (i : ℕ). eqb i DATA || (eqb i RQST || (eqb i REPL || eqb i XPRS))) (eqb-true (m .kind) XPRS k)
 
   another : (says : Says) → eqb (m .kind) (kindOf says) ≡ true → says ≡ Data → sameHost (messageName m .source) (e .host) ≡ false
   another Data k q = sym (ap (λ (i : ℕ). eqb i (e .host .0)) (original-source x m p k)) ∙ other
   another Rqst k q = clash′ (ap isData q)
   another Repl k q = clash′ (ap isData q)
+  another Xprs k q = clash′ (ap isData q)
 
   heard-hears : Hears (e .host .0) e m (messageStep us m e)
   unfolding messageStep heeds
@@ -225,7 +230,8 @@ module _ (e : End) (f : Facts e) (us : List ℕ) (member : isMember (e .status) 
       byCond (Hears h e m) (eqb (m .kind) DATA) (word Data)
       (λ a. byCond (Hears h e m) (eqb (m .kind) RQST) (word Rqst)
       (λ c. byCond (Hears h e m) (eqb (m .kind) REPL) (word Repl)
-      (λ b. hears-rose (not-carried m h e a b) (rw (member, other)) (session-quiet us m e f (rw (a, c, b)) (session-kind x m p a c b) (reports-in x m p)))))
+      (λ b. byCond (Hears h e m) (eqb (m .kind) XPRS) (word Xprs)
+      (λ d. hears-rose (not-carried m h e a b) (rw (member, other)) (session-quiet us m e f (rw (a, c, b, d)) (session-kind x m p a c b d) (reports-in x m p))))))
 
 -- a looped message is passed over, and a non-member gets nothing
 looped-takes : (m : Meaning) (h : ℕ) (e : End) → eqb (m .sender .0) h ≡ true → takes h e m ≡ false

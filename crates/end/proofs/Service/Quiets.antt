@@ -19,6 +19,7 @@ use Rattle.message.specs.Question.{hostIn, numberIn, reportIn, sameHost}
 use Rattle.message.proofs.QuestionLaws.{and-both}
 use Rattle.message.proofs.SectionLaws.{none, some}
 use Rattle.roundtrip.proofs.ThereAndBack.{Fits}
+use Rattle.end.specs.declared.Express.the-variants.{Unset}
 use Rattle.end.specs.declared.Reply.the-variants.{No, Due}
 use Rattle.end.specs.declared.Slot.{Slot}
 use Rattle.end.specs.declared.Slot.the-variants.{Empty, Held, Waiting}
@@ -33,15 +34,15 @@ use Rattle.end.specs.declared.Earliest.the-variants.{NoWait, First}
 use Rattle.end.specs.State.{noSource, sourceAt, withSource, momentOf, distanceTo, onSource}
 use Rattle.end.specs.Records.{within, isAbove, recordAt, withRecord, isHeld}
 use Rattle.end.specs.Round.{requestAt, nextRound, quietAfterReply}
-use Rattle.end.specs.Names.{asking, quieted, setRound, quietReply, asked}
+use Rattle.end.specs.Names.{asking, expressed, quieted, setRound, quietReply, dropExpress, asked}
 use Rattle.end.specs.Answer.{Out, Done, Ignored, Nothing, PutsOut, give}
-use Rattle.end.specs.Messages.{requestMessage, repairMessage, sessionMessage}
+use Rattle.end.specs.Messages.{requestMessage, repairMessage, expressMessage, sessionMessage}
 use Rattle.end.specs.Session.{reportedSource, allReported, heardFrom, sessionOf}
 use Rattle.end.specs.Arrival.{messageCue}
-use Rattle.end.specs.Fire.{fireAt, fired, earliest}
+use Rattle.end.specs.Fire.{expressRank, keptSender, fireAt, fired, earliest}
 use Rattle.end.specs.Event.{Other, Fire, Report, otherOf}
 use Rattle.end.specs.Book.{readAs, source, number, isAboutName, reportedTo, broughtTo, notBelow, isGot}
-use Rattle.end.proofs.Tools.{byCond, byTest, clash, set-elim}
+use Rattle.end.proofs.Tools.{byCond, byTest, clash, clash′, set-elim}
 use Rattle.end.proofs.RecordLaws.{Narrow, at-inside, at-outside}
 use Rattle.end.proofs.RiseLaws.{rise-length, rise-narrow}
 use Rattle.end.proofs.SoundLaws.{held-cue}
@@ -49,7 +50,7 @@ use Rattle.end.proofs.Facts.{Facts, narrow, within-small}
 use Rattle.end.proofs.Readings.{written-kind, written-back}
 use Rattle.end.proofs.Service.View.{heldIn, windowed, heldAt, RoseSource, holds, firstAt, lastAt, Same, Rose, carries}
 use Rattle.end.proofs.Service.Booked.{QuietBy, Quiet, untouched-quiet, Grown, window-twice, reported-grows}
-use Rattle.end.proofs.Service.Sources.{any-reply, still-window, same-record, same-rose, same-refl-source, rose}
+use Rattle.end.proofs.Service.Sources.{any-reply, any-express, still-window, same-record, same-rose, same-refl-source, rose}
 use Rattle.end.proofs.Service.Steps.{Narrows, same-refl, same-source, rose-source}
 
 -- ---- what is put out
@@ -75,9 +76,10 @@ bare-quiet e e′ y o n v = record {
 }
 
 -- a message put out that carries a cue which the end holds under its name
-pub carrying-quiet : (e e′ : End) (y : Meaning) → isOld (y .kind) ≡ false → Fits (numberWidth (y .kind)) y → holds e (source y) (number y) ≡ some (messageCue y) → Same e e′ → Quiet e (give (Out (bytesOf y)) e′)
+pub carrying-quiet : (P : End → Type 0) (e e′ : End) (y : Meaning) → isOld (y .kind) ≡ false → Fits (numberWidth (y .kind)) y → holds e (source y) (number y) ≡ some (messageCue y) → P e′
+    → QuietBy P e (give (Out (bytesOf y)) e′)
 unfolding isGot
-carrying-quiet e e′ y o f h v = record {
+carrying-quiet P e e′ y o f h v = record {
   same = v;
   not-got = refl;
   out = λ x p m z k.
@@ -96,7 +98,7 @@ pub record There (e : End) (name : Name) : Type 0 where
 abbrev isEmpty : Slot → Bool
 isEmpty Empty = true
 isEmpty (Held reply) = false
-isEmpty (Waiting q) = false
+isEmpty (Waiting q x) = false
 
 kept-there : (e : End) → Facts e → (name : Name) → isEmpty (recordAt (sourceAt e (name .source)) (name .number .0) .slot) ≡ false → There e name
 kept-there e f name h =
@@ -109,6 +111,14 @@ kept-there e f name h =
     (λ hs.
     let none : s ≡ noSource = List·getD-eq-default (e .sources) noSource (omega (arith, f .sources)) in
     clash (sym (ap (λ (r : Record). isEmpty (r .slot)) (at-outside s n (ap (λ (x : Source). within (x .span) n) none))) ∙ h))
+
+pub held-there : (e : End) → Facts e → (name : Name) → isHeld (recordAt (sourceAt e (name .source)) (name .number .0) .slot) ≡ true → There e name
+held-there e f name h = kept-there e f name (not-empty (recordAt (sourceAt e (name .source)) (name .number .0) .slot) h)
+  where
+    not-empty : (x : Slot) → isHeld x ≡ true → isEmpty x ≡ false
+    not-empty Empty p = clash′ p
+    not-empty (Held reply) p = refl
+    not-empty (Waiting q x) p = refl
 
 module _ (us : List ℕ) (e : End) (f : Facts e) (name : Name) where
   abbrev s : Source
@@ -137,27 +147,35 @@ module _ (us : List ℕ) (e : End) (f : Facts e) (name : Name) where
     unfolding heldAt
     quiet-same d = stored-same (quieted r (quietAfterReply (momentOf e) d)) (any-reply No (r .slot) (r .cue))
 
-    repair-fits : (k : Host) → isHeld (r .slot) ≡ true → Fits 2 (repairMessage (momentOf e) name k (r .cue))
+    pub repair-fits : (k : Host) → isHeld (r .slot) ≡ true → Fits 2 (repairMessage (momentOf e) name k (r .cue))
     repair-fits k p =
         let raw = at-inside s (name .number .0) (there .inside) in
-        let cue = held-cue (e .host) (name .source) (s .span) (name .number .0) r (rw raw (f .records (name .source .0) (name .number .0) (there .source) (there .inside))) p in
+        let cue = held-cue (e .host) (name .source) (s .pair) (s .span) (name .number .0) r (rw raw (f .records (name .source .0) (name .number .0) (there .source) (there .inside))) p in
         let small : name .number .0 < 65536 = there .number in
         record { stamp = f .clock; names = some small none; cues = some (cue .0) none; reports = none; echoes = none }
 
-  fire-quiet : (x : Slot) → r .slot ≡ x → Quiet e (fireAt us name e x)
+    express-same : heldAt s (name .number .0) ≡ none → Same e (onSource e (name .source) (dropExpress (name .number .0)))
+    unfolding heldAt
+    express-same h = stored-same (expressed Unset r) (any-express Unset (r .slot) (r .cue))
+
+  fire-quiet : (rank : ℕ) (x : Slot) → r .slot ≡ x → Quiet e (fireAt us rank name e x)
   unfolding fireAt heldIn holds
-  fire-quiet Empty p = nothing-quiet e
-  fire-quiet (Waiting q) p =
-      bare-quiet e _ (requestMessage (momentOf e) name) refl refl (round-same (kept-there e f name (ap isEmpty p)) (nextRound (q .round)) (slot-held (Waiting q) p))
-  fire-quiet (Held No) p = nothing-quiet e
-  fire-quiet (Held (Due due k)) p =
+  fire-quiet rank Empty p = nothing-quiet e
+  fire-quiet rank (Waiting q x) p =
       let there = kept-there e f name (ap isEmpty p) in
-      carrying-quiet e _ (repairMessage (momentOf e) name k (r .cue)) refl (repair-fits there k (ap isHeld p)) (slot-held (Held (Due due k)) p) (quiet-same there (distanceTo e k))
+      let none-held = slot-held (Waiting q x) p in
+      byCond (Quiet e) (eqb rank expressRank)
+      (λ _. bare-quiet e _ (expressMessage (momentOf e) name (keptSender (s .pair))) refl refl (express-same there none-held))
+      (λ _. bare-quiet e _ (requestMessage (momentOf e) name) refl refl (round-same there (nextRound (q .round)) none-held))
+  fire-quiet rank (Held No) p = nothing-quiet e
+  fire-quiet rank (Held (Due due k)) p =
+      let there = kept-there e f name (ap isEmpty p) in
+      carrying-quiet (Same e) e _ (repairMessage (momentOf e) name k (r .cue)) refl (repair-fits there k (ap isHeld p)) (slot-held (Held (Due due k)) p) (quiet-same there (distanceTo e k))
 
 fired-quiet : (us : List ℕ) (e : End) → Facts e → (x : Earliest) → Quiet e (fired us e x)
 unfolding fired
 fired-quiet us e f NoWait = nothing-quiet e
-fired-quiet us e f (First w) = fire-quiet us e f (w .name) _ refl
+fired-quiet us e f (First w) = fire-quiet us e f (w .name) (w .rank) _ refl
 
 -- the events that the book says nothing of: one clause each
 pub others : (us : List ℕ) (o : Other) (e : End) → Facts e → Quiet e (otherOf us o e)

@@ -11,6 +11,7 @@ use lib.Dec.{eqb, leb}
 use borrow.Author.Tests.{eqb-false, eq-eqb, leb-true, le-leb, lt-leb, ltb-true, ltb-false}
 use Rattle.numbers.proofs.Cases.{by-order}
 use Rattle.message.specs.declared.CueNumber.{CueNumber}
+use Rattle.end.specs.declared.Express.{Express}
 use Rattle.end.specs.declared.Reply.{Reply}
 use Rattle.end.specs.declared.Slot.{Slot}
 use Rattle.end.specs.declared.Slot.the-variants.{Empty, Held, Waiting}
@@ -19,7 +20,7 @@ use Rattle.end.specs.declared.Span.{Span}
 use Rattle.end.specs.declared.Span.the-variants.{Closed, Open}
 use Rattle.end.specs.declared.Source.{Source}
 use Rattle.end.specs.State.{blankRecord}
-use Rattle.end.specs.Records.{isClosed, within, isAbove, isHeld, recordAt, withRecord, withReply}
+use Rattle.end.specs.Records.{isClosed, within, isAbove, isHeld, recordAt, withRecord, withReply, withExpress}
 use Rattle.end.specs.Names.{holding, hold, firstAfter, riseWith, openAt}
 use Rattle.end.specs.Book.{raisedTo, higher, notBelow}
 use Rattle.end.proofs.Tools.{byTest, clash, clash′, and-left}
@@ -32,20 +33,27 @@ pub held-is : (x : Slot) (c : List ℕ) → isHeld x ≡ true → heldIn x c ≡
 unfolding heldIn
 held-is Empty c h = clash′ h
 held-is (Held reply) c h = refl
-held-is (Waiting q) c h = clash′ h
+held-is (Waiting q x) c h = clash′ h
 
 pub not-held-is : (x : Slot) (c : List ℕ) → isHeld x ≡ false → heldIn x c ≡ none
 unfolding heldIn
 not-held-is Empty c h = refl
 not-held-is (Held reply) c h = clash h
-not-held-is (Waiting q) c h = refl
+not-held-is (Waiting q x) c h = refl
 
 -- the reply beside a cue is none of the service's business
 pub any-reply : (reply : Reply) (x : Slot) (c : List ℕ) → heldIn (withReply reply x) c ≡ heldIn x c
 unfolding heldIn
 any-reply reply Empty c = refl
 any-reply reply (Held was) c = refl
-any-reply reply (Waiting q) c = refl
+any-reply reply (Waiting q x) c = refl
+
+-- nor is the express wait beside a request
+pub any-express : (x : Express) (y : Slot) (c : List ℕ) → heldIn (withExpress x y) c ≡ heldIn y c
+unfolding heldIn
+any-express x Empty c = refl
+any-express x (Held reply) c = refl
+any-express x (Waiting q was) c = refl
 
 abbrev heldBy : Record → Option (List ℕ)
 heldBy r = heldIn (r .slot) (r .cue)

@@ -36,7 +36,7 @@ held-seen : (x : Slot) (c : List ℕ) → isHeld x ≡ true → heldIn x c ≡ s
 unfolding heldIn
 held-seen Empty c h = clash′ h
 held-seen (Held reply) c h = refl
-held-seen (Waiting q) c h = clash′ h
+held-seen (Waiting q x) c h = clash′ h
 
 -- a message that carries the filed cue does not clash on an end that agrees with the book
 filed-fits : (b : Book) (h : ℕ) (e : End) (x : List ℕ) (m : Meaning) → Rel b h e → Filed b x → readAs x ≡ some m → Clashing e m → ⊥

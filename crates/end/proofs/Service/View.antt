@@ -26,7 +26,7 @@ use Rattle.end.specs.Book.{Book, readAs, isOriginal, isRepair, source, n
 unfoldable pub heldIn : Slot → List ℕ → Option (List ℕ)
 heldIn Empty c = none
 heldIn (Held reply) c = some c
-heldIn (Waiting q) c = none
+heldIn (Waiting q x) c = none
 
 unfoldable pub firstIn : Span → Option ℕ
 firstIn Closed = none

@@ -12,6 +12,7 @@ use Rattle.numbers.proofs.Cases.{by-order}
 use Rattle.message.specs.Message.{Meaning}
 use Rattle.message.specs.Question.{sameHost}
 use Rattle.message.proofs.QuestionLaws.{and-both}
+use Rattle.end.specs.declared.Express.{Express}
 use Rattle.end.specs.declared.Reply.the-variants.{No, Due}
 use Rattle.end.specs.declared.Request.{Request}
 use Rattle.end.specs.declared.Slot.{Slot}
@@ -23,19 +24,20 @@ use Rattle.end.specs.declared.Source.{Source}
 use Rattle.end.specs.declared.End.{End}
 use Rattle.end.specs.declared.Moment.{Moment}
 use Rattle.end.specs.declared.Says.{Says}
-use Rattle.end.specs.declared.Says.the-variants.{Data, Rqst, Repl}
+use Rattle.end.specs.declared.Says.the-variants.{Data, Rqst, Repl, Xprs}
 use Rattle.end.specs.declared.Word.{Word}
 use Rattle.end.specs.declared.Reason.{Reason}
 use Rattle.end.specs.declared.Reason.the-variants.{Crashed, WrongStatus, OwnMessage, NotOpen, BelowFirst, OwnAboveLast, AlreadyHeld, ReplyWaiting, ReplyQuiet, RequestQuiet}
 use Rattle.end.specs.declared.Decision.{Decision}
-use Rattle.end.specs.declared.Decision.the-variants.{Ignores, Opens, Takes, Repairs, Hushes, Replies, Learns, BacksOff, Clashes}
+use Rattle.end.specs.declared.Decision.the-variants.{Ignores, Opens, Takes, Repairs, Hushes, Replies, Learns, BacksOff, Clashes, Expresses}
 use Rattle.end.specs.State.{noSource, sourceAt, isMember, withSource, momentOf}
 use Rattle.end.specs.Records.{isClosed, within, isBelow, isAbove, recordAt, isHeld}
-use Rattle.end.specs.Reasons.{holds as holdsFor}
+use Rattle.end.specs.Reasons.{holds as holdsFor, answered}
 use Rattle.end.specs.Round.{nextRound, requestAt, quietAfterReply, replyDue}
-use Rattle.end.specs.Names.{setRound, hold, asking, holding, quieted, replying, asked as askedFor, riseWith}
-use Rattle.end.specs.Answer.{Effect, Got, give, classOf, Untouched}
-use Rattle.end.specs.Decide.{number, known, decide, risen, apply, effectOf, stepAt}
+use Rattle.end.specs.Names.{setRound, hold, quietReply, asking, holding, quieted, replying, asked as askedFor, askedByData, riseWith}
+use Rattle.end.specs.Messages.{repairMessage}
+use Rattle.end.specs.Answer.{Effect, Got, Done, Ignored, Clash, give, classOf, Untouched}
+use Rattle.end.specs.Decide.{number, known, decide, risen, paired, apply, effectOf, stepAt}
 use Rattle.end.specs.Arrival.{messageName, messageCue, wordOf, wordStep}
 use Rattle.end.specs.Book.{source, isSome, notBelow, isOriginal, isRepair, isAboutName, broughtTo}
 use Rattle.end.proofs.Tools.{byTest, clash, clash′, eqb-flip}
@@ -44,9 +46,10 @@ use Rattle.end.proofs.RiseLaws.{rise-length, rise-narrow, rise-reaches}
 use Rattle.end.proofs.Facts.{Facts, narrow}
 use Rattle.end.proofs.Grounds.{Grounds, Missing, isData, isRequest, grounds, wanted-other}
 use Rattle.end.proofs.Service.View.{heldIn, firstIn, heldAt, SameSource, RoseSource, TookSource, holds, firstAt, Rose}
-use Rattle.end.proofs.Service.Booked.{fresh, takes, heeds, Hears, untouched-quiet}
-use Rattle.end.proofs.Service.Sources.{not-held-is, any-reply, within-not-below, same-refl-source, same-rose, rose-same, took-same, same-record, took-opened, rose, took-risen}
+use Rattle.end.proofs.Service.Booked.{fresh, takes, heeds, QuietBy, Hears, untouched-quiet}
+use Rattle.end.proofs.Service.Sources.{held-is, not-held-is, any-reply, within-not-below, same-refl-source, same-rose, rose-same, took-same, same-record, took-opened, rose, took-risen}
 use Rattle.end.proofs.Service.Steps.{Narrows, broughtOf, rose-source, took-source}
+use Rattle.end.proofs.Service.Quiets.{held-there, repair-fits, carrying-quiet}
 
 -- a decision that hands the cue out
 unfoldable pub hands : Decision → Bool
@@ -59,11 +62,12 @@ hands Replies = false
 hands Learns = false
 hands (BacksOff k) = false
 hands Clashes = false
+hands Expresses = false
 
 abbrev isEmpty : Slot → Bool
 isEmpty Empty = true
 isEmpty (Held reply) = false
-isEmpty (Waiting q) = false
+isEmpty (Waiting q x) = false
 
 -- ---- the source: it has taken the cue, or has risen to the number
 unfoldable pub Seen : Bool → Bool → Word → Source → Source → Type 0
@@ -80,7 +84,7 @@ held-within s n h = slot-within s n (not-empty (recordAt s n .slot) h)
     not-empty : (x : Slot) → isHeld x ≡ true → isEmpty x ≡ false
     not-empty Empty p = clash′ p
     not-empty (Held reply) p = refl
-    not-empty (Waiting q) p = refl
+    not-empty (Waiting q x) p = refl
 
 within-not-above : (x : Span) (n : ℕ) → within x n ≡ true → isAbove x n ≡ false
 within-not-above Closed n h = refl
@@ -91,13 +95,24 @@ below-not-above Closed n o h = refl
 below-not-above (Open first last) n o h = le-ltb (last .0) n (omega (arith, o .0, ltb-true n (first .0) h))
 
 -- the number of a name that is missing lies in first..last once it has risen to it
-risen-within : (t : Moment) (us : List ℕ) (w : Word) (s : Source) → Narrow (s .span) → Missing w (known w s) (s .span) → within (risen t us w s .span) (number w) ≡ true
-risen-within t us w s o g =
-    let new = askedFor t us (s .distance) in
+reached-within : (new : ℕ → Record) (w : Word) (s : Source) → Narrow (s .span) → Missing w (known w s) (s .span) → within (riseWith new (number w) s (s .span) .span) (number w) ≡ true
+reached-within new w s o g =
     let is = g .span in
     ap (λ (x : Span). within (riseWith new (number w) s x .span) (number w)) is ∙ rise-reaches new (number w) s (g .first) (g .last) (subst Narrow is o) (g .least)
 
+-- a gap before a DATA has no cue either, with an express wait or without
+express-bare : (t : Moment) (us : List ℕ) (s : Source) (m : ℕ) → isHeld (askedByData t us s m .slot) ≡ false
+express-bare t us s m = refl
+
+-- the kept pair is none of the service's business
+paired-same : (w : Word) (s : Source) → SameSource s (paired w s)
+unfolding heldAt recordAt
+paired-same w s = record { first = refl; last = refl; holding = λ n. refl }
+
 module _ (t : Moment) (us : List ℕ) (w : Word) (s : Source) (o : Narrow (s .span)) (long : length (s .names) ≡ 64) where
+  risen-within : Missing w (known w s) (s .span) → within (risen t us w s .span) (number w) ≡ true
+  risen-within g = reached-within (askedFor t us (s .distance)) w s o g
+
   abbrev another : Bool
   another = not (sameHost (w .name .source) (t .me))
 
@@ -110,13 +125,13 @@ module _ (t : Moment) (us : List ℕ) (w : Word) (s : Source) (o : Narrow (s .sp
   long-risen : length (risen t us w s .names) ≡ 64
   long-risen = rise-length (askedFor t us (s .distance)) (number w) s (s .span) ∙ long
 
-  took : Missing w (known w s) (s .span) → TookSource s (apply t us w Takes s) (number w) (w .cue)
-  unfolding apply
-  took g = took-risen (askedFor t us (s .distance)) (λ m. refl) (number w) s long o (ap isClosed (g .span)) (risen-within t us w s o g) (w .cue)
+  took : (new : ℕ → Record) → ((m : ℕ) → isHeld (new m .slot) ≡ false) → Missing w (known w s) (s .span)
+      → TookSource s (hold (number w) (w .cue) (riseWith new (number w) s (s .span))) (number w) (w .cue)
+  took new bare g = took-risen new bare (number w) s long o (ap isClosed (g .span)) (reached-within new w s o g) (w .cue)
 
   -- a record with its cue as it was
-  quiets : (s′ : Source) → Narrow (s′ .span) → within (s′ .span) (number w) ≡ true → length (s′ .names) ≡ 64 → SameSource s′ (apply t us w Hushes s′)
-  unfolding apply heldAt
+  quiets : (s′ : Source) → Narrow (s′ .span) → within (s′ .span) (number w) ≡ true → length (s′ .names) ≡ 64 → SameSource s′ (quietReply t (number w) (w .distance) s′)
+  unfolding heldAt
   quiets s′ n i l = same-record s′ (number w) (quieted (known w s′) (quietAfterReply t (w .distance))) n i l (any-reply No (known w s′ .slot) (known w s′ .cue))
 
   asks : (s′ : Source) (k : ℕ) → Narrow (s′ .span) → within (s′ .span) (number w) ≡ true → length (s′ .names) ≡ 64 → heldAt s′ (number w) ≡ none
@@ -148,12 +163,12 @@ module _ (t : Moment) (us : List ℕ) (w : Word) (s : Source) (o : Narrow (s .sp
   ignored-low BelowFirst g a = below-not-above (s .span) (number w) o g
   ignored-low OwnAboveLast g a = clash (sym (and-both (sameHost (w .name .source) (t .me)) _ (and-both (not (isData (w .says))) _ g .1) .0) ∙ not-true (sameHost (w .name .source) (t .me)) a)
   ignored-low AlreadyHeld g a = held-low (and-both (isHeld (known w s .slot)) _ (and-both (isData (w .says)) _ g .1) .0)
-  ignored-low ReplyWaiting g a = held-low (and-both (isHeld (known w s .slot)) _ (and-both (isRequest (w .says)) _ g .1) .0)
+  ignored-low ReplyWaiting g a = held-low (and-both (isHeld (known w s .slot)) _ (and-both (not (answered (w .says) t w (known w s))) _ (and-both (isRequest (w .says)) _ g .1) .1) .0)
   ignored-low ReplyQuiet g a = held-low (and-both (isHeld (known w s .slot)) _ (and-both (isRequest (w .says)) _ g .1) .0)
   ignored-low RequestQuiet g a = not-true (isAbove (s .span) (number w)) (and-both (not (isAbove (s .span) (number w))) _ (and-both (not (isHeld (known w s .slot))) _ (and-both (isRequest (w .says)) _ g .1) .1) .0)
 
-  waits-within : (q : Request) → known w s .slot ≡ Waiting q → within (s .span) (number w) ≡ true
-  waits-within q p = slot-within s (number w) (ap isEmpty p)
+  waits-within : (q : Request) (x : Express) → known w s .slot ≡ Waiting q x → within (s .span) (number w) ≡ true
+  waits-within q x p = slot-within s (number w) (ap isEmpty p)
 
   replies : isHeld (known w s .slot) ≡ true → SameSource s (apply t us w Replies s)
   unfolding apply heldAt
@@ -164,25 +179,32 @@ module _ (t : Moment) (us : List ℕ) (w : Word) (s : Source) (o : Narrow (s .sp
   unfolding Grounds Seen hands apply
   seen (Ignores why) g = stays s (ignored-low why g) (same-refl-source s)
   seen Opens g = took-opened s (number w) (w .cue) (g .1) long
-  seen Takes g = took (g .1)
-  seen Repairs g = took-same (took (g .1 .missing)) (quiets (hold (number w) (w .cue) (risen t us w s)) narrow-risen (risen-within t us w s o (g .1 .missing))
-      (stored-length (risen t us w s) (number w) (holding (recordAt (risen t us w s) (number w)) (w .cue)) ∙ long-risen))
-  seen Hushes g = stays _ (λ _. held-low (g .1)) (quiets s o (held-within s (number w) (g .1)) long)
+  seen Takes g = took (askedByData t us s) (express-bare t us s) (g .1)
+  seen Repairs g =
+      let held = hold (number w) (w .cue) (risen t us w s) in
+      let hushed = quietReply t (number w) (w .distance) held in
+      let sized = stored-length (risen t us w s) (number w) (holding (recordAt (risen t us w s) (number w)) (w .cue)) ∙ long-risen in
+      took-same (took-same (took (askedFor t us (s .distance)) (λ m. refl) (g .1 .missing)) (quiets held narrow-risen (risen-within (g .1 .missing)) sized)) (paired-same w hushed)
+  seen Hushes g =
+      let hushed = quietReply t (number w) (w .distance) s in
+      rose-same (stays hushed (λ _. held-low (g .1)) (quiets s o (held-within s (number w) (g .1)) long)) (paired-same w hushed)
   seen Replies g = stays _ (λ _. held-low (g .1 .held)) (replies (g .1 .held))
   seen Learns g =
       let x = risen t us w s in
-      let i = risen-within t us w s o (g .1 .missing) in
+      let i = risen-within (g .1 .missing) in
       rose-same rises (asks x 2 narrow-risen i long-risen (rises .holding (number w) (within-not-below (x .span) (number w) i) ∙ lacking (g .1 .missing .lacks)))
   seen (BacksOff k) g =
-      let i = waits-within (g .1 .request) (g .1 .waits) in
+      let i = waits-within (g .1 .request) (g .1 .express) (g .1 .waits) in
       stays _ (λ _. within-not-above (s .span) (number w) i) (asks s (nextRound k) o i long (lacking (ap isHeld (g .1 .waits))))
   seen Clashes g = stays s (λ _. held-low (g .1)) (same-refl-source s)
+  seen Expresses g = stays _ (λ _. held-low (g .1)) (quiets s o (held-within s (number w) (g .1)) long)
 
 -- ---- the book: whether the cue is handed out, from the word, first and last, and what is known of the name
 abbrev pub isRepairing : Says → Bool
 isRepairing Data = false
 isRepairing Rqst = false
 isRepairing Repl = true
+isRepairing Xprs = false
 
 abbrev wordTakes : Says → Bool → Span → ℕ → Bool → Bool
 wordTakes says own x n held = (isData says || (isRepairing says && not (isClosed x))) && (not own && (not (isBelow x n) && not held))
@@ -192,6 +214,7 @@ asked : (says : Says) (a b : Bool) → isRequest says ≡ true → (isData says 
 asked Data a b k = clash′ k
 asked Rqst a b k = refl
 asked Repl a b k = clash′ k
+asked Xprs a b k = refl
 
 module _ (t : Moment) (w : Word) (r : Record) (x : Span) where
   abbrev own : Bool
@@ -223,51 +246,39 @@ module _ (t : Moment) (w : Word) (r : Record) (x : Span) where
   right Learns g mine bare = asked (w .says) _ _ (g .0)
   right (BacksOff k) g mine bare = asked (w .says) _ _ (g .0)
   right Clashes g mine bare = simp (g .1, and-false)
-
--- ---- the effect: Got with the word's name and cue, or one that leaves the output alone
-unfoldable Told : Bool → Word → Effect → Type 0
-Told true w a = a ≡ Got (w .name) (w .cue)
-Told false w a = classOf a ≡ Untouched
-
-told : (w : Word) (d : Decision) → Told (hands d) w (effectOf w d)
-unfolding hands Told effectOf
-told w (Ignores why) = refl
-told w Opens = refl
-told w Takes = refl
-told w Repairs = refl
-told w Hushes = refl
-told w Replies = refl
-told w Learns = refl
-told w (BacksOff k) = refl
-told w Clashes = refl
+  right Expresses g mine bare = asked (w .says) _ _ (ap isRequest (g .0))
 
 -- ---- the lift
 module _ (says : Says) (m : Meaning) (e : End) where
+  -- a message about a name brings its number
+  brought-as : isAboutName m ≡ true → {e′ : End} → Rose (broughtOf (source m) (messageName m .number .0)) e e′ → Rose (broughtTo m) e e′
+  unfolding broughtTo
+  brought-as about r = record {
+    host = r .host;
+    status = r .status;
+    next = r .next;
+    firsts = r .firsts;
+    lasts = λ j hj d. rw about (r .lasts j hj d);
+    up = r .up;
+    holding = r .holding;
+  }
+
+  -- the source has taken the cue and the answer is Got, or it has risen and the answer is a quiet one
   lifted : source m < length (e .sources) → Narrows e → isAboutName m ≡ true → heeds (e .host .0) e m ≡ true → (b : Bool) (s : Source) (a : Effect)
-      → Seen b (not (sameHost (messageName m .source) (e .host))) (wordOf says m e) (sourceAt e (messageName m .source)) s → Told b (wordOf says m e) a
+      → Seen b (not (sameHost (messageName m .source) (e .host))) (wordOf says m e) (sourceAt e (messageName m .source)) s
+      → (b ≡ true → a ≡ Got (messageName m) (messageCue m)) → (b ≡ false → (e′ : End) → Rose (broughtTo m) e e′ → QuietBy (Rose (broughtTo m) e) e (give a e′))
       → takes (e .host .0) e m ≡ b → Hears (e .host .0) e m (give a (withSource e (messageName m .source) s))
-  unfolding Seen Told broughtTo
-  lifted there o about heard true s a v k x = record {
-    hands = λ _. (k, refl, took-source e (messageName m .source) s there (number (wordOf says m e)) (messageCue m) v);
+  unfolding Seen
+  lifted there o about heard true s a v got quiet x = record {
+    hands = λ _. (got refl, refl, took-source e (messageName m .source) s there (number (wordOf says m e)) (messageCue m) v);
     brings = λ y. clash (sym x ∙ y);
     else = λ y. clash (sym heard ∙ y);
   }
-  lifted there o about heard false s a v k x = record {
+  lifted there o about heard false s a v got quiet x = record {
     hands = λ y. clash (sym y ∙ x);
-    brings = λ _ _. untouched-quiet (Rose (broughtTo m) e) e _ a k (brought-as (rose-source e (messageName m .source) s there (number (wordOf says m e)) o v));
+    brings = λ _ _. quiet refl _ (brought-as about (rose-source e (messageName m .source) s there (number (wordOf says m e)) o v));
     else = λ y. clash (sym heard ∙ y);
   }
-    where
-      brought-as : {e′ : End} → Rose (broughtOf (source m) (messageName m .number .0)) e e′ → Rose (broughtTo m) e e′
-      brought-as r = record {
-        host = r .host;
-        status = r .status;
-        next = r .next;
-        firsts = r .firsts;
-        lasts = λ j hj d. rw about (r .lasts j hj d);
-        up = r .up;
-        holding = r .holding;
-      }
 
 -- what the book asks, in the word's terms
 some-open : (x : Span) → isSome (firstIn x) ≡ not (isClosed x)
@@ -286,7 +297,7 @@ some-held : (x : Slot) (c : List ℕ) → isSome (heldIn x c) ≡ isHeld x
 unfolding isSome heldIn
 some-held Empty c = refl
 some-held (Held reply) c = refl
-some-held (Waiting q) c = refl
+some-held (Waiting q x) c = refl
 
 eqb-turn : (a b : ℕ) → eqb a b ≡ eqb b a
 eqb-turn a b = byTest (eqb b a) (λ t. eq-eqb a b (sym (eqb-true b a t)) ∙ sym t) (λ t. eqb-flip b a t ∙ sym t)
@@ -313,21 +324,58 @@ module _ (says : Says) (m : Meaning) (about : isAboutName m ≡ true) (original 
   mine (Ignores why) g h = clash′ h
   mine Opens g h = data-other (g .0)
   mine Takes g h = data-other (g .0)
-  mine Repairs g h = wanted-other t w (known w s) (s .span) (λ i. rw (at-inside s (number w) i) (f .records (source m) (number w) hs i)) (g .1)
+  mine Repairs g h = wanted-other t w (s .pair) (known w s) (s .span) (λ i. rw (at-inside s (number w) i) (f .records (source m) (number w) hs i)) (g .1)
   mine Hushes g h = clash′ h
   mine Replies g h = clash′ h
   mine Learns g h = clash′ h
   mine (BacksOff k) g h = clash′ h
   mine Clashes g h = clash′ h
+  mine Expresses g h = clash′ h
 
   closed-bare : s .span ≡ Closed → isHeld (known w s .slot) ≡ false
   closed-bare p = ap (λ (r : Record). isHeld (r .slot)) (at-outside s (number w) (ap (λ (x : Span). within x (number w)) p))
+
+  -- the answer: Got with the message's name and cue; or one that leaves the output alone, or puts out the cue that is held under the name
+  got : (d : Decision) → hands d ≡ true → effectOf t w (known w s) d ≡ Got (messageName m) (messageCue m)
+  unfolding hands effectOf
+  got (Ignores why) h = clash′ h
+  got Opens h = refl
+  got Takes h = refl
+  got Repairs h = refl
+  got Hushes h = clash′ h
+  got Replies h = clash′ h
+  got Learns h = clash′ h
+  got (BacksOff k) h = clash′ h
+  got Clashes h = clash′ h
+  got Expresses h = clash′ h
+
+  abbrev Silent : Effect → Type 0
+  Silent a = (e′ : End) → Rose (broughtTo m) e e′ → QuietBy (Rose (broughtTo m) e) e (give a e′)
+
+  untouched : (a : Effect) → classOf a ≡ Untouched → Silent a
+  untouched a q e′ v = untouched-quiet (Rose (broughtTo m) e) e e′ a q v
+
+  silent : (d : Decision) → Grounds t w (known w s) (s .span) d → hands d ≡ false → Silent (effectOf t w (known w s) d)
+  unfolding hands effectOf Grounds holds heldAt
+  silent (Ignores why) g h = untouched Ignored refl
+  silent Opens g h = clash h
+  silent Takes g h = clash h
+  silent Repairs g h = clash h
+  silent Hushes g h = untouched Done refl
+  silent Replies g h = untouched Done refl
+  silent Learns g h = untouched Done refl
+  silent (BacksOff k) g h = untouched Done refl
+  silent Clashes g h = untouched (Clash (w .name)) refl
+  silent Expresses g h = λ e′ v.
+      let there = held-there e f (messageName m) (g .1) in
+      carrying-quiet (Rose (broughtTo m) e) e e′ (repairMessage t (w .name) (w .requester) (known w s .cue)) refl
+      (repair-fits us e f (messageName m) there (w .requester) (g .1)) (held-is (known w s .slot) (known w s .cue) (g .1)) v
 
   pub word-hears : Hears (e .host .0) e m (wordStep us says m e)
   unfolding stepAt heeds
   word-hears =
       let d = decide t w s in
       let g = grounds t w (known w s) (s .span) in
-      lifted says m e (omega (arith, f .sources)) (λ k hk. narrow (getD (e .sources) k noSource .span) (f .spans k hk)) about (rw (member, looped)) (hands d) (apply t us w d s) (effectOf w d)
-      (seen t us w s (narrow (s .span) (f .spans (source m) hs)) (f .names (source m) hs) d g) (told w d)
+      lifted says m e (omega (arith, f .sources)) (λ k hk. narrow (getD (e .sources) k noSource .span) (f .spans k hk)) about (rw (member, looped)) (hands d) (apply t us w d s) (effectOf t w (known w s) d)
+      (seen t us w s (narrow (s .span) (f .spans (source m) hs)) (f .names (source m) hs) d g) (got d) (silent d g)
       (takes-word ∙ right t w (known w s) (s .span) d g (mine d g) closed-bare)

@@ -9,7 +9,7 @@ abbrev Inv-loop : tie.InvT-loop
 Inv-loop clock end₀ outs₀ t8 end outs = Unit {0}
 
 abbrev μ-loop : tie.MeasureT-loop
-μ-loop clock end₀ outs₀ t8 end outs = 512 - outs
+μ-loop clock end₀ outs₀ t8 end outs = 1024 - outs
 
 loop-holds : tie.Need-loop-holds Inv-loop μ-loop
 loop-holds c = tt

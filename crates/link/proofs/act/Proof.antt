@@ -1,6 +1,5 @@
 -- `link::act` meets its contract: the event that was matched has this step.
 use mathlib.Core.Path.{subst}
-use native.Mathlib.Omega.{arith}
 use Rattle.end.specs.declared.Event.{Event}
 use Rattle.link.specs.Frame.{OwnGiven}
 use Rattle.link.proofs.CallLaws.{move-quiet}
@@ -35,7 +34,7 @@ arrival-requires c κs =
     record {
       ready = pre .settled .ready;
       counts = pre .settled .counts;
-      passed = record { draws-in = pre .draws; room-in = omega (arith, pre .room); counts-in = own .counts-in; ranges-in = own .ranges-in };
+      passed = record { draws-in = pre .draws; room-in = pre .room; counts-in = own .counts-in; ranges-in = own .ranges-in };
     }
 
 enum-told-3 : tie.Need-enum-told-3

@@ -3,7 +3,7 @@ use mathlib.Core.Path.{sym, ap, _∙_}
 use native.Mathlib.Omega.{arith}
 use borrow.Author.Needs.{needs}
 use borrow.Author.Tests.{ne-eqb}
-use Rattle.message.specs.Kind.{rowOf, DATA, RQST, REPL, SESS}
+use Rattle.message.specs.Kind.{rowOf, DATA, RQST, REPL, SESS, XPRS}
 use Rattle.message.proofs.row_of.Statement.{statement}
 use Rattle.message.proofs.row_of.Tie as tie
 
@@ -20,9 +20,18 @@ returns-4 : tie.Need-returns-4
 returns-4 c = c .known4 .ensures ∙ sym (ap rowOf (c .before .match .keys4))
 
 returns-5 : tie.Need-returns-5
-returns-5 c =
+returns-5 c = c .known5 .ensures ∙ sym (ap rowOf (c .before .match .keys5))
+
+returns-6 : tie.Need-returns-6
+returns-6 c =
     let kind = c .before .args .kind in
-    rw (ne-eqb kind DATA (λ e. omega arith), ne-eqb kind RQST (λ e. omega arith), ne-eqb kind REPL (λ e. omega arith), ne-eqb kind SESS (λ e. omega arith))
+    rw (
+      ne-eqb kind DATA (λ e. omega arith),
+      ne-eqb kind RQST (λ e. omega arith),
+      ne-eqb kind REPL (λ e. omega arith),
+      ne-eqb kind SESS (λ e. omega arith),
+      ne-eqb kind XPRS (λ e. omega arith),
+    )
 
 pub row-of-spec : {M : Type 1} → statement M
 row-of-spec =
@@ -32,8 +41,10 @@ row-of-spec =
     (λ c κs. search needs)
     (λ c κs. search needs)
     (λ c κs. search needs)
+    (λ c κs. search needs)
     returns
     returns-2
     returns-3
     returns-4
-    returns-5)
+    returns-5
+    returns-6)

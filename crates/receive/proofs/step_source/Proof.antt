@@ -12,7 +12,7 @@ use Rattle.receive.proofs.step_source.Tie as tie
 abbrev call : tie.Else1 → tie.Start
 call c = c .before .before .before .before .before
 
-abbrev named : tie.After-about-name-arg → tie.Then2
+abbrev named : tie.After-step-arg → tie.Then2
 named c = c .before .before
 
 unchanged-requires : tie.Need-unchanged-requires
@@ -30,8 +30,8 @@ is-named-requires c κs = search needs
 word-in-requires : tie.Need-word-in-requires
 word-in-requires c κs = search needs
 
-about-name-requires : tie.Need-about-name-requires
-about-name-requires c κs =
+step-requires : tie.Need-step-requires
+step-requires c κs =
     let given = call (named c .before .before) .pre in
     (heeds _ _ _ _ _ _ _ (c .before .word-in .ensures) given, given .passed .room-in)
 
@@ -45,7 +45,7 @@ returns-2 c =
     let other = test .before .before in
     let a = call other .args in
     named-gives (a .t) (a .draws .now) (a .d) (meaningOf (a .m)) (a .s) (a .out .now) (other .if1 .left) _ _ _
-    (sym (test .before .is-named .ensures) ∙ test .if2 .taken) (step .before .before .word-in .ensures) (step .about-name .ensures .0) (step .about-name .ensures .1)
+    (sym (test .before .is-named .ensures) ∙ test .if2 .taken) (step .before .before .word-in .ensures) (step .step .ensures .0) (step .step .ensures .1)
 
 hear-requires : tie.Need-hear-requires
 hear-requires c κs =
@@ -61,5 +61,5 @@ returns-3 c =
     (sym (test .before .is-named .ensures) ∙ test .if2 .left) (c .hear .ensures)
 
 pub step-source-spec : {M : Type 1} → statement M
-step-source-spec = tie.close (tie.spec unchanged-requires returns is-named-requires word-in-requires about-name-requires same-length returns-2
+step-source-spec = tie.close (tie.spec unchanged-requires returns is-named-requires word-in-requires step-requires same-length returns-2
     hear-requires returns-3)

@@ -1,5 +1,6 @@
 -- `records::risen` meets its contract: first, last, the count and the new numbers are the rise's.
 use borrow.Author.Needs.{needs}
+use Rattle.end.specs.Names.{expressed, asked}
 use Rattle.records.proofs.Steps.{all-risen}
 use Rattle.records.proofs.risen.Statement.{statement}
 use Rattle.records.proofs.risen.Tie as tie
@@ -69,8 +70,8 @@ add-missed-2 c = search needs
 
 returns : tie.Need-returns
 returns c =
-    let asked = c .before in
-    let passed = asked .before in
+    let renewed = c .before in
+    let passed = renewed .before in
     let counted = passed .before in
     let new = counted .before in
     let old = new .before in
@@ -79,9 +80,10 @@ returns c =
     let l = floor .before in
     let start = l .before .before .before .before .before in
     let begin = start .before .before in
-    all-risen (begin .args .t) (begin .args .draws .now) (begin .args .n .0) (begin .args .s) (begin .args .first) (begin .args .last) (begin .pre .1 .1 .1)
+    let a = begin .args in
+    all-risen (λ m. expressed (a .x) (asked (a .t) (a .draws .now) (a .s .distance) m)) (a .n .0) (a .s) (a .first) (a .last) (begin .pre .1 .1 .1)
     (l .greater .ensures) (floor .above .ensures) (lo .greater2 .ensures) (old .lesser .ensures) (new .greater3 .ensures)
-    (counted .count-lacking .ensures .0) (passed .above2 .ensures) (asked .request-all .ensures)
+    (counted .count-lacking .ensures .0) (passed .above2 .ensures) (renewed .request-all .ensures)
 
 pub risen-spec : {M : Type 1} → statement M
 risen-spec = tie.close (tie.spec cast-low cast-next add-next cast-greater cast-greater-2 greater-requires sub-above above-requires

@@ -10,6 +10,9 @@ request-for-requires c κs = search needs
 record-at-requires : tie.Need-record-at-requires
 record-at-requires c κs = search needs
 
+express-in-requires : tie.Need-express-in-requires
+express-in-requires c κs = search needs
+
 with-record-requires : tie.Need-with-record-requires
 with-record-requires c κs = search needs
 
@@ -17,4 +20,4 @@ returns : tie.Need-returns
 returns c = search round-set
 
 pub set-round-spec : {M : Type 1} → statement M
-set-round-spec = tie.close (tie.spec request-for-requires record-at-requires with-record-requires returns)
+set-round-spec = tie.close (tie.spec request-for-requires record-at-requires express-in-requires with-record-requires returns)

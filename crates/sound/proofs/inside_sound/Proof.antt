@@ -18,6 +18,9 @@ enum-known-slot-2 c = search needs
 request-sound-requires : tie.Need-request-sound-requires
 request-sound-requires c κs = search needs
 
+express-sound-requires : tie.Need-express-sound-requires
+express-sound-requires c κs = search needs
+
 returns : tie.Need-returns
 returns c = search needs
 
@@ -26,8 +29,9 @@ returns-2 c = rw (c .before .before .slot .given .1) (c .held-sound .ensures)
 
 returns-3 : tie.Need-returns-3
 returns-3 c =
-    let at = c .before .before .before .before .before in
-    rw (at .slot2 .given .1, c .before .request-sound .ensures)
+    let request = c .before .before in
+    let at = request .before .before .before .before in
+    rw (at .slot2 .given .1, request .request-sound .ensures, c .express-sound .ensures)
 
 pub inside-sound-spec : {M : Type 1} → statement M
 inside-sound-spec =
@@ -38,6 +42,7 @@ inside-sound-spec =
     held-sound-requires
     enum-known-slot-2
     request-sound-requires
+    express-sound-requires
     returns
     returns-2
     returns-3)

@@ -9,10 +9,10 @@ use Rattle.sound.proofs.names_sound.Statement.{statement}
 use Rattle.sound.proofs.names_sound.Tie as tie
 
 abbrev Inv-loop : tie.InvT-loop
-Inv-loop me source span names from ok₀ i₀ ok i = (i ≤ 64) × (ok ≡ namesSound me source span names i)
+Inv-loop me source pair span names from ok₀ i₀ ok i = (i ≤ 64) × (ok ≡ namesSound me source pair span names i)
 
 abbrev μ-loop : tie.MeasureT-loop
-μ-loop me source span names from ok₀ i₀ ok i = 64 - i
+μ-loop me source pair span names from ok₀ i₀ ok i = 64 - i
 
 start-of-requires : tie.Need-start-of-requires Inv-loop μ-loop
 start-of-requires c κs = tt

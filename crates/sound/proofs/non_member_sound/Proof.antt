@@ -9,8 +9,13 @@ is-closed-requires c κs = search needs
 is-never-requires : tie.Need-is-never-requires
 is-never-requires c κs = search needs
 
+is-no-pair-requires : tie.Need-is-no-pair-requires
+is-no-pair-requires c κs = search needs
+
 returns : tie.Need-returns
-returns c = rw (c .before .before .is-closed .ensures, c .before .is-never .ensures)
+returns c =
+    let heard = c .before .before in
+    rw (heard .before .is-closed .ensures, heard .is-never .ensures, c .is-no-pair .ensures)
 
 pub non-member-sound-spec : {M : Type 1} → statement M
-non-member-sound-spec = tie.close (tie.spec is-closed-requires is-never-requires returns)
+non-member-sound-spec = tie.close (tie.spec is-closed-requires is-never-requires is-no-pair-requires returns)

@@ -13,13 +13,18 @@ params-small-requires c κs = search needs
 sources-sound-requires : tie.Need-sources-sound-requires
 sources-sound-requires c κs = search needs
 
+delay-in-requires : tie.Need-delay-in-requires
+delay-in-requires c κs = search needs
+
 returns : tie.Need-returns
 unfolding soundOf
 returns c =
-    let a = c .before .before .before .before .before in
+    let all = c .before in
+    let params = all .before .before .before in
+    let a = params .before .before in
     let e = a .args .e in
     let eight : length (e .sources) ≡ 8 = sym (length-map (e .sources) _) ∙ a .good .0 .1 .1 .1 .1 .1 .1 .1 .0 .1 .0 .1 in
-    rw (eq-eqb (length (e .sources)) 8 eight, c .before .before .before .params-small .ensures, c .sources-sound .ensures)
+    rw (eq-eqb (length (e .sources)) 8 eight, params .params-small .ensures, all .sources-sound .ensures, c .delay-in .ensures)
 
 pub sound-spec : {M : Type 1} → statement M
-sound-spec = tie.close (tie.spec params-small-requires sources-sound-requires returns)
+sound-spec = tie.close (tie.spec params-small-requires sources-sound-requires delay-in-requires returns)

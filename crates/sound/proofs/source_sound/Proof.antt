@@ -20,15 +20,26 @@ non-member-sound-requires c κs = search needs
 names-sound-requires : tie.Need-names-sound-requires
 names-sound-requires c κs = search needs
 
+pair-sound-requires : tie.Need-pair-sound-requires
+pair-sound-requires c κs = search needs
+
 returns : tie.Need-returns
 returns c =
-    let others = c .before in
+    let all = c .before in
+    let others = all .before in
     let heard = others .before in
     let far = heard .before in
     let span = far .before in
     let names = span .before .before .before .before .args .s .names in
-    rw (eq-eqb (length names) 64 (c .names-sound .ensures .1))
-    (rw (span .span-sound .ensures, far .distance-sound .ensures, heard .heard-sound .ensures, others .non-member-sound .ensures, c .names-sound .ensures .0))
+    rw (eq-eqb (length names) 64 (all .names-sound .ensures .1))
+    (rw (
+      span .span-sound .ensures,
+      far .distance-sound .ensures,
+      heard .heard-sound .ensures,
+      others .non-member-sound .ensures,
+      all .names-sound .ensures .0,
+      c .pair-sound .ensures,
+    ))
 
 pub source-sound-spec : {M : Type 1} → statement M
 source-sound-spec =
@@ -39,4 +50,5 @@ source-sound-spec =
     heard-sound-requires
     non-member-sound-requires
     names-sound-requires
+    pair-sound-requires
     returns)

@@ -11,8 +11,8 @@ enum-told c = search needs
 enum-told-2 : tie.Need-enum-told-2
 enum-told-2 c = search needs
 
-put-name-requires : tie.Need-put-name-requires
-put-name-requires c κs = search needs
+put-request-requires : tie.Need-put-request-requires
+put-request-requires c κs = search needs
 
 enum-known-slot : tie.Need-enum-known-slot
 enum-known-slot c = search needs
@@ -23,8 +23,8 @@ enum-told-3 c = search needs
 enum-known-reply : tie.Need-enum-known-reply
 enum-known-reply c = search needs
 
-put-name-requires-2 : tie.Need-put-name-requires-2
-put-name-requires-2 c κs = search needs
+put-name-requires : tie.Need-put-name-requires
+put-name-requires c κs = search needs
 
 returns : tie.Need-returns
 unfolding answerOf bufferOf
@@ -36,7 +36,7 @@ same-length c = search needs
 returns-2 : tie.Need-returns-2
 returns-2 c =
     let w = c .before .before in
-    rw (w .before .before .enum-told2 .given .1) (w .put-name .ensures)
+    rw (w .before .before .enum-told2 .given .1) (w .put-request .ensures)
 
 returns-3 : tie.Need-returns-3
 unfolding answerOf bufferOf
@@ -49,7 +49,7 @@ returns-4 : tie.Need-returns-4
 returns-4 c =
     let w = c .before .before in
     let reply = w .before .before .before in
-    rw (reply .before .before .before .slot .given .1) (rw (reply .reply .given .1) (w .put-name2 .ensures))
+    rw (reply .before .before .before .slot .given .1) (rw (reply .reply .given .1) (w .put-name .ensures))
 
 pub fired-answer-spec : {M : Type 1} → statement M
 fired-answer-spec =
@@ -57,11 +57,11 @@ fired-answer-spec =
     (tie.spec
     enum-told
     enum-told-2
-    put-name-requires
+    put-request-requires
     enum-known-slot
     enum-told-3
     enum-known-reply
-    put-name-requires-2
+    put-name-requires
     returns
     same-length
     returns-2

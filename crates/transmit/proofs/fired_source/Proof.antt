@@ -1,5 +1,4 @@
 -- `transmit::fired_source` meets its contract: the slot that was matched decides.
-use native.Mathlib.Omega.{arith}
 use borrow.Author.Needs.{needs}
 use Rattle.transmit.proofs.fired_source.Statement.{statement}
 use Rattle.transmit.proofs.fired_source.Tie as tie
@@ -10,13 +9,8 @@ enum-told c = search needs
 enum-known-slot : tie.Need-enum-known-slot
 enum-known-slot c = search needs
 
-next-round-requires : tie.Need-next-round-requires
-next-round-requires c κs = search needs
-
-set-round-requires : tie.Need-set-round-requires
-set-round-requires c κs =
-    let pre = c .before .before .before .before .before .pre in
-    (pre .source, (pre .numbered, (omega (arith, c .next-round .ensures), omega (arith, c .next-round .ensures))))
+asked-source-requires : tie.Need-asked-source-requires
+asked-source-requires c κs = search needs
 
 enum-known-slot-2 : tie.Need-enum-known-slot-2
 enum-known-slot-2 c = search needs
@@ -36,7 +30,7 @@ returns : tie.Need-returns
 returns c = rw (c .enum-told .given .1)
 
 returns-2 : tie.Need-returns-2
-returns-2 c = rw (c .before .before .before .slot .given .1, ← (c .before .next-round .ensures)) (c .set-round .ensures)
+returns-2 c = rw (c .before .before .slot .given .1) (c .asked-source .ensures)
 
 returns-3 : tie.Need-returns-3
 returns-3 c = rw (c .before .before .before .slot2 .given .1) (rw (c .enum-told2 .given .1))
@@ -52,8 +46,7 @@ fired-source-spec =
     (tie.spec
     enum-told
     enum-known-slot
-    next-round-requires
-    set-round-requires
+    asked-source-requires
     enum-known-slot-2
     enum-told-2
     enum-told-3

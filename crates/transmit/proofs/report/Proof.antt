@@ -4,7 +4,8 @@ use denote.Ref.{now}
 use Rattle.message.specs.Message.{Meaning, bytesOf}
 use Rattle.end.specs.Answer.{Out}
 use Rattle.end.specs.Messages.{sessionMessage}
-use Rattle.transmit.proofs.PutLaws.{Answers, gives}
+use Rattle.compose.proofs.PutLaws.{Answers}
+use Rattle.transmit.proofs.GiveLaws.{gives}
 use borrow.Author.Needs.{needs}
 use Rattle.transmit.proofs.report.Statement.{statement}
 use Rattle.transmit.proofs.report.Tie as tie

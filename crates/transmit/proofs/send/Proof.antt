@@ -10,7 +10,8 @@ use Rattle.end.specs.State.{momentOf, withSource, withNext}
 use Rattle.end.specs.Messages.{aboutName, dataMessage}
 use Rattle.end.specs.Answer.{Out}
 use Rattle.end.specs.Event.{ownName, sentEnd}
-use Rattle.transmit.proofs.PutLaws.{Answers, gives}
+use Rattle.compose.proofs.PutLaws.{Answers}
+use Rattle.transmit.proofs.GiveLaws.{gives}
 use Rattle.transmit.proofs.SendLaws.{rising, sent}
 use borrow.Author.Needs.{needs}
 use Rattle.transmit.proofs.send.Statement.{statement}

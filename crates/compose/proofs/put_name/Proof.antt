@@ -1,8 +1,8 @@
--- `transmit::put_name` meets its contract: the message about the name goes out.
+-- `compose::put_name` meets its contract: the message about the name goes out.
 use borrow.Author.Needs.{needs}
-use Rattle.transmit.proofs.PutLaws.{puts-as}
-use Rattle.transmit.proofs.put_name.Statement.{statement}
-use Rattle.transmit.proofs.put_name.Tie as tie
+use Rattle.compose.proofs.PutLaws.{puts-as}
+use Rattle.compose.proofs.put_name.Statement.{statement}
+use Rattle.compose.proofs.put_name.Tie as tie
 
 about-name-requires : tie.Need-about-name-requires
 about-name-requires c κs = search needs

@@ -1,10 +1,10 @@
--- `records::rise_to` meets its contract: the span is the one that was matched.
+-- `records::rise_with` meets its contract: the span is the one that was matched.
 use Rattle.end.specs.Names.{riseWith}
 use borrow.Author.Needs.{needs}
 use Rattle.state.proofs.Counted.{count-small}
 use Rattle.records.proofs.Steps.{rise-open}
-use Rattle.records.proofs.rise_to.Statement.{statement}
-use Rattle.records.proofs.rise_to.Tie as tie
+use Rattle.records.proofs.rise_with.Statement.{statement}
+use Rattle.records.proofs.rise_with.Tie as tie
 
 enum-told : tie.Need-enum-told
 enum-told c = search needs
@@ -22,5 +22,5 @@ returns c = rw (c .enum-told .given .1)
 returns-2 : tie.Need-returns-2
 returns-2 c = search rise-open
 
-pub rise-to-spec : {M : Type 1} → statement M
-rise-to-spec = tie.close (tie.spec enum-told enum-known-span risen-requires returns returns-2)
+pub rise-with-spec : {M : Type 1} → statement M
+rise-with-spec = tie.close (tie.spec enum-told enum-known-span risen-requires returns returns-2)

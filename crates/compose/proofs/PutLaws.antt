@@ -8,17 +8,11 @@ use Rattle.numbers.proofs.SpliceLaws.{splice-start}
 use Rattle.message.specs.Message.{Meaning, bytesOf}
 use Rattle.end.specs.declared.Answer.{Answer}
 use Rattle.end.specs.declared.Answer.the-variants as answer
-use Rattle.end.specs.declared.Stepped.{Stepped}
-use Rattle.end.specs.declared.End.{End}
-use Rattle.end.specs.Answer.{Effect, Out, Step, give, Did, done, answerOf, calledOf, bufferOf}
+use Rattle.end.specs.Answer.{Effect, Out, Did, answerOf, bufferOf}
 
 -- what a function that answers promises of its answer and of its output, by the effect
 abbrev pub Answers : Effect → Answer → List ℕ → List ℕ → Type 0
 Answers a r out last = (r ≡ answerOf (Did a)) × (last ≡ bufferOf (Did a) out)
-
--- and what a step promises
-abbrev pub Gives : Step → Stepped → List ℕ → List ℕ → Type 0
-Gives step r out last = (r ≡ calledOf (done step)) × (last ≡ bufferOf (Did (step .effect)) out)
 
 pub puts : (bytes : List ℕ) (n : ℕ) (out last : List ℕ) → n ≡ length bytes → last ≡ splice 0 bytes out → Answers (Out bytes) (answer.Out n) out last
 unfolding answerOf bufferOf
@@ -27,7 +21,3 @@ puts bytes n out last p l = (ap answer.Out p, l ∙ splice-start bytes out)
 -- and so of a message that is this one
 pub puts-as : (r : Answer) (y z : Meaning) (out last : List ℕ) → Answers (Out (bytesOf y)) r out last → y ≡ z → Answers (Out (bytesOf z)) r out last
 puts-as r y z out last w e = subst (λ (m : Meaning). Answers (Out (bytesOf m)) r out last) e w
-
--- the answer of an effect beside the end that is left is what the step gives
-pub gives : (a : Effect) (to : End) (r : Answer) (x : End) (out last : List ℕ) → Answers a r out last → x ≡ to → Gives (give a to) (record { answer = r; end = x }) out last
-gives a to r x out last w z = (λ i. record { answer = w .0 i; end = z i }, w .1)

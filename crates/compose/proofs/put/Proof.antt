@@ -1,10 +1,10 @@
--- `transmit::put` meets its contract: the message stands in the first bytes.
+-- `compose::put` meets its contract: the message stands in the first bytes.
 use denote.Ref.{now}
 use Rattle.message.specs.Message.{meaningOf, bytesOf}
-use Rattle.transmit.proofs.PutLaws.{puts}
+use Rattle.compose.proofs.PutLaws.{puts}
 use borrow.Author.Needs.{needs}
-use Rattle.transmit.proofs.put.Statement.{statement}
-use Rattle.transmit.proofs.put.Tie as tie
+use Rattle.compose.proofs.put.Statement.{statement}
+use Rattle.compose.proofs.put.Tie as tie
 
 put-message-requires : tie.Need-put-message-requires
 put-message-requires c κs = search needs

@@ -1,0 +1,3 @@
+pub mod Record
+pub mod Pieces
+pub mod Promise

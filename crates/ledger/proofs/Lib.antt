@@ -1,0 +1,4 @@
+pub mod CueLaws
+pub mod JudgeLaws
+pub mod Rows
+pub mod ViewLaws

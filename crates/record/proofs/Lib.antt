@@ -1,0 +1,5 @@
+pub mod HexLaws
+pub mod LineLaws
+pub mod LinesBack
+pub mod LongLines
+pub mod Rows

@@ -20,6 +20,7 @@ pub mod reason;
 pub mod replay;
 pub mod text;
 pub mod trace;
+pub mod waiting;
 pub mod windows;
 
 /// "Hosts are 0..7".

@@ -3,7 +3,7 @@
 
 mod layout;
 mod panel;
-mod paper;
+pub(crate) mod paper;
 mod play;
 mod story;
 

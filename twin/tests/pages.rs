@@ -1,8 +1,12 @@
 //! Code on the pages for users is quoted from the proved program `example`, word for word, and the files that the pages
-//! name are there.
+//! name are there; the tables and the picture of docs/WAITING.md are what the programs print.
 
 use std::fs;
 use std::path::Path;
+
+use twin::end::Params;
+use twin::random::turns::{measured, RUNS};
+use twin::waiting;
 
 const PAGES: [&str; 2] = ["README.md", "docs/INTEGRATION.md"];
 
@@ -68,4 +72,20 @@ fn every_crate_is_in_the_readme() {
             );
         }
     }
+}
+
+#[test]
+fn the_bounds_are_as_printed() {
+    assert!(text("docs/WAITING.md").contains(&waiting::table()));
+    assert_eq!(text("docs/waiting.svg"), waiting::picture());
+    // The clocks of the computed run `FourRounds` of the crate cases, whose round 1 is set at 32.
+    let clocks = [1, 2, 3].map(|k| 32 + waiting::bound(&Params::STANDARD, 40, k));
+    assert_eq!(clocks, [712, 2072, 4792]);
+}
+
+#[test]
+fn the_turns_are_as_measured() {
+    let (tables, late) = measured(RUNS);
+    assert_eq!(late, 0, "a round was set later than the bound");
+    assert!(text("docs/WAITING.md").contains(&tables));
 }

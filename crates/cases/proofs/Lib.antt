@@ -4,3 +4,4 @@ pub mod Allowed
 pub mod Shown
 pub mod Service
 pub mod Limits
+pub mod Turn

@@ -17,3 +17,4 @@ pub mod Reasons
 pub mod Probe
 pub mod Season
 pub mod Express
+pub mod Turn

@@ -73,7 +73,7 @@ waits-kept e left h n p now =
 
 -- from a request that waits to one that waits: it is the same, or the next
 module _ (c : Cause) (t : Moment) (us : List ℕ) (d n : ℕ) where
-  abbrev SameOrNext : Request → Request → Type 0
+  abbrev pub SameOrNext : Request → Request → Type 0
   SameOrNext q p = (p ≡ q) ⊎ (((q .quiet < t .clock) ⊎ (q .due ≤ t .clock)) × (p ≡ requestAt t us d n (nextRound (q .round))))
 
   both-wait : (q p : Request) (x y : Express) → MayBecome c t us d n (Waiting q x) (Waiting p y) → SameOrNext q p
@@ -84,17 +84,23 @@ module _ (c : Cause) (t : Moment) (us : List ℕ) (d n : ℕ) where
       (subst (λ (z : Slot). MayBecome c t us d n z (Waiting p (expressIn y))) (waits-as x q before)
       (subst (MayBecome c t us d n x) (waits-as y p now) h))
 
--- one call, from a round up to 16
+-- one call
+pub call-between : (e : End) (a : Action) (clock room : ℕ) (draws : List ℕ) (h n : ℕ) (q p : Request) → h < 8
+    → requestOf e h n ≡ some q → requestOf (eventOf e a clock room draws .left) h n ≡ some p
+    → SameOrNext (causeOf (momentAt e clock) a h (sourceAt e (asHost h) .pair)) (momentAt e clock) draws (distanceTo e (asHost h)) n q p
+call-between e a clock room draws h n q p hh before now =
+    let left = eventOf e a clock room draws .left in
+    between _ (momentAt e clock) draws (distanceTo e (asHost h)) n (slotOf e h n) (slotOf left h n) q p before now
+    (slots-may-become e a clock room draws h n hh (waits-kept e left h n p now))
+
+-- from a round up to 16
 pub round-step : (e : End) (a : Action) (clock room : ℕ) (draws : List ℕ) (h n : ℕ) (q p : Request) → q .round ≤ 16 → h < 8
     → requestOf e h n ≡ some q → requestOf (eventOf e a clock room draws .left) h n ≡ some p
     → (q .round ≤ p .round) × (p .round ≤ q .round + 1) × (p .round ≤ 16)
 round-step e a clock room draws h n q p most hh before now =
-    let kept = waits-kept e (eventOf e a clock room draws .left) h n p now in
-    let step = between (causeOf (momentAt e clock) a h (sourceAt e (asHost h) .pair)) (momentAt e clock) draws (distanceTo e (asHost h)) n
-    (slotOf e h n) (slotOf (eventOf e a clock room draws .left) h n) q p before now (slots-may-become e a clock room draws h n hh kept) in
     ⊎-elim (λ same. let k = ap (λ (r : Request). r .round) same in (omega arith, omega arith, omega arith))
     (λ next. let k : p .round ≡ nextRound (q .round) = ap (λ (r : Request). r .round) (next .1) in (omega arith, omega arith, omega arith))
-    step
+    (call-between e a clock room draws h n q p hh before now)
 
 pub rounds-rise : RoundsRise
 rounds-rise e a clock room draws h n q p sound hh before now =
@@ -102,7 +108,7 @@ rounds-rise e a clock room draws h n q p sound hh before now =
 
 -- ---- a request that is set
 
-set-now : (e : End) (clock : ℕ) (draws : List ℕ) (h n : ℕ) (p : Request) (k : ℕ) → soundOf e ≡ true → Drawn draws → 1 ≤ k → k ≤ 16
+pub set-now : (e : End) (clock : ℕ) (draws : List ℕ) (h n : ℕ) (p : Request) (k : ℕ) → soundOf e ≡ true → Drawn draws → 1 ≤ k → k ≤ 16
     → p ≡ requestAt (momentAt e clock) draws (distanceTo e (asHost h)) n k → SetNow e clock draws h n p
 set-now e clock draws h n p k sound bytes least most is =
     let t = momentAt e clock in
@@ -339,7 +345,7 @@ always-set me params cs h n p bytes hh now =
 
 -- ---- what stays
 
-kept-through : (cs : List OneCall) (e : End) → (afterAll e cs .host ≡ e .host) × (afterAll e cs .params ≡ e .params)
+pub kept-through : (cs : List OneCall) (e : End) → (afterAll e cs .host ≡ e .host) × (afterAll e cs .params ≡ e .params)
 kept-through [] e = (refl, refl)
 kept-through (c ∷ cs) e =
     let rest = kept-through cs (after e c) in
@@ -386,11 +392,8 @@ quiet-before-due me params cs h n q bytes cues hh now =
 quiet-call : (e : End) (c : OneCall) (h n : ℕ) (q p : Request) → h < 8 → requestOf e h n ≡ some q → q .quiet < q .due → c .clock ≤ q .quiet
     → requestOf (after e c) h n ≡ some p → p ≡ q
 quiet-call e c h n q p hh before l by now =
-    let kept = waits-kept e (after e c) h n p now in
-    let t = momentAt e (c .clock) in
-    let step = between (causeOf t (c .action) h (sourceAt e (asHost h) .pair)) t (c .draws) (distanceTo e (asHost h)) n
-    (slotOf e h n) (slotOf (after e c) h n) q p before now (slots-may-become e (c .action) (c .clock) (c .room) (c .draws) h n hh kept) in
-    ⊎-elim (λ same. same) (λ next. ⊎-elim (λ late. absurd (omega arith)) (λ due. absurd (omega arith)) (next .0)) step
+    ⊎-elim (λ same. same) (λ next. ⊎-elim (λ late. absurd (omega arith)) (λ due. absurd (omega arith)) (next .0))
+    (call-between e (c .action) (c .clock) (c .room) (c .draws) h n q p hh before now)
 
 pub one-round-per-quiet : OneRoundPerQuiet
 one-round-per-quiet [] e h n q hh before l through by = before

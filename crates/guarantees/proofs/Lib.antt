@@ -9,6 +9,7 @@ pub mod Choice
 pub mod Slots
 pub mod Fires
 pub mod BackOff
+pub mod Turn
 pub mod Express
 pub mod Pairs
 pub mod Reasons

@@ -4,6 +4,7 @@ pub mod Fires
 pub mod Records
 pub mod Arrivals
 pub mod BackOff
+pub mod Turn
 pub mod Clashes
 pub mod Reasons
 pub mod History

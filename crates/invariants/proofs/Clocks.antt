@@ -75,7 +75,7 @@ module _ (us : List ℕ) (e : End) where
   other-clock Fire = fired-clock (earliest e 8)
   other-clock Report = refl
 
-  act-clock : (a : Action) → Keeps e (actOf us a e)
+  pub act-clock : (a : Action) → Keeps e (actOf us a e)
   unfolding actOf arrivalOf
   act-clock (Moves m) = move-clock m e
   act-clock (Send cue) = byCond (Keeps e) (isMember (e .status)) (λ _. refl) (λ _. refl)

@@ -9,6 +9,7 @@ use Rattle.guarantees.proofs.Choice.{choice-is-earliest, no-choice-none-due}
 use Rattle.guarantees.proofs.Fires.{out-is-earliest, nothing-means-none, none-means-nothing, due-means-out, one-less-due, firing-ends}
 use Rattle.guarantees.proofs.BackOff.{opened-c3-below-c1, opened-firing-ends, rounds-rise, set-or-kept, quiet-ignores, once-per-quiet, always-due, rounds-through, always-set, quiet-before-due, one-round-per-quiet}
 use Rattle.guarantees.proofs.Slots.{host-and-params-stay, slots-may-become, waits-until-held, held-until-cleared, spans-may-become, retired-are-gone, held-through, waits-or-held-through}
+use Rattle.guarantees.proofs.Turn.{turn-comes, opened-turn-comes}
 use Rattle.guarantees.proofs.History.{count-over-history, non-members-count-none}
 use Rattle.guarantees.proofs.HistoryRows.{ten-to-eighty, left-again, whole-season}
 use Rattle.guarantees.proofs.Rises.{rises-by-64, places-as-before, rise-as-before, data-rises-alike, nothing-retired-up-to-63, none-missed-up-to-63}
@@ -30,6 +31,7 @@ use Rattle.end.proofs.Reasons.{ignored-for-the-first-reason}
 use Rattle.end.proofs.ReasonLaws.{reason-is-first, none-holds, number-exactly, reason-exactly, none-exactly}
 use Rattle.cases.proofs.Shown.{service-shown, never-returns-clash}
 use Rattle.cases.proofs.Cases.{cases-hold, answers-hold, moves-hold, wire-holds, timed-hold, half-trips-hold, factors-hold, reasons-hold, stage-holds, quiet-holds, clashes-hold, probe-holds, season-holds, express-holds}
+use Rattle.cases.proofs.Turn.{four-rounds, each-is-needed}
 use Rattle.promises.specs.Promises.{Promises}
 
 -- by its definition
@@ -120,6 +122,7 @@ promises = record {
     quiet-before-due = quiet-before-due;
     one-round-per-quiet = one-round-per-quiet;
   };
+  turn = record { turn-comes = turn-comes; opened-turn-comes = opened-turn-comes; four-rounds = four-rounds; each-is-needed = each-is-needed };
   season = record {
     count-over-history = count-over-history;
     non-members-count-none = non-members-count-none;

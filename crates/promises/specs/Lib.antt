@@ -4,6 +4,7 @@ pub mod States
 pub mod Fires
 pub mod Arrivals
 pub mod BackOff
+pub mod Turn
 pub mod Reasons
 pub mod Promises
 pub mod Season

@@ -30,6 +30,7 @@ use Rattle.promises.specs.States.{StatesKept}
 use Rattle.promises.specs.Fires.{FiresKept}
 use Rattle.promises.specs.Arrivals.{ArrivalsKept}
 use Rattle.promises.specs.BackOff.{BackOffKept}
+use Rattle.promises.specs.Turn.{TurnKept}
 use Rattle.promises.specs.Reasons.{ReasonsKept}
 use Rattle.promises.specs.Season.{SeasonKept}
 use Rattle.promises.specs.Express.{ExpressKept}
@@ -71,6 +72,8 @@ pub record Promises : Type 0 where
   pub reasons : ReasonsKept
   -- requests back off, within their bounds
   pub back-off : BackOffKept
+  -- how long a request may wait for its next round: document 02, P12
+  pub turn : TurnKept
   -- the latest 64 numbers of a source are kept, and the count of those retired without a cue is right: document 02, P7
   pub season : SeasonKept
   -- a lost cue is asked for of the host that answered last, and repaired at once: document 02, P8

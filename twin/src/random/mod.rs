@@ -13,6 +13,7 @@ mod messages;
 mod scenes;
 mod spare;
 mod stage;
+pub mod turns;
 pub mod windows;
 
 use crate::book::{Book, Call};

@@ -12,6 +12,7 @@ pub mod cue;
 pub mod digest;
 pub mod end;
 pub mod house;
+pub mod judge;
 pub mod message;
 pub mod panel;
 pub mod picture;

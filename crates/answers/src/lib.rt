@@ -26,7 +26,7 @@ pub enum Shown {
 
 // Each function below writes a piece from `at` on and answers where it ends.
 
-fn text(out: &mut [u8], at: usize, b: &[u8]) -> usize
+pub fn text(out: &mut [u8], at: usize, b: &[u8]) -> usize
     requires { ⌜ at + length (now b) ≤ length (now out) ⌝ }
     ensures { λ r. ⌜ Put (length (now (b .entry))) at (now (b .entry)) (now (out .entry)) (now (out .exit)) r ⌝ }
 {
@@ -41,7 +41,7 @@ fn number(out: &mut [u8], at: usize, n: u64) -> usize
     decimal::put_u64(out, at, n)
 }
 
-fn small_number(out: &mut [u8], at: usize, n: u8) -> usize
+pub fn small_number(out: &mut [u8], at: usize, n: u8) -> usize
     requires { ⌜ at + 3 ≤ length (now out) ⌝ }
     ensures { λ r. ⌜ Put 3 at (decimalOf n) (now (out .entry)) (now (out .exit)) r ⌝ }
 {
@@ -63,7 +63,7 @@ fn integer(out: &mut [u8], at: usize, z: i16) -> usize
     decimal::put_i16(out, at, z)
 }
 
-fn spaced(out: &mut [u8], at: usize, n: u8) -> usize
+pub fn spaced(out: &mut [u8], at: usize, n: u8) -> usize
     requires { ⌜ at + 4 ≤ length (now out) ⌝ }
     ensures { λ r. ⌜ Put 4 at (spacedOf n) (now (out .entry)) (now (out .exit)) r ⌝ }
 {
@@ -71,7 +71,7 @@ fn spaced(out: &mut [u8], at: usize, n: u8) -> usize
     text(out, end, b" ")
 }
 
-fn spaced_number(out: &mut [u8], at: usize, n: u16) -> usize
+pub fn spaced_number(out: &mut [u8], at: usize, n: u16) -> usize
     requires { ⌜ at + 6 ≤ length (now out) ⌝ }
     ensures { λ r. ⌜ Put 6 at (spacedOf n) (now (out .entry)) (now (out .exit)) r ⌝ }
 {

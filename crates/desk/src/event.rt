@@ -229,6 +229,23 @@ pub fn clock_of(word: u64, line: &[u8; 1000], end: usize, at: &mut usize) -> u64
     trace::number(line, end, at)
 }
 
+// In the mode RECORD the line that the event leaves in a run's record stands in place of what was told of it, up to FROM.
+fn keep_line(
+    e: End,
+    word: u64,
+    cue: [u8; 24],
+    a: Answer,
+    n: &mut [usize; 20],
+    out: &[u8; 200],
+    text: &mut [u8; 65536],
+) {
+    if n[crate::MODE] == crate::RECORD {
+        let host = e.host;
+        let at = n[crate::START];
+        n[crate::FROM] = keeping::put(text, at, host, why::event_of(word), cue, a, out);
+    }
+}
+
 // An event: answers the end that it leaves.
 pub fn event(
     e: End,
@@ -265,6 +282,7 @@ pub fn event(
     told(e, a, after, n, out, store, text);
     text::sign(text, n, b';');
     why::say(text, n, reason);
+    keep_line(e, word, cue, a, n, out, text);
     after
 }
 

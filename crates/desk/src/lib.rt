@@ -36,7 +36,7 @@ pub const UNDER: usize = 10;
 // One more than the heading has bytes, and 0 where there is no heading.
 pub const HEADING: usize = 11;
 
-// What is printed: PLAIN, ROWS or WORDS.
+// What is printed: PLAIN, ROWS, WORDS or RECORD.
 pub const MODE: usize = 12;
 
 pub const PLAIN: usize = 0;
@@ -44,6 +44,8 @@ pub const PLAIN: usize = 0;
 pub const ROWS: usize = 1;
 
 pub const WORDS: usize = 2;
+
+pub const RECORD: usize = 3;
 
 // Of the line in play: where its text starts, where its answer starts and ends (0 where it has none), and whether it stands with a mark
 // such as CHANGED.

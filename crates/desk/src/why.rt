@@ -10,7 +10,7 @@ use picture::text;
 use trace::words;
 
 // The event of a word.
-fn event_of(word: u64) -> Event {
+pub fn event_of(word: u64) -> Event {
     match word {
         words::JOIN => Event::Moves(Move::Join),
         words::JOINED => Event::Moves(Move::Joined),

@@ -23,17 +23,18 @@ use Rattle.record.specs.declared.Line.{Line}
 use Rattle.record.specs.Line.{moved, sent, handedOut}
 use Rattle.ledger.specs.Judgement.{anywhere, permitsSaid, permits, writtenSaid, written, permitsRun}
 use Rattle.ledger.proofs.ViewLaws.{as-out}
-use Rattle.fairness.specs.Honest.{linesFor, linesOf, recordOf, RunsPermitted, ListsPermitted}
+use Rattle.record.specs.Kept.{linesFor, linesOf}
+use Rattle.fairness.specs.Honest.{recordOf, RunsPermitted, ListsPermitted}
 use Rattle.fairness.proofs.Follows.{Follows, follows-itself, moves-follow, file-follows, hand-follows, bring-follows}
 
 -- ---- the lines of one call, and then others: from the judge's book j to one that follows the service's next
-abbrev Continues : Book → Book → List Line → Type 0
+abbrev pub Continues : Book → Book → List Line → Type 0
 Continues j next ls = (rest : List Line) → ((k : Book) → Follows k next → permitsRun k rest ≡ true) → permitsRun j (ls ++ rest) ≡ true
 
-no-lines : {j next : Book} → Follows j next → Continues j next []
+pub no-lines : {j next : Book} → Follows j next → Continues j next []
 no-lines {j} f rest k = k j f
 
-one-line : (j : Book) {next : Book} (l : Line) → permits j l ≡ true → Follows (written j l) next → Continues j next (l ∷ [])
+pub one-line : (j : Book) {next : Book} (l : Line) → permits j l ≡ true → Follows (written j l) next → Continues j next (l ∷ [])
 unfolding permitsRun
 one-line j l p f rest k = rw p (k (written j l) f)
 
@@ -161,7 +162,7 @@ module _ {j b : Book} (f : Follows j b) (h : ℕ) (x : List ℕ) where
       (λ t. let q : isGot a ≡ false = rw t at p in rw (quiet-lines h x a q) (no-lines (passed-follows m t)))
 
 -- ---- any call, and all
-noted : {j b : Book} → Follows j b → (h : ℕ) (ev : Action) (o : Outcome) → Answered b h ev o → Continues j (bookAfter b h ev o) (linesOf h ev o)
+pub noted : {j b : Book} → Follows j b → (h : ℕ) (ev : Action) (o : Outcome) → Answered b h ev o → Continues j (bookAfter b h ev o) (linesOf h ev o)
 unfolding bookAfter due after
 noted f h ev (Refused k) p = no-lines f
 noted f h (Moves m) (Did a) p = moved-lines f h m a p

@@ -4,3 +4,4 @@ pub mod Honest
 pub mod Written
 pub mod Listing
 pub mod Rows
+pub mod Tried

@@ -6,7 +6,8 @@ use Rattle.end.specs.Run.{seen}
 use Rattle.record.specs.Line.{moved, sent, handedOut}
 use Rattle.cases.specs.Listing.{house, script, minusTwo}
 use Rattle.cases.proofs.Opened.{opened}
-use Rattle.fairness.specs.Honest.{linesFor, recordOf}
+use Rattle.record.specs.Kept.{linesFor}
+use Rattle.fairness.specs.Honest.{recordOf}
 
 listing-record : recordOf (seen house script)
     ≡ moved Join 0

@@ -35,12 +35,13 @@ use Rattle.ledger.specs.declared.Judgement.the-variants as judged
 use Rattle.ledger.specs.Judgement.{mostLines, judgementOf}
 use Rattle.judgement.specs.Record.{linesFrom, printed, recordPrints}
 use Rattle.judgement.proofs.Pieces.{feed-line, other-line}
-use Rattle.fairness.specs.Honest.{linesFor, linesOf, recordOf, CueBytes, AllCueBytes, NeverAccused, RejectedIsNone}
+use Rattle.record.specs.Kept.{linesFor, linesOf}
+use Rattle.fairness.specs.Honest.{recordOf, CueBytes, AllCueBytes, NeverAccused, RejectedIsNone}
 use Rattle.fairness.proofs.Judged.{over, judged-only-so}
 use Rattle.fairness.proofs.Honest.{within-limits, quiet-lines, else-lines, got-line, lists-permitted}
 
 -- ---- written lines are read as those lines
-abbrev AllProper : List Line → Type 0
+abbrev pub AllProper : List Line → Type 0
 AllProper [] = Unit {0}
 AllProper (l ∷ ls) = Proper l × AllProper ls
 
@@ -54,13 +55,13 @@ nothing-read : linesFrom [] [] ≡ []
 unfolding linesFrom
 nothing-read = refl
 
-record-read : (ls : List Line) → AllProper ls → linesFrom [] (recordText ls) ≡ ls
+pub record-read : (ls : List Line) → AllProper ls → linesFrom [] (recordText ls) ≡ ls
 unfolding recordText
 record-read [] p = nothing-read
 record-read (l ∷ ls) p =
     line-read [] (textOf l) (recordText ls) (text-unbroken l (p .0)) ∙ (λ i. lines-back l (p .0) i ∷ record-read ls (p .1) i)
 
-both-proper : (a b : List Line) → AllProper a → AllProper b → AllProper (a ++ b)
+pub both-proper : (a b : List Line) → AllProper a → AllProper b → AllProper (a ++ b)
 both-proper [] b p q = q
 both-proper (l ∷ a) b p q = (p .0, both-proper a b (p .1) q)
 
@@ -80,15 +81,15 @@ cue-in-range x m p =
     first-in cueIn (m .cues) blankCue (and-both (all cueIn (m .cues)) _ c .0) refl
 
 -- ---- every line of the record is in range
-abbrev Sized : Action → Type 0
+abbrev pub Sized : Action → Type 0
 Sized a = CueArray a × CueBytes a
 
-abbrev AllSized : List Entry → Type 0
+abbrev pub AllSized : List Entry → Type 0
 AllSized [] = Unit {0}
 AllSized (x ∷ xs) = (x .host < 8) × Sized (x .action) × AllSized xs
 
 -- what a book has filed
-abbrev Filed : Book → Type 0
+abbrev pub Filed : Book → Type 0
 Filed b = (s n : ℕ) (c : List ℕ) → getElem? (b .filed s) n ≡ some c → ProperCue c
 
 added-filed : (l : List (List ℕ)) (x c : List ℕ) (n : ℕ) → getElem? (l ++ (x ∷ [])) n ≡ some c → (getElem? l n ≡ some c) ⊎ (x ≡ c)
@@ -104,9 +105,9 @@ file-filed b h cue f p s n c =
     (λ e. ⊎-elim (λ q. f h n c q) (λ q. subst ProperCue q p) (added-filed (b .filed h) cue c n e)) s (λ d e. f s n c e)
 
 -- a call's lines, and what the book has filed after it
-record Steps (next : Book) (ls : List Line) : Type 0 where
-  lines : AllProper ls
-  filed : Filed next
+pub record Steps (next : Book) (ls : List Line) : Type 0 where
+  pub lines : AllProper ls
+  pub filed : Filed next
 
 no-lines : (next : Book) {ls : List Line} → ls ≡ [] → Filed next → Steps next ls
 no-lines next e f = record { lines = subst AllProper (sym e) tt; filed = f }
@@ -175,7 +176,7 @@ module _ (b : Book) (f : Filed b) (h : ℕ) (small : h < 8) where
       })
       (λ t. let q : isGot a ≡ false = rw t at p in no-lines (afterMessage b h (some m)) (quiet-lines h x a q) (passed-filed m t))
 
-  steps : (ev : Action) → Sized ev → (o : Outcome) → Answered b h ev o → Steps (bookAfter b h ev o) (linesOf h ev o)
+  pub steps : (ev : Action) → Sized ev → (o : Outcome) → Answered b h ev o → Steps (bookAfter b h ev o) (linesOf h ev o)
   unfolding bookAfter due after
   steps ev z (Refused k) p = no-lines b refl f
   steps (Moves m) z (Did a) p = moved-steps m a p
@@ -192,12 +193,12 @@ all-proper b f (x ∷ xs) z p =
     (all-proper (bookAfter b (x .host) (x .action) (x .outcome)) (s .filed) xs (z .2) (p .2))
 
 -- ---- the lists of demand 3
-sized : (w : World) (cs : List Call) → Allowed w cs → AllCueBytes cs → AllSized (seen w cs)
+pub sized : (w : World) (cs : List Call) → Allowed w cs → AllCueBytes cs → AllSized (seen w cs)
 unfolding seen
 sized w [] a c = tt
 sized w (x ∷ cs) a c = (a .0, (a .1, c .0), sized (worldAfter w (x .host) (resultOf w x)) cs (a .3) (c .1))
 
-none-filed : Filed emptyBook
+pub none-filed : Filed emptyBook
 none-filed s n c p = let z : _≡_ {A = ℕ} 0 1 = cc in absurd (omega arith)
 
 module _ (w : World) (fresh : Fresh w) (cs : List Call) (allowed : Allowed w cs) (bytes : AllCueBytes cs) where

@@ -39,7 +39,7 @@ fn opened() -> [End; 10] {
     ends
 }
 
-// Plays standard input in a mode: desk::PLAIN, ROWS or WORDS.
+// Plays standard input in a mode: desk::PLAIN, ROWS, WORDS or RECORD.
 pub fn run(mode: usize) {
     let mut buffer = [0u8; 65536];
     let mut line = [0u8; 1000];

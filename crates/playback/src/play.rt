@@ -6,12 +6,14 @@ use trace::words;
 // The heading lies behind the messages that are kept, from this place on.
 const HEADING_AT: usize = 16384;
 
-// Before a line is played: its number, where its text starts, and nothing answered yet.
+// Before a line is played: its number, unless a record is printed, where its text starts, and nothing answered yet.
 pub fn begin(text: &mut [u8; 65536], n: &mut [usize; 20]) {
     n[desk::START] = n[text::USED];
-    let lines = n[desk::LINES] as u64;
-    text::number(text, n, lines);
-    text::put(text, n, b' ');
+    if n[desk::MODE] != desk::RECORD {
+        let lines = n[desk::LINES] as u64;
+        text::number(text, n, lines);
+        text::put(text, n, b' ');
+    }
     n[desk::FROM] = n[text::USED];
     n[desk::TO] = 0;
     n[desk::MARKED] = 0;
@@ -103,6 +105,8 @@ pub fn end(line: &[u8; 1000], p: Parts, at: usize, text: &mut [u8; 65536], n: &m
         bad(text, n);
     } else if silent {
         n[text::USED] = n[desk::START];
+    } else if n[desk::MODE] == desk::RECORD {
+        n[text::USED] = n[desk::FROM];
     } else {
         let wrong = is_wrong(line, p, text, n);
         answered(text, n, wrong);
@@ -198,8 +202,11 @@ fn totals(text: &mut [u8; 65536], n: &mut [usize; 20]) {
     total(text, n, wrong, words::WRONG, false);
 }
 
-// What is printed at the end of a trace.
+// What is printed at the end of a trace: of a record nothing.
 pub fn last(store: &[u8; 17408], text: &mut [u8; 65536], n: &mut [usize; 20]) {
+    if n[desk::MODE] == desk::RECORD {
+        return;
+    }
     close(store, text, n);
     totals(text, n);
     text::put(text, n, b'\n');

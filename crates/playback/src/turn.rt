@@ -20,6 +20,9 @@ pub const STARTS: usize = 10;
 
 pub const NOTHING: usize = 11;
 
+// From this place on stand copies of ends, which leave no line in a record.
+const SPARE: usize = 8;
+
 // ---- lines without an end
 
 // `ask output`.
@@ -218,7 +221,8 @@ fn played(
 
 // The state behind a line that shows it.
 fn show(e: End, text: &mut [u8; 65536], n: &mut [usize; 20]) {
-    if (n[desk::AFTER] == desk::SHOWS) & (n[desk::MODE] != desk::ROWS) {
+    let mode = n[desk::MODE];
+    if (n[desk::AFTER] == desk::SHOWS) & ((mode == desk::PLAIN) | (mode == desk::WORDS)) {
         shown::end(text, n, e);
     }
 }
@@ -239,6 +243,9 @@ pub fn on_end(
     let mut at: usize = 1;
     play::begin(text, n);
     let left = played(e, other, line, p.end, &mut at, n, draws, out, store, text);
+    if (n[desk::MODE] == desk::RECORD) & (SPARE <= t.who) {
+        n[desk::FROM] = n[desk::START];
+    }
     play::end(line, p, at, text, n);
     show(left, text, n);
     left

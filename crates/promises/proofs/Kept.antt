@@ -18,6 +18,12 @@ use Rattle.guarantees.proofs.Clashes.{other-bytes-clash, clash-means}
 use Rattle.guarantees.proofs.Reasons.{request-quiet-waits}
 use Rattle.guarantees.proofs.Express.{express-set-by-gap, express-stays-or-goes, express-goes-out, express-answered, express-else-request}
 use Rattle.guarantees.proofs.Pairs.{pairs-may-become, pair-over-history}
+use Rattle.record.proofs.LinesBack.{lines-back}
+use Rattle.judgement.proofs.Pieces.{judged-in-pieces, too-many-stays}
+use Rattle.fairness.proofs.Judged.{judged-right, judged-only-so}
+use Rattle.fairness.proofs.Honest.{runs-permitted, lists-permitted}
+use Rattle.fairness.proofs.Written.{never-accused, rejected-is-none}
+use Rattle.fairness.proofs.Tried.{tried-permitted, tried-never-accused}
 use Rattle.roundtrip.proofs.RoundTrip.{reads-back, very-bytes, old-bytes, old-numbers, still-read, means-the-same, rewritten, at-most-127, probe-is-empty, only-probe-is-empty}
 use Rattle.numbers.proofs.NumberLaws.{value-digits, digits-value}
 use Rattle.numbers.proofs.SignedLaws.{signed-back, two-bytes-back}
@@ -148,6 +154,19 @@ promises = record {
     express-else-request = express-else-request;
     pairs-may-become = pairs-may-become;
     pair-over-history = pair-over-history;
+  };
+  judge = record {
+    judged-right = judged-right;
+    judged-only-so = judged-only-so;
+    lines-back = lines-back;
+    judged-in-pieces = judged-in-pieces;
+    too-many-stays = too-many-stays;
+    runs-permitted = runs-permitted;
+    lists-permitted = lists-permitted;
+    never-accused = never-accused;
+    rejected-is-none = rejected-is-none;
+    tried-permitted = tried-permitted;
+    tried-never-accused = tried-never-accused;
   };
   first-reason = ignored-for-the-first-reason;
   reasons = record { reason-is-first = reason-is-first; none-holds = none-holds; request-quiet-waits = request-quiet-waits; number-exactly = number-exactly; reason-exactly = reason-exactly; none-exactly = none-exactly };

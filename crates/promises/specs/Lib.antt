@@ -9,3 +9,4 @@ pub mod Reasons
 pub mod Promises
 pub mod Season
 pub mod Express
+pub mod Judge

@@ -34,6 +34,7 @@ use Rattle.promises.specs.Turn.{TurnKept}
 use Rattle.promises.specs.Reasons.{ReasonsKept}
 use Rattle.promises.specs.Season.{SeasonKept}
 use Rattle.promises.specs.Express.{ExpressKept}
+use Rattle.promises.specs.Judge.{JudgeKept}
 
 -- document 01's cases and what else is pinned by computed rows: the answers one by one, the 25 moves by status, messages as bytes, times, a run by answers and
 -- buffers, reply-quiet times, clashes, the probe, a season's rises, express repair
@@ -78,5 +79,7 @@ pub record Promises : Type 0 where
   pub season : SeasonKept
   -- a lost cue is asked for of the host that answered last, and repaired at once: document 02, P8
   pub express : ExpressKept
+  -- a run's record is judged by the book, and an honest link is never accused: document 02, P13
+  pub judge : JudgeKept
   -- "Cases (* is proved)"
   pub cases : CasesKept

@@ -10,6 +10,7 @@ mod defects;
 mod dice;
 mod events;
 mod messages;
+pub mod records;
 mod scenes;
 mod spare;
 mod stage;

@@ -6,6 +6,7 @@ mod cases;
 mod events;
 mod express;
 mod house;
+mod judge;
 mod messages;
 mod picture;
 mod questions;

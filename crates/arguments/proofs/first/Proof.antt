@@ -1,8 +1,8 @@
--- `replay::argument` meets its contract: the measure is the bytes that are left. Assumes nothing.
+-- `arguments::first` meets its contract: the measure is the bytes that are left. Assumes nothing.
 use native.Mathlib.Omega.{arith}
 use Prim.Native.Nat.{_-_}
-use Rattle.replay.proofs.argument.Statement.{statement}
-use Rattle.replay.proofs.argument.Tie as tie
+use Rattle.arguments.proofs.first.Statement.{statement}
+use Rattle.arguments.proofs.first.Tie as tie
 
 abbrev Inv-loop : tie.InvT-loop
 Inv-loop buffer n key₀ i₀ key i = Unit
@@ -40,8 +40,8 @@ loop-again c = tt
 returns : tie.Need-returns Inv-loop μ-loop
 returns c = tt
 
-pub argument-spec : {M : Type 1} → statement M
-argument-spec =
+pub first-spec : {M : Type 1} → statement M
+first-spec =
     tie.close
     (tie.spec
     Inv-loop

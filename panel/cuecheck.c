@@ -52,6 +52,10 @@ static const char *kind(uint8_t byte)
         return "SESS";
     case 21:
         return "XPRS";
+    case 22:
+        return "FTCH";
+    case 23:
+        return "LATE";
     default:
         return NULL;
     }

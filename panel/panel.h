@@ -46,8 +46,8 @@ enum {
 /*
  * The reader's verdict on a datagram of `length` bytes.
  * Answers PANEL_OK, or PANEL_BAD_LENGTH, PANEL_BAD_KIND, PANEL_BAD_RANGE or PANEL_BAD_HOSTS.
- * A datagram of no bytes is a probe, which is PANEL_OK: tell it from a message by its length. The kinds 17 to 21 (DATA, RQST, REPL,
- * SESS, XPRS) and the old kinds 1 to 4, with cue numbers to 63, are read.
+ * A datagram of no bytes is a probe, which is PANEL_OK: tell it from a message by its length. The kinds 17 to 23 (DATA, RQST, REPL,
+ * SESS, XPRS, FTCH, LATE) and the old kinds 1 to 4, with cue numbers to 63, are read.
  */
 uint32_t panel_verdict(const uint8_t *bytes, size_t length);
 

@@ -32,6 +32,9 @@ pub enum Fault {
     Status,
     /// The answer, its name or its cue is not the book's.
     Answer,
+    /// Document 02, P9: a Late that is not "at most once since joining", not "with the source's bytes", or not of one of "the 64
+    /// numbers just below the first original".
+    Late,
 }
 
 pub struct Book {
@@ -43,6 +46,9 @@ pub struct Book {
     /// By reader and source: document 02, P7, "for each member and source from the first hand-out
     /// since joining, the highest number L that unlooped DATA, RQST, REPL and SESS [...] brought".
     highest: [[Option<u16>; ENDS]; ENDS],
+    /// By reader and source: the numbers handed out as Late since joining. "Late cues lie outside its record of receptions", so the
+    /// book's own promises never look here.
+    late: [[Vec<u16>; ENDS]; ENDS],
     /// What the Outs of the list put out so far.
     put_out: HashSet<Vec<u8>>,
 }
@@ -66,6 +72,7 @@ impl Default for Book {
             filed: Default::default(),
             handed: Default::default(),
             highest: Default::default(),
+            late: Default::default(),
             put_out: HashSet::new(),
         }
     }
@@ -104,10 +111,15 @@ impl Book {
             }
             // "Other Arrivals, Fire, Report, events added later: nothing changes,
             // never Got."
-            Event::Fire | Event::Report => !is_got(call),
+            Event::Fire | Event::Report | Event::Fetch { .. } => !is_got(call),
         };
         if !agrees {
             return Err(Fault::Answer);
+        }
+        if let Answer::Late { source, number } = call.answer {
+            if !self.late(call, source, number) {
+                return Err(Fault::Late);
+            }
         }
         if let Some(bytes) = out_bytes(call) {
             self.put_out.insert(bytes.to_vec());
@@ -128,6 +140,7 @@ impl Book {
         if status == Status::Member {
             self.handed[host] = Default::default();
             self.highest[host] = Default::default();
+            self.late[host] = Default::default();
         }
         Answer::Done
     }
@@ -171,13 +184,38 @@ impl Book {
         }
     }
 
+    /// Document 02, P9: "Its requester hands it out as Late, written as Got is, [...] at most once since joining, and in the service's
+    /// runs with the source's bytes": kind 23's name, filed, one of "the 64 numbers just below the first original it had since joining",
+    /// which is the first one handed out.
+    fn late(&mut self, call: &Call, source: u8, number: u16) -> bool {
+        let (reader, from) = (usize::from(call.host), usize::from(source));
+        let Event::Arrival(bytes) = &call.event else {
+            return false;
+        };
+        let message = message::read(bytes).ok().and_then(|read| read.message());
+        let named = message.is_some_and(|message| {
+            let name = message.names.first();
+            message.kind == message::LATE
+                && name.is_some_and(|name| (name.source, name.number) == (source, number))
+        });
+        let first = self.handed[reader][from].first();
+        let below = first.is_some_and(|&first| (0..first).rev().take(64).any(|n| n == number));
+        let filed = self.filed[from].get(usize::from(number));
+        let bytes = filed.is_some_and(|cue| call.out.starts_with(&cue.0));
+        let late = &mut self.late[reader][from];
+        let again = late.contains(&number) || self.handed[reader][from].contains(&number);
+        late.push(number);
+        self.status[reader] == Status::Member && named && below && bytes && !again
+    }
+
     /// P7: "for each member and source from the first hand-out since joining, the highest number L
     /// that unlooped DATA, RQST, REPL and SESS (and what later counts as RQST) brought": P8's kind 21
     /// too, of which every message counts. Who answers one at once holds its cue, so it brings no
-    /// number above L.
+    /// number above L. P9's kinds 22 and 23 count as none of these.
     fn raise_highest(&mut self, reader: u8, message: &Message) {
         let host = usize::from(reader);
-        if self.status[host] != Status::Member || message.sender == reader {
+        let fetches = matches!(message.kind, message::FTCH | message::LATE);
+        if self.status[host] != Status::Member || message.sender == reader || fetches {
             return;
         }
         let names = message.names.iter().map(|name| (name.source, name.number));

@@ -25,7 +25,11 @@ branches! {
     OutRepl "out REPL",
     OutSess "out SESS",
     OutXprs "out XPRS",
+    OutFtch "out kind 22",
+    OutLate "out kind 23",
     Got "got",
+    Late "late",
+    Exhausted "exhausted",
     Clash "clash",
     Done "done",
     Ignored "ignored",
@@ -113,6 +117,13 @@ branches! {
     SoundExpressPair "sound: an express wait only with a kept pair",
     SoundNoPair "sound: non-members keep no pair",
     SoundForty "sound: a non-member has distances to others at 40",
+    SoundOrigin "sound: the first original's number is at most first",
+    SoundOriginNone "sound: the first original's number exactly beside another's first: none there",
+    SoundOriginClosed "sound: the first original's number exactly beside another's first: no first",
+    SoundOriginOwn "sound: the first original's number exactly beside another's first: one's own",
+    SoundTriedOneself "sound: tries only of other hosts",
+    SoundTriedFar "sound: tries only at fetchable numbers",
+    SoundLate "sound: Late marks only beside a try",
 
     // Questions 2, 7
     FewDraws "2: fewer than 64 draws",
@@ -131,13 +142,15 @@ branches! {
     NewSizesMissed "8: every other kind byte in the old sizes: refused",
 
     // Question 9
-    KindUnknown "9: kind 17 to 21, or 1 to 4",
+    KindUnknown "9: kind 17 to 23, or 1 to 4",
     OldNotWritten "9: kinds 1 to 4 are no longer written",
     CountsOfData "9: DATA has 1,1,0,0",
     CountsOfRqst "9: RQST has 1,0,0,0",
     CountsOfRepl "9: REPL has 1,1,0,0",
     CountsOfSess "9: SESS has 0,0,0..8,0..7",
     CountsOfXprs "9: kind 21 is laid out as kind 18",
+    CountsOfFtch "9: kind 22 is shaped as kind 21",
+    CountsOfLate "9: kind 23 is shaped as REPL",
 
     // Question 10
     SenderRange "10: sender",
@@ -161,6 +174,10 @@ branches! {
     ReplSource "11: REPL: nor the source",
     XprsHost "11: kind 21: host differs from its own sender",
     XprsSource "11: kind 21: source differs from its own sender",
+    FtchHost "11: kind 22: host differs from its own sender",
+    FtchSource "11: kind 22: source differs from its own sender",
+    LateSender "11: kind 23: host is not the sender",
+    LateSource "11: kind 23: nor the source",
     ReportsRise "11: reports rise strictly by source",
     EchoesRise "11: echoes by host",
     EchoOfSender "11: no echo names the sender",
@@ -196,6 +213,7 @@ branches! {
     SendOutside "Send outside membership: Ignored",
     FireOutside "Fire outside membership: Ignored",
     ReportOutside "Report outside membership: Ignored",
+    FetchOutside "Fetch outside membership: Ignored",
     ArrivalOutside "Arrival outside membership: Ignored",
     OwnMessage "an arrival whose sender is oneself: Ignored",
     OwnMessageOther "an arrival whose sender is oneself, of a held cue with other bytes: Ignored",
@@ -230,6 +248,8 @@ branches! {
     LeaveMissed "Leave or Crash clears the count",
     LeavePair "Leave or Crash: a pair is kept until then",
     LeaveExpress "Leave or Crash: an express wait goes with its request",
+    LeaveTries "Leave or Crash: tries are since joining",
+    LeaveLate "Leave or Crash: Late marks are since joining",
     DrawAgain "draw n mod 64: of a number above 63",
 
     // Setting the next round
@@ -313,7 +333,58 @@ branches! {
     XprsToAnother "kind 21: another is named: as RQST",
     XprsToAnotherHeld "kind 21: another is named, the cue is held: as RQST",
 
+    // Fetch: document 02, P9
+    FetchNoHost "Fetch: a source above 7: Ignored",
+    FetchOwn "Fetch: the own source: Ignored",
+    FetchNoOriginal "Fetch: no original since joining: Ignored",
+    FetchFirst "Fetch: the first original itself: Ignored",
+    FetchAbove "Fetch: above the first original: Ignored",
+    FetchJustBelow "Fetch: the number just below the first original",
+    FetchSixtyFour "Fetch: the 64th number below the first original",
+    FetchSixtyFive "Fetch: the 65th number below the first original: Ignored",
+    FetchFar "Fetch: further below: Ignored",
+    FetchRisen "Fetch: first has risen, the first original's number stays",
+    FetchHandedOut "Fetch: already handed out: Ignored",
+    FetchHandedOutLeft "Fetch: already handed out, an untried candidate is left: Ignored",
+    FetchLeast "Fetch: the candidate with the least distance is tried",
+    FetchLeastHigher "Fetch: the candidate with the least distance is tried, a lower host is further",
+    FetchTie "Fetch: ties to the lower host",
+    FetchPassedOver "Fetch: one tried for that number is passed over",
+    FetchOtherNumber "Fetch: one tried for another number alone is tried",
+    FetchSource "Fetch: the source itself is tried",
+    FetchHost "Fetch: another host than the source is tried",
+    FetchUnheard "Fetch: no session message of a nearer host was heard: no candidate",
+    FetchUnreported "Fetch: a nearer host's last heard session message did not report that source: no candidate",
+    FetchNoCandidate "Fetch: exhausted: there is no candidate",
+    FetchAllTried "Fetch: exhausted: all candidates were tried",
+
+    // Kind 22
+    FtchOwn "kind 22: the tried host holds the cue, its own: Out kind 23 in that call",
+    FtchOther "kind 22: the tried host holds the cue, another's: Out kind 23 in that call",
+    FtchQuiet "kind 22: Out kind 23 below reply-quiet too",
+    FtchReply "kind 22: Out kind 23 beside a waiting reply, which stays",
+    FtchNotOpen "kind 22: the tried host has not opened the source: Ignored",
+    FtchBelow "kind 22: below the tried host's first: Ignored",
+    FtchWaiting "kind 22: the tried host waits for the cue: Ignored",
+    FtchAbove "kind 22: above the tried host's last, which stays: Ignored",
+    FtchLate "kind 22: a Late cue is not held: Ignored",
+    FtchToAnother "kind 22: another is the tried host: Ignored",
+    FtchToAnotherHeld "kind 22: another is the tried host, the cue is held: Ignored",
+
+    // Kind 23
+    LateFirst "kind 23: its requester has tried its sender: Late",
+    LateOfAny "kind 23: others were tried for that number too: Late",
+    LateTwice "kind 23: already handed out: Ignored",
+    LateUntried "kind 23: its sender was not tried for that number: Ignored",
+    LateUntriedOther "kind 23: another than its sender was tried for that number: Ignored",
+    LateSixtyFour "kind 23: a number at the place of one tried, 64 or more away: Ignored",
+    LateNotFetchable "kind 23: no fetchable number: Ignored",
+    LateToAnother "kind 23: another is its requester: Ignored",
+    LateToAnotherTried "kind 23: another is its requester, its sender was tried: Ignored",
+
     // SESS
+    SessReported "SESS: the sources that it reported are kept",
+    SessReportedLess "SESS: a source that the one before reported is gone",
     SessOwn "SESS: report of oneself",
     SessNoFirst "SESS: report of another source, not opened",
     SessAtMost "SESS: report at most last",
@@ -374,6 +445,7 @@ branches! {
     WhyReplyWaits "reason: reply waiting",
     WhyReplyQuiet "reason: reply-quiet",
     WhyQuiet "reason: request quiet",
+    WhyNoFetch "reason: no fetch",
     WhyMore "reason: the first of two or more that hold",
 }
 
@@ -434,6 +506,8 @@ pub fn take_answer(answer: Answer, out: &[u8]) {
             take_nth(Branch::OutData, usize::from(out[0] - message::DATA));
         }
         Answer::Got { .. } => take(Branch::Got),
+        Answer::Late { .. } => take(Branch::Late),
+        Answer::Exhausted => take(Branch::Exhausted),
         Answer::Clash { .. } => take(Branch::Clash),
         Answer::Done => take(Branch::Done),
         Answer::Ignored => take(Branch::Ignored),
@@ -465,6 +539,7 @@ pub fn take_outside(event: &Event) {
         Event::Send(_) => take(Branch::SendOutside),
         Event::Fire => take(Branch::FireOutside),
         Event::Report => take(Branch::ReportOutside),
+        Event::Fetch { .. } => take(Branch::FetchOutside),
         Event::Arrival(_) => take(Branch::ArrivalOutside),
         _ => {}
     }

@@ -66,16 +66,33 @@ impl Digest {
             None => self.mix(0u8),
         }
         self.mix(source.distance);
+        self.heard(source);
+        for record in &source.names {
+            self.record(record);
+        }
+        for attempt in &source.attempts {
+            self.mix(attempt.tried);
+            self.mix(u8::from(attempt.late));
+        }
+    }
+
+    /// What was heard of a host, and its first original.
+    fn heard(&mut self, source: &Source) {
         match source.heard {
             Some(heard) => {
                 self.mix(1u8);
                 self.mix(heard.stamp);
                 self.mix(heard.at);
+                self.mix(heard.sources);
             }
             None => self.mix(0u8),
         }
-        for record in &source.names {
-            self.record(record);
+        match source.origin {
+            Some(number) => {
+                self.mix(1u8);
+                self.mix(number);
+            }
+            None => self.mix(0u8),
         }
     }
 

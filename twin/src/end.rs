@@ -1,4 +1,4 @@
-//! One end: its state, the soundness test, the opening and the nine events.
+//! One end: its state, the soundness test, the opening and the ten events.
 
 use crate::branches::{self, take, unless, when, Branch};
 use crate::cue::Cue;
@@ -81,17 +81,51 @@ pub struct Record {
     pub reply_quiet: u64,
 }
 
-/// "the latest stamp heard from it and when".
+/// "the latest stamp heard from it and when"; by document 02, P9, the sources that its "last heard
+/// session message since joining reported", bit h for source h: "heard reports only beside heard
+/// stamps".
 #[derive(Clone, Copy, Debug, PartialEq, Eq)]
 pub struct Heard {
     pub stamp: u64,
     pub at: u64,
+    pub sources: u8,
+}
+
+/// What was done to fetch a number (document 02, P9): the hosts "tried for that number since
+/// joining", bit h for host h, and whether it was handed out as Late. Number n stands at place n
+/// mod 64, as the 64 fetchable numbers have 64 places.
+#[derive(Clone, Copy, Debug, PartialEq, Eq)]
+pub struct Attempt {
+    pub tried: u8,
+    pub late: bool,
+}
+
+impl Attempt {
+    pub const NONE: Attempt = Attempt {
+        tried: 0,
+        late: false,
+    };
+
+    fn has_tried(&self, host: u8) -> bool {
+        has_bit(self.tried, host)
+    }
+}
+
+/// Is a host among those of a set?
+fn has_bit(set: u8, host: u8) -> bool {
+    set & bit(host) != 0
+}
+
+/// The set of one host.
+fn bit(host: u8) -> u8 {
+    1 << host
 }
 
 /// "For each of the eight hosts an end keeps first and last (both or neither),
 /// distance, the latest stamp heard from it and when", and its names; by document 02, P7, "the
 /// latest 64 numbers of each source" and the count of "the numbers retired without a cue since
-/// joining"; by P8, "Per source", the pair.
+/// joining"; by P8, "Per source", the pair; by P9, of another's source, the number of "the first
+/// original it had since joining" and what was done to fetch those below it.
 #[derive(Clone, Copy, Debug, PartialEq, Eq)]
 pub struct Source {
     pub first: Option<u16>,
@@ -101,6 +135,8 @@ pub struct Source {
     pub distance: u64,
     pub heard: Option<Heard>,
     pub names: [Record; PLACES as usize],
+    pub origin: Option<u16>,
+    pub attempts: [Attempt; PLACES as usize],
 }
 
 /// An end. Any value of any field can be written down, sound or not.
@@ -114,7 +150,7 @@ pub struct End {
     pub sources: [Source; HOSTS as usize],
 }
 
-/// The nine events with their arguments.
+/// The nine events with their arguments, and document 02, P9's Fetch.
 #[derive(Clone, Debug, PartialEq, Eq)]
 pub enum Event {
     Join,
@@ -126,6 +162,11 @@ pub enum Event {
     Fire,
     Report,
     Arrival(Vec<u8>),
+    /// The name to fetch; any numbers may stand there: "any other fetch [...] is Ignored".
+    Fetch {
+        source: u8,
+        number: u16,
+    },
 }
 
 #[derive(Clone, Copy, Debug, PartialEq, Eq)]
@@ -144,6 +185,13 @@ pub enum Answer {
         source: u8,
         number: u16,
     },
+    /// Document 02, P9: "hands it out as Late, written as Got is".
+    Late {
+        source: u8,
+        number: u16,
+    },
+    /// P9: ""exhausted" is answered exactly when no untried candidate is left."
+    Exhausted,
     Done,
     Ignored,
     Nothing,
@@ -167,6 +215,9 @@ const NEXT_MAX: u32 = NUMBERS;
 
 /// Document 02, P7: "A sound state has last − first at most 63".
 const SPAN_MAX: u16 = 63;
+
+/// Document 02, P9: "any of the 64 numbers just below the first original".
+const FETCHABLE: u16 = 64;
 
 /// P7: "An end keeps the latest 64 numbers of each source: when last rises to L, numbers below L−63 are retired".
 pub fn window_start(last: u16) -> u16 {
@@ -314,6 +365,8 @@ impl Source {
             distance,
             heard: None,
             names: [Record::EMPTY; PLACES as usize],
+            origin: None,
+            attempts: [Attempt::NONE; PLACES as usize],
         }
     }
 
@@ -373,6 +426,35 @@ impl Source {
     fn is_full(&self) -> bool {
         let span = self.first.zip(self.last);
         span.is_some_and(|(first, last)| last - first == SPAN_MAX)
+    }
+}
+
+/// Fetching: document 02, P9.
+impl Source {
+    /// What was done to fetch a number, where it is one of "the 64 numbers just below the first
+    /// original".
+    pub fn attempt(&self, number: u16) -> Option<&Attempt> {
+        let below = self.origin?.checked_sub(number)?;
+        let fetchable = (1..=FETCHABLE).contains(&below);
+        fetchable.then(|| &self.attempts[place_of(number)])
+    }
+
+    /// The fetchable number that has this place, if any.
+    fn fetchable_at(&self, place: usize) -> Option<u16> {
+        let lowest = self.origin?.saturating_sub(FETCHABLE);
+        let places = usize::from(PLACES);
+        let after = (place + places - place_of(lowest)) % places;
+        let number = lowest.checked_add(after as u16)?;
+        self.attempt(number).map(|_| number)
+    }
+
+    /// "tries only of other hosts at fetchable numbers, Late marks only beside a try".
+    fn attempt_sound(&self, place: usize, own_host: u8) -> bool {
+        let attempt = self.attempts[place];
+        let fetchable = attempt.tried == 0 || self.fetchable_at(place).is_some();
+        unless(!attempt.has_tried(own_host), Branch::SoundTriedOneself)
+            && unless(fetchable, Branch::SoundTriedFar)
+            && unless(attempt.tried != 0 || !attempt.late, Branch::SoundLate)
     }
 }
 
@@ -544,6 +626,8 @@ impl End {
             && self.pair_sound(source)
             && self.distance_sound(source)
             && self.heard_sound(source)
+            && self.origin_sound(source)
+            && (0..PLACES).all(|place| kept.attempt_sound(place.into(), self.host))
             && (0..PLACES).all(|place| self.record_sound(source, place))
     }
 
@@ -577,6 +661,21 @@ impl End {
                 && unless(heard.stamp <= CLOCK_MAX, Branch::SoundStamp)
                 && unless(heard.at <= self.clock, Branch::SoundHeardTime)
         })
+    }
+
+    /// Document 02, P9: "A sound state keeps that first original's number, at most first, exactly
+    /// beside another's first". So an own source has none, and a non-member none: it has no first.
+    fn origin_sound(&self, source: u8) -> bool {
+        let kept = self.source(source);
+        if source == self.host {
+            return unless(kept.origin.is_none(), Branch::SoundOriginOwn);
+        }
+        match (kept.first, kept.origin) {
+            (Some(first), Some(origin)) => unless(origin <= first, Branch::SoundOrigin),
+            (Some(_), None) => unless(false, Branch::SoundOriginNone),
+            (None, Some(_)) => unless(false, Branch::SoundOriginClosed),
+            (None, None) => true,
+        }
     }
 
     /// "names outside first..last hold nothing and have reply-quiet 0; those inside have
@@ -627,7 +726,8 @@ impl End {
 
     /// "a non-member has no first, request, reply or heard stamp, and distances to
     /// others at 40": with no first every name is outside, so without request and reply. P8:
-    /// "non-members keep none", no pair.
+    /// "non-members keep none", no pair. P9: "non-members keep none": without firsts and heard
+    /// stamps there is no first original, no report, no fetchable number and so no try.
     fn non_member_sound(&self) -> bool {
         (0..HOSTS).all(|source| {
             let kept = self.source(source);
@@ -729,6 +829,7 @@ impl End {
             (Event::Send(cue), _) => self.send(*cue, out),
             (Event::Fire, _) => self.fire(draws, out),
             (Event::Report, _) => self.report(out),
+            (Event::Fetch { source, number }, _) => self.fetch(*source, *number, out),
             (Event::Arrival(_), Some(Datagram::Probe)) => self.report(out),
             (Event::Arrival(_), Some(Datagram::Message(message))) => {
                 self.arrival(&message, draws, out)
@@ -781,7 +882,7 @@ impl End {
             if let Some(last) = kept.last {
                 message.reports.push(Report { source: host, last });
             }
-            if let Some(Heard { stamp, at }) = kept.heard {
+            if let Some(Heard { stamp, at, .. }) = kept.heard {
                 message.echoes.push(Echo {
                     host,
                     stamp,
@@ -955,6 +1056,8 @@ impl End {
             (message::RQST, [name], []) => self.rqst(name, draws),
             (message::XPRS, [name], []) => self.xprs(name, message.sender, draws, out),
             (message::REPL, [name], [cue]) => self.repl(name, *cue, message.sender, draws, out),
+            (message::FTCH, [name], []) => self.ftch(name, message.sender, out),
+            (message::LATE, [name], [cue]) => self.late(name, *cue, message.sender, out),
             _ => self.sess(message, draws),
         }
     }
@@ -967,6 +1070,8 @@ impl End {
         if when(kept.first.is_none(), Branch::DataNoFirst) {
             kept.first = Some(name.number);
             kept.last = Some(name.number);
+            // P9: "the first original it had since joining".
+            kept.origin = Some(name.number);
         } else if when(kept.is_below_first(name.number), Branch::DataBelow) {
             when(kept.is_full(), Branch::DataBelowFull);
             return Answer::Ignored;
@@ -1261,10 +1366,14 @@ impl End {
         let heard = Heard {
             stamp: message.stamp,
             at: self.clock,
+            sources: reported(&message.reports),
         };
         take(Branch::SessHeard);
+        when(heard.sources != 0, Branch::SessReported);
         let before = self.source_mut(message.sender).heard.replace(heard);
         when(before.is_some(), Branch::SessHeardAgain);
+        let lost = before.map_or(0, |before| before.sources & !heard.sources);
+        when(lost != 0, Branch::SessReportedLess);
         Answer::Done
     }
 
@@ -1303,6 +1412,211 @@ impl End {
             return take(Branch::SessEchoAhead);
         };
         self.source_mut(sender).distance = half_trip(e);
+    }
+}
+
+/// Document 02, P9: the sources that a session message "reported".
+fn reported(reports: &[Report]) -> u8 {
+    reports
+        .iter()
+        .fold(0, |sources, report| sources | bit(report.source))
+}
+
+/// Fetching what came before: document 02, P9.
+impl End {
+    /// "A member may fetch any of the 64 numbers just below the first original it had since joining
+    /// from another host; any other fetch, or one already handed out, is Ignored."; "Each call tries
+    /// the one with the least distance, ties to the lower host, among those not yet tried for that
+    /// number since joining; to a fetch that isn't Ignored, "exhausted" is answered exactly when no
+    /// untried candidate is left."
+    fn fetch(&mut self, source: u8, number: u16, out: &mut [u8]) -> Answer {
+        self.take_fetch(source, number);
+        let Some(attempt) = self.attempt(source, number).filter(|done| !done.late) else {
+            return Answer::Ignored;
+        };
+        let Some(host) = self.untried(source, attempt) else {
+            take(if attempt.tried == 0 {
+                Branch::FetchNoCandidate
+            } else {
+                Branch::FetchAllTried
+            });
+            return Answer::Exhausted;
+        };
+        self.take_tried(source, attempt, host);
+        self.source_mut(source).attempts[place_of(number)].tried |= bit(host);
+        let name = Name {
+            source,
+            number,
+            host,
+        };
+        self.put_out(self.about(message::FTCH, name, None), out)
+    }
+
+    /// What was done to fetch a name that may be fetched. One's own source has no original "from
+    /// another host", so its state keeps none.
+    pub(crate) fn attempt(&self, source: u8, number: u16) -> Option<Attempt> {
+        let kept = self.sources.get(usize::from(source))?;
+        kept.attempt(number).copied()
+    }
+
+    /// "the one with the least distance, ties to the lower host, among those not yet tried".
+    fn untried(&self, source: u8, attempt: Attempt) -> Option<u8> {
+        self.candidates(source)
+            .filter(|&host| !attempt.has_tried(host))
+            .min_by_key(|&host| (self.distance(host), host))
+    }
+
+    /// "Candidates are the other hosts whose last heard session message since joining reported that
+    /// source."
+    fn candidates(&self, source: u8) -> impl Iterator<Item = u8> + '_ {
+        (0..HOSTS).filter(move |&host| {
+            let heard = self.source(host).heard;
+            host != self.host && heard.is_some_and(|heard| has_bit(heard.sources, source))
+        })
+    }
+
+    /// "The tried host answers with kind 23 in that call if it holds the cue."; "All else is
+    /// Ignored".
+    fn ftch(&mut self, name: &Name, sender: u8, out: &mut [u8]) -> Answer {
+        let held = self.kept(name).copied().filter(Record::is_held);
+        if when(name.host != self.host, Branch::FtchToAnother) {
+            when(held.is_some(), Branch::FtchToAnotherHeld);
+            return Answer::Ignored;
+        }
+        let Some(record) = held else {
+            self.take_not_held(name);
+            return Answer::Ignored;
+        };
+        take(if name.source == self.host {
+            Branch::FtchOwn
+        } else {
+            Branch::FtchOther
+        });
+        when(self.clock < record.reply_quiet, Branch::FtchQuiet);
+        when(record.reply.is_some(), Branch::FtchReply);
+        let name = Name {
+            host: sender,
+            ..*name
+        };
+        self.put_out(self.about(message::LATE, name, Some(record.cue)), out)
+    }
+
+    /// "Its requester hands it out as Late, written as Got is, if it has tried that sender for the
+    /// number since joining, at most once since joining [...]. All else is Ignored"; "first doesn't
+    /// move".
+    fn late(&mut self, name: &Name, cue: Cue, sender: u8, out: &mut [u8]) -> Answer {
+        let attempt = self.attempt(name.source, name.number);
+        let tried = attempt.is_some_and(|attempt| attempt.has_tried(sender));
+        if when(name.host != self.host, Branch::LateToAnother) {
+            when(tried, Branch::LateToAnotherTried);
+            return Answer::Ignored;
+        }
+        let Some(attempt) = attempt.filter(|_| tried) else {
+            self.take_untried(name, sender);
+            return Answer::Ignored;
+        };
+        if when(attempt.late, Branch::LateTwice) {
+            return Answer::Ignored;
+        }
+        take(Branch::LateFirst);
+        when(attempt.tried != bit(sender), Branch::LateOfAny);
+        self.source_mut(name.source).attempts[place_of(name.number)].late = true;
+        out[..cue.0.len()].copy_from_slice(&cue.0);
+        Answer::Late {
+            source: name.source,
+            number: name.number,
+        }
+    }
+}
+
+/// What is counted of fetches.
+impl End {
+    /// Where a fetch's name stands.
+    fn take_fetch(&self, source: u8, number: u16) {
+        let Some(kept) = self.sources.get(usize::from(source)) else {
+            return take(Branch::FetchNoHost);
+        };
+        let Some(origin) = kept.origin else {
+            return take(if source == self.host {
+                Branch::FetchOwn
+            } else {
+                Branch::FetchNoOriginal
+            });
+        };
+        when(kept.first > kept.origin, Branch::FetchRisen);
+        match i32::from(origin) - i32::from(number) {
+            0 => take(Branch::FetchFirst),
+            ..0 => take(Branch::FetchAbove),
+            1 => take(Branch::FetchJustBelow),
+            64 => take(Branch::FetchSixtyFour),
+            65 => take(Branch::FetchSixtyFive),
+            66.. => take(Branch::FetchFar),
+            _ => {}
+        }
+        if let Some(attempt) = kept.attempt(number).filter(|attempt| attempt.late) {
+            take(Branch::FetchHandedOut);
+            let left = self.untried(source, *attempt).is_some();
+            when(left, Branch::FetchHandedOutLeft);
+        }
+    }
+
+    /// What the host tried was chosen before.
+    fn take_tried(&self, source: u8, attempt: Attempt, host: u8) {
+        if !branches::counting() {
+            return;
+        }
+        take(if host == source {
+            Branch::FetchSource
+        } else {
+            Branch::FetchHost
+        });
+        when(attempt.tried != 0, Branch::FetchPassedOver);
+        let mut attempts = self.source(source).attempts.iter();
+        let elsewhere = attempts.any(|other| other.has_tried(host));
+        when(elsewhere, Branch::FetchOtherNumber);
+        let distance = self.distance(host);
+        for other in (0..HOSTS).filter(|&other| other != host && other != self.host) {
+            let nearer = (self.distance(other), other) < (distance, host);
+            let reports = self.source(other).heard.map(|heard| heard.sources);
+            match reports.map(|sources| has_bit(sources, source)) {
+                None if nearer => take(Branch::FetchUnheard),
+                Some(false) if nearer => take(Branch::FetchUnreported),
+                Some(true) if attempt.has_tried(other) => {}
+                Some(true) if self.distance(other) == distance => take(Branch::FetchTie),
+                Some(true) if other < host => take(Branch::FetchLeastHigher),
+                Some(true) => take(Branch::FetchLeast),
+                _ => {}
+            }
+        }
+    }
+
+    /// Why the tried host does not hold the cue.
+    fn take_not_held(&self, name: &Name) {
+        let kept = self.source(name.source);
+        take(match kept.first {
+            None => Branch::FtchNotOpen,
+            Some(first) if name.number < first => Branch::FtchBelow,
+            Some(_) if kept.is_above_last(name.number) => Branch::FtchAbove,
+            Some(_) => Branch::FtchWaiting,
+        });
+        let late = kept.attempt(name.number).is_some_and(|done| done.late);
+        when(late, Branch::FtchLate);
+    }
+
+    /// Why a kind 23 of an own request is not handed out.
+    fn take_untried(&self, name: &Name, sender: u8) {
+        let kept = self.source(name.source);
+        match kept.attempt(name.number) {
+            Some(attempt) => {
+                take(Branch::LateUntried);
+                when(attempt.tried != 0, Branch::LateUntriedOther);
+            }
+            None => {
+                take(Branch::LateNotFetchable);
+                let tried = kept.attempts[place_of(name.number)].has_tried(sender);
+                when(tried, Branch::LateSixtyFour);
+            }
+        }
     }
 }
 
@@ -1413,8 +1727,12 @@ impl End {
         kept.has_gap_before(name.number) && requester == Some(self.host)
     }
 
-    /// What Leave and Crash clear of P8's.
+    /// What Leave and Crash clear of P8's and P9's.
     fn take_leave(&self) {
+        let mut attempts = self.sources.iter().flat_map(|kept| kept.attempts);
+        when(attempts.any(|done| done.tried != 0), Branch::LeaveTries);
+        let mut attempts = self.sources.iter().flat_map(|kept| kept.attempts);
+        when(attempts.any(|done| done.late), Branch::LeaveLate);
         let paired = self.sources.iter().any(|kept| kept.pair.is_some());
         when(paired, Branch::LeavePair);
         let mut waits = self.waits();

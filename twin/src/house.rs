@@ -64,6 +64,9 @@ fn lines(mut script: impl BufRead, mut print: impl Write, explained: bool) -> io
             }
             // No run of house's has it: its network invents nothing.
             Answer::Clash { source, number } => format!("clash {source} {number}"),
+            // Nor these: its verbs are document 01's nine, and no kind 22 or 23 comes about.
+            Answer::Late { source, number } => format!("late {source} {number}"),
+            Answer::Exhausted => "exhausted".to_string(),
             Answer::Refused(question) => format!("refused {question}"),
             Answer::Done => "done".to_string(),
             Answer::Ignored if explained => format!("ignored: {why}"),

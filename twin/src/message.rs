@@ -13,6 +13,10 @@ pub const SESS: u8 = 20;
 /// Document 02, P8: "goes out as kind 21, laid out as kind 18".
 pub const XPRS: u8 = 21;
 
+/// Document 02, P9: "Fetch, kind 22, is shaped as kind 21 with the host tried as host; its cue, kind 23, as REPL."
+pub const FTCH: u8 = 22;
+pub const LATE: u8 = 23;
+
 /// "the old kinds are still read, numbers to 63, as the same meanings and no longer written".
 pub const OLD_DATA: u8 = 1;
 const OLD_SESS: u8 = 4;
@@ -291,6 +295,8 @@ fn counts_fit(message: &Message) -> bool {
         RQST => unless(counts == (1, 0, 0, 0), Branch::CountsOfRqst),
         REPL => unless(counts == (1, 1, 0, 0), Branch::CountsOfRepl),
         XPRS => unless(counts == (1, 0, 0, 0), Branch::CountsOfXprs),
+        FTCH => unless(counts == (1, 0, 0, 0), Branch::CountsOfFtch),
+        LATE => unless(counts == (1, 1, 0, 0), Branch::CountsOfLate),
         SESS => unless(matches!(counts, (0, 0, 0..=8, 0..=7)), Branch::CountsOfSess),
         _ => unless(false, Branch::KindUnknown),
     }
@@ -358,6 +364,15 @@ fn hosts_fit(message: &Message) -> bool {
         XPRS => {
             unless(name.host != sender, Branch::XprsHost)
                 && unless(name.source != sender, Branch::XprsSource)
+        }
+        // Document 02, P9: kind 22 "is shaped as kind 21"; "its cue, kind 23, as REPL".
+        FTCH => {
+            unless(name.host != sender, Branch::FtchHost)
+                && unless(name.source != sender, Branch::FtchSource)
+        }
+        LATE => {
+            unless(name.host != sender, Branch::LateSender)
+                && unless(name.host != name.source, Branch::LateSource)
         }
         _ => false,
     })

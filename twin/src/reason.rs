@@ -1,13 +1,14 @@
-//! The reason behind Ignored: document 02, P3. "A new call takes a state and an event and gives the first that holds of" a list of ten.
+//! The reason behind Ignored: document 02, P3. "A new call takes a state and an event and gives the first that holds of" a list of ten, to which
+//! P9 adds "a last reason "no fetch"".
 //! Each reason is a test of its own, read from document 01's sentences and not from the step of the events.
 
 use std::fmt;
 
 use crate::branches::{self, take, Branch};
 use crate::end::{Body, End, Event, Record, Source, Status};
-use crate::message::{Datagram, Message, Name, DATA, REPL, RQST, XPRS};
+use crate::message::{Datagram, Message, Name, DATA, FTCH, LATE, REPL, RQST, XPRS};
 
-/// The ten reasons, in the request's order.
+/// The eleven reasons, in the requests' order.
 #[derive(Clone, Copy, Debug, PartialEq, Eq)]
 pub enum Reason {
     Crashed,
@@ -20,6 +21,7 @@ pub enum Reason {
     ReplyWaiting,
     ReplyQuiet,
     RequestQuiet,
+    NoFetch,
 }
 
 /// What the call gives.
@@ -34,8 +36,8 @@ pub enum Why {
 
 /// "the first that holds of: crashed; wrong status; own message; source not open (RQST, REPL); below first (DATA, RQST, REPL); own number
 /// above last (RQST, REPL); already held (DATA); reply waiting, then reply-quiet (RQST of a held cue); request quiet (RQST of a cue not
-/// held, up to last)."
-const REASONS: [(Reason, &str); 10] = [
+/// held, up to last)."; P9: "for a last reason "no fetch"".
+const REASONS: [(Reason, &str); 11] = [
     (Reason::Crashed, "crashed"),
     (Reason::WrongStatus, "wrong status"),
     (Reason::OwnMessage, "own message"),
@@ -46,6 +48,7 @@ const REASONS: [(Reason, &str); 10] = [
     (Reason::ReplyWaiting, "reply waiting"),
     (Reason::ReplyQuiet, "reply-quiet"),
     (Reason::RequestQuiet, "request quiet"),
+    (Reason::NoFetch, "no fetch"),
 ];
 
 impl End {
@@ -100,6 +103,7 @@ impl Asked<'_> {
             Reason::ReplyWaiting => self.reply_waiting(),
             Reason::ReplyQuiet => self.reply_quiet(),
             Reason::RequestQuiet => self.request_quiet(),
+            Reason::NoFetch => self.no_fetch(),
         }
     }
 
@@ -122,7 +126,11 @@ impl Asked<'_> {
                 Status::Member,
                 Status::Leaving,
             ],
-            Event::Send(_) | Event::Fire | Event::Report | Event::Arrival(_) => &[Status::Member],
+            Event::Send(_)
+            | Event::Fire
+            | Event::Report
+            | Event::Arrival(_)
+            | Event::Fetch { .. } => &[Status::Member],
         };
         !right.contains(&self.end.status)
     }
@@ -194,6 +202,40 @@ impl Asked<'_> {
                 Body::Waiting(request) => self.clock <= request.quiet_until,
                 _ => false,
             })
+    }
+
+    /// Document 02, P9: "A member may fetch any of the 64 numbers [...]; any other fetch, or one already handed out, is Ignored."; "The
+    /// tried host answers with kind 23 in that call if it holds the cue. Its requester hands it out as Late [...] if it has tried that
+    /// sender for the number since joining, at most once since joining [...]. All else is Ignored, for a last reason "no fetch"."
+    fn no_fetch(&self) -> bool {
+        if let Event::Fetch { source, number } = *self.event {
+            return !self.fetchable(source, number) || self.handed_out(source, number);
+        }
+        let sender = self.message.as_ref().map_or(0, |message| message.sender);
+        if let Some((name, _, record)) = self.named(&[FTCH]) {
+            let holds = record.is_some_and(|record| record.body == Body::Held);
+            return name.host != self.end.host || !holds;
+        }
+        if let Some((name, source, _)) = self.named(&[LATE]) {
+            let tried = source.attempts[usize::from(name.number % 64)].tried >> sender & 1 == 1;
+            let asked = name.host == self.end.host && tried;
+            return !asked
+                || !self.fetchable(name.source, name.number)
+                || self.handed_out(name.source, name.number);
+        }
+        false
+    }
+
+    /// "any of the 64 numbers just below the first original it had since joining from another host".
+    fn fetchable(&self, source: u8, number: u16) -> bool {
+        let kept = self.end.sources.get(usize::from(source));
+        kept.and_then(|kept| kept.origin)
+            .is_some_and(|origin| (0..origin).rev().take(64).any(|below| below == number))
+    }
+
+    /// Of a fetchable number: "already handed out", which only Late does below the first original.
+    fn handed_out(&self, source: u8, number: u16) -> bool {
+        self.end.sources[usize::from(source)].attempts[usize::from(number % 64)].late
     }
 
     /// The name in a message of one of these kinds, with what the end keeps of its source and, inside first..last, of itself.

@@ -7,7 +7,7 @@ use std::io::{self, Write};
 use crate::branches::{self, take, Branch};
 use crate::cue::{Cue, CUE_LEN};
 use crate::digest::digest;
-use crate::end::{Answer, Body, End, Event, Heard, Params, Record, Status};
+use crate::end::{Answer, Attempt, Body, End, Event, Params, Record, Status};
 use crate::message::{self, Datagram, Message};
 use crate::reason::Why;
 use crate::text::Hex;
@@ -312,6 +312,10 @@ impl Bench {
             Verb::Fire => Event::Fire,
             Verb::Report => Event::Report,
             Verb::Send(cue) => Event::Send(*cue),
+            Verb::Fetch(source, number) => Event::Fetch {
+                source: *source,
+                number: *number,
+            },
             Verb::Hear(Brought::Number(number)) => Event::Arrival(self.message(*number)?.clone()),
             Verb::Hear(Brought::Bytes(bytes)) => Event::Arrival(bytes.clone()),
             Verb::Hear(Brought::Composed(composed)) => {
@@ -377,7 +381,7 @@ impl Bench {
         branches::take_answer(answer, out);
         self.accounted = match answer {
             Answer::Out(length) => length,
-            Answer::Got { .. } => CUE_LEN,
+            Answer::Got { .. } | Answer::Late { .. } => CUE_LEN,
             _ => 0,
         };
         let keeps = match answer {
@@ -413,6 +417,8 @@ impl Bench {
             }
             Answer::Got { source, number } => format!("got {source} {number}"),
             Answer::Clash { source, number } => format!("clash {source} {number}"),
+            Answer::Late { source, number } => format!("late {source} {number}"),
+            Answer::Exhausted => "exhausted".to_string(),
             Answer::Done => "done".to_string(),
             Answer::Ignored => "ignored".to_string(),
             Answer::Nothing => "nothing".to_string(),
@@ -517,9 +523,17 @@ impl Bench {
                 None => "none".to_string(),
             },
             Asked::Heard(of) => match source(of).heard {
-                Some(Heard { stamp, at }) => format!("{stamp} {at}"),
+                Some(heard) => heard.to_string(),
                 None => "unheard".to_string(),
             },
+            Asked::Origin(of) => match source(of).origin {
+                Some(number) => number.to_string(),
+                None => "none".to_string(),
+            },
+            Asked::Attempt(at) => {
+                let attempts = &source(&at.source).attempts;
+                attempts[usize::from(at.place)].to_string()
+            }
             Asked::Record(at) => record_words(record(end, at)),
             Asked::Same(other) => {
                 let same = end == self.end(*other);
@@ -598,6 +612,11 @@ pub(crate) fn set(end: &mut End, field: &Field) {
         }
         Field::Heard(source, heard) => end.sources[usize::from(*source)].heard = Some(*heard),
         Field::Unheard(source) => end.sources[usize::from(*source)].heard = None,
+        Field::Origin(source, number) => end.sources[usize::from(*source)].origin = Some(*number),
+        Field::NoOrigin(source) => end.sources[usize::from(*source)].origin = None,
+        Field::Attempt(at, attempt) => {
+            end.sources[usize::from(at.source)].attempts[usize::from(at.place)] = *attempt;
+        }
         Field::Empty(at) => {
             let record = record_mut(end, at);
             (record.body, record.reply) = (Body::Nothing, None);
@@ -649,8 +668,12 @@ pub fn in_words(end: &End) -> String {
             _ => "closed".to_string(),
         };
         let heard = match source.heard {
-            Some(Heard { stamp, at }) => format!("heard {stamp} {at}"),
+            Some(heard) => format!("heard {heard}"),
             None => "unheard".to_string(),
+        };
+        let origin = match source.origin {
+            Some(number) => format!("origin {number}"),
+            None => "noorigin".to_string(),
         };
         let pair = match source.pair {
             Some(pair) => format!("pair {pair}"),
@@ -658,11 +681,16 @@ pub fn in_words(end: &End) -> String {
         };
         let (missed, distance) = (source.missed, source.distance);
         line(format!(
-            "source {place} {span} missed {missed} {pair} distance {distance} {heard}"
+            "source {place} {span} missed {missed} {pair} distance {distance} {heard} {origin}"
         ));
         for (at, record) in (0..PLACES).zip(&source.names) {
             if *record != Record::EMPTY {
                 line(format!("record {place} {at} {}", record_words(record)));
+            }
+        }
+        for (at, attempt) in (0..PLACES).zip(&source.attempts) {
+            if *attempt != Attempt::NONE {
+                line(format!("attempt {place} {at} {attempt}"));
             }
         }
     }

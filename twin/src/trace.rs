@@ -3,7 +3,7 @@
 use std::fmt;
 
 use crate::cue::{Cue, CUE_LEN};
-use crate::end::{Heard, Pair, Params, Reply, Request, Status};
+use crate::end::{Attempt, Heard, Pair, Params, Reply, Request, Status};
 use crate::message::{self, Echo, Message, Name, Report};
 use crate::text::{decimal, hexadecimal, signed, Hex};
 use crate::{Draw, HOSTS, PLACES};
@@ -77,6 +77,8 @@ pub enum Verb {
     Report,
     Send(Cue),
     Hear(Brought),
+    /// SOURCE 0..255, NUMBER 0..65535.
+    Fetch(u8, u16),
 }
 
 /// The message that an Arrival brings.
@@ -117,6 +119,9 @@ pub enum Field {
     Distance(u8, u64),
     Heard(u8, Heard),
     Unheard(u8),
+    Origin(u8, u16),
+    NoOrigin(u8),
+    Attempt(At, Attempt),
     Empty(At),
     Held(At),
     Waits(At, Request),
@@ -138,6 +143,8 @@ pub enum Asked {
     Missed(u8),
     Pair(u8),
     Heard(u8),
+    Origin(u8),
+    Attempt(At),
     Record(At),
     Same(u8),
 }
@@ -284,6 +291,28 @@ impl<'a> Words<'a> {
             requester: self.byte()?,
             sender: self.byte()?,
             number: self.cue_number()?,
+        })
+    }
+
+    /// `STAMP WHEN`, and perhaps SOURCES, without which they are none.
+    fn heard(&mut self) -> Option<Heard> {
+        let heard = Heard {
+            stamp: self.number()?,
+            at: self.number()?,
+            sources: 0,
+        };
+        if self.are_over() {
+            return Some(heard);
+        }
+        let sources = self.byte()?;
+        Some(Heard { sources, ..heard })
+    }
+
+    /// `TRIED LATE`.
+    fn attempt(&mut self) -> Option<Attempt> {
+        Some(Attempt {
+            tried: self.byte()?,
+            late: self.below(2)? == 1,
         })
     }
 
@@ -510,6 +539,7 @@ fn event(verb: &str, words: &mut Words) -> Option<(u64, Verb)> {
         "report" => Verb::Report,
         "send" => Verb::Send(words.cue()?),
         "hear" => Verb::Hear(brought(words)?),
+        "fetch" => Verb::Fetch(words.byte()?, words.cue_number()?),
         _ => return None,
     };
     Some((clock, verb))
@@ -544,14 +574,11 @@ fn field(words: &mut Words) -> Option<Field> {
         "pair" => Field::Pair(words.source()?, words.pair()?),
         "nopair" => Field::NoPair(words.source()?),
         "distance" => Field::Distance(words.source()?, words.number()?),
-        "heard" => Field::Heard(
-            words.source()?,
-            Heard {
-                stamp: words.number()?,
-                at: words.number()?,
-            },
-        ),
+        "heard" => Field::Heard(words.source()?, words.heard()?),
         "unheard" => Field::Unheard(words.source()?),
+        "origin" => Field::Origin(words.source()?, words.cue_number()?),
+        "noorigin" => Field::NoOrigin(words.source()?),
+        "attempt" => Field::Attempt(words.at()?, words.attempt()?),
         "empty" => Field::Empty(words.at()?),
         "held" => Field::Held(words.at()?),
         "waits" => Field::Waits(words.at()?, words.request()?),
@@ -580,6 +607,8 @@ fn asked(words: &mut Words) -> Option<Asked> {
         "missed" => Asked::Missed(words.source()?),
         "pair" => Asked::Pair(words.source()?),
         "heard" => Asked::Heard(words.source()?),
+        "origin" => Asked::Origin(words.source()?),
+        "attempt" => Asked::Attempt(words.at()?),
         "record" => Asked::Record(words.at()?),
         "same" => Asked::Same(words.below(ENDS)?),
         _ => return None,
@@ -606,12 +635,14 @@ impl fmt::Display for Status {
     }
 }
 
-const KINDS: [(u8, &str); 5] = [
+const KINDS: [(u8, &str); 7] = [
     (message::DATA, "data"),
     (message::RQST, "rqst"),
     (message::REPL, "repl"),
     (message::SESS, "sess"),
     (message::XPRS, "xprs"),
+    (message::FTCH, "ftch"),
+    (message::LATE, "late"),
 ];
 
 fn kind(word: &str) -> Option<u8> {
@@ -791,6 +822,20 @@ impl fmt::Display for Pair {
     }
 }
 
+/// `STAMP WHEN SOURCES`.
+impl fmt::Display for Heard {
+    fn fmt(&self, f: &mut fmt::Formatter<'_>) -> fmt::Result {
+        write!(f, "{} {} {}", self.stamp, self.at, self.sources)
+    }
+}
+
+/// `TRIED LATE`.
+impl fmt::Display for Attempt {
+    fn fmt(&self, f: &mut fmt::Formatter<'_>) -> fmt::Result {
+        write!(f, "{} {}", self.tried, u8::from(self.late))
+    }
+}
+
 impl fmt::Display for At {
     fn fmt(&self, f: &mut fmt::Formatter<'_>) -> fmt::Result {
         write!(f, "{} {}", self.source, self.place)
@@ -871,6 +916,7 @@ fn print_event(clock: u64, verb: &Verb, f: &mut fmt::Formatter<'_>) -> fmt::Resu
         Verb::Report => write!(f, "report {clock}"),
         Verb::Send(cue) => write!(f, "send {clock} {cue}"),
         Verb::Hear(brought) => write!(f, "hear {clock} {brought}"),
+        Verb::Fetch(source, number) => write!(f, "fetch {clock} {source} {number}"),
     }
 }
 
@@ -902,10 +948,14 @@ impl fmt::Display for Field {
             Field::Pair(source, pair) => write!(f, "pair {source} {pair}"),
             Field::NoPair(source) => write!(f, "nopair {source}"),
             Field::Distance(source, distance) => write!(f, "distance {source} {distance}"),
-            Field::Heard(source, heard) => {
-                write!(f, "heard {source} {} {}", heard.stamp, heard.at)
-            }
+            Field::Heard(source, heard) => match heard.sources {
+                0 => write!(f, "heard {source} {} {}", heard.stamp, heard.at),
+                _ => write!(f, "heard {source} {heard}"),
+            },
             Field::Unheard(source) => write!(f, "unheard {source}"),
+            Field::Origin(source, number) => write!(f, "origin {source} {number}"),
+            Field::NoOrigin(source) => write!(f, "noorigin {source}"),
+            Field::Attempt(at, attempt) => write!(f, "attempt {at} {attempt}"),
             Field::Empty(at) => write!(f, "empty {at}"),
             Field::Held(at) => write!(f, "held {at}"),
             Field::Waits(at, request) => write!(f, "waits {at} {request}"),
@@ -929,6 +979,8 @@ impl fmt::Display for Asked {
             Asked::Missed(source) => write!(f, "missed {source}"),
             Asked::Pair(source) => write!(f, "pair {source}"),
             Asked::Heard(source) => write!(f, "heard {source}"),
+            Asked::Origin(source) => write!(f, "origin {source}"),
+            Asked::Attempt(at) => write!(f, "attempt {at}"),
             Asked::Record(at) => write!(f, "record {at}"),
             Asked::Same(other) => write!(f, "same {other}"),
         }

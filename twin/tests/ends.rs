@@ -714,14 +714,23 @@ fn session_reports_use_the_distance_before_the_echo() {
         end.sources[0].heard,
         Some(Heard {
             stamp: 1234,
-            at: 100
+            at: 100,
+            // P9: the sources reported, 0, 1 and 2.
+            sources: 0b111,
         })
     );
     assert_eq!(
         hear(&mut end, &session(0, 1, vec![], vec![]), 101, 0),
         Answer::Done
     );
-    assert_eq!(end.sources[0].heard, Some(Heard { stamp: 1, at: 101 }));
+    assert_eq!(
+        end.sources[0].heard,
+        Some(Heard {
+            stamp: 1,
+            at: 101,
+            sources: 0
+        })
+    );
 }
 
 #[test]
@@ -908,6 +917,7 @@ fn sound_spans() {
     assert!(!sound_with(|end| {
         end.sources[0] = end.sources[3];
         (end.sources[0].first, end.sources[0].last) = (Some(2), Some(1));
+        end.sources[0].origin = Some(1);
     }));
     let full = |end: &mut End, last| {
         end.sources[0].names = [Record {
@@ -915,6 +925,7 @@ fn sound_spans() {
             ..Record::EMPTY
         }; 64];
         (end.sources[0].first, end.sources[0].last) = (Some(0), Some(last));
+        end.sources[0].origin = Some(0);
     };
     assert!(sound_with(|end| full(end, 63)));
     assert!(!sound_with(|end| full(end, 64)));
@@ -974,7 +985,13 @@ fn sound_replies() {
 #[test]
 fn sound_heard() {
     let with = |source: usize, stamp, at| {
-        sound_with(|end| end.sources[source].heard = Some(Heard { stamp, at }))
+        sound_with(|end| {
+            end.sources[source].heard = Some(Heard {
+                stamp,
+                at,
+                sources: 0,
+            })
+        })
     };
     assert!(with(0, CLOCK_MAX, 20));
     assert!(!with(0, CLOCK_MAX + 1, 20));
@@ -1006,12 +1023,17 @@ fn sound_non_members() {
         assert_eq!(with(|end| end.sources[0].distance = 41), (false, true));
         assert_eq!(with(|end| end.sources[1].distance = 40), (false, false));
         assert_eq!(
-            with(|end| end.sources[0].heard = Some(Heard { stamp: 0, at: 0 })),
+            with(|end| end.sources[0].heard = Some(Heard {
+                stamp: 0,
+                at: 0,
+                sources: 0
+            })),
             (false, true)
         );
         assert_eq!(
             with(|end| {
                 (end.sources[0].first, end.sources[0].last) = (Some(0), Some(0));
+                end.sources[0].origin = Some(0);
                 end.sources[0].names[0].body = Body::Held;
             }),
             (false, true)

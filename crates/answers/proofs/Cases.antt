@@ -6,8 +6,8 @@ use Rattle.message.specs.Entry.{asHost, asNumber}
 use Rattle.decimal.specs.Decimal.{figures, decimal, signedDecimal}
 use Rattle.end.specs.declared.Reason.the-variants.{AlreadyHeld}
 use Rattle.end.specs.Why.{reasonWords}
-use Rattle.answers.specs.declared.Shown.the-variants.{Out, Got, Done, Ignored, IgnoredFor, Nothing, Refused, Clash}
-use Rattle.answers.specs.AnswerLine.{done, ignored, nothing, answerWords, answerLine}
+use Rattle.answers.specs.declared.Shown.the-variants.{Out, Got, Done, Ignored, IgnoredFor, Nothing, Refused, Clash, Late, Exhausted}
+use Rattle.answers.specs.AnswerLine.{done, ignored, nothing, late, exhausted, answerWords, answerLine}
 
 -- "0 0 done"
 done-line : answerLine (asHost 0) 0 Done ≡ 48 ∷ 32 ∷ 48 ∷ 32 ∷ done ++ (10 ∷ [])
@@ -48,3 +48,13 @@ refused-line = refl
 clash-line : answerLine (asHost 1) 40 (Clash (asHost 0) (asNumber 3)) ≡ 49 ∷ 32 ∷ 52 ∷ 48 ∷ 32 ∷ 99 ∷ 108 ∷ 97 ∷ 115 ∷ 104 ∷ 32 ∷ 48 ∷ 32 ∷ 51 ∷ 10 ∷ []
 unfolding answerLine answerWords decimal figures
 clash-line = refl
+
+-- "1 40 late 0 3 -2"
+late-line : answerLine (asHost 1) 40 (Late (asHost 0) (asNumber 3) (negsuc 1)) ≡ 49 ∷ 32 ∷ 52 ∷ 48 ∷ 32 ∷ late ++ (48 ∷ 32 ∷ 51 ∷ 32 ∷ 45 ∷ 50 ∷ 10 ∷ [])
+unfolding answerLine answerWords signedDecimal decimal figures
+late-line = refl
+
+-- "1 40 exhausted"
+exhausted-line : answerLine (asHost 1) 40 Exhausted ≡ 49 ∷ 32 ∷ 52 ∷ 48 ∷ 32 ∷ exhausted ++ (10 ∷ [])
+unfolding answerLine answerWords decimal figures
+exhausted-line = refl

@@ -7,12 +7,12 @@ ghost use Prim.Native.Nat.{_+_, _≤_};
 ghost use lib.ListN.{length};
 ghost use Rattle.decimal.specs.Decimal.{decimal as decimalOf, signedDecimal};
 ghost use Rattle.end.specs.Why.{reasonWords};
-ghost use Rattle.answers.specs.declared.Shown.the-variants.{Out, Got, IgnoredFor, Refused, Clash};
-ghost use Rattle.answers.specs.AnswerLine.{spaced as spacedOf, answerWords, answerLine};
+ghost use Rattle.answers.specs.declared.Shown.the-variants.{Out, Got, IgnoredFor, Refused, Clash, Late};
+ghost use Rattle.answers.specs.AnswerLine.{spaced as spacedOf, cueWords, answerWords, answerLine};
 ghost use Rattle.answers.specs.Put.{Put};
 
-// An answer as it is shown: a message number after out, the name and the focus after got, the question's number after refused, the name
-// after clash. Where the reason is asked for too, its words stand after ignored.
+// An answer as it is shown: a message number after out, the name and the focus after got and late, the question's number after refused, the
+// name after clash. Where the reason is asked for too, its words stand after ignored.
 pub enum Shown {
     Out(u64),
     Got(Host, CueNumber, i16),
@@ -22,6 +22,8 @@ pub enum Shown {
     Nothing,
     Refused(u8),
     Clash(Host, CueNumber),
+    Late(Host, CueNumber, i16),
+    Exhausted,
 }
 
 // Each function below writes a piece from `at` on and answers where it ends.
@@ -103,10 +105,10 @@ fn put_refused(out: &mut [u8], at: usize, question: u8) -> usize
     small_number(out, end, question)
 }
 
-// The name and the focus after got.
+// The name and the focus after got and late.
 fn put_values(out: &mut [u8], at: usize, source: Host, number: CueNumber, focus: i16) -> usize
     requires { ⌜ at + 16 ≤ length (now out) ⌝ }
-    ensures { λ r. ⌜ Put 16 at (spacedOf (source .0) ++ (spacedOf (number .0) ++ signedDecimal focus)) (now (out .entry)) (now (out .exit)) r ⌝ }
+    ensures { λ r. ⌜ Put 16 at (cueWords source number focus) (now (out .entry)) (now (out .exit)) r ⌝ }
 {
     let first = spaced(out, at, source.0);
     let second = spaced_number(out, first, number.0);
@@ -118,6 +120,14 @@ fn put_got(out: &mut [u8], at: usize, source: Host, number: CueNumber, focus: i1
     ensures { λ r. ⌜ Put 24 at (answerWords (Got source number focus)) (now (out .entry)) (now (out .exit)) r ⌝ }
 {
     let end = text(out, at, b"got ");
+    put_values(out, end, source, number, focus)
+}
+
+fn put_late(out: &mut [u8], at: usize, source: Host, number: CueNumber, focus: i16) -> usize
+    requires { ⌜ at + 24 ≤ length (now out) ⌝ }
+    ensures { λ r. ⌜ Put 24 at (answerWords (Late source number focus)) (now (out .entry)) (now (out .exit)) r ⌝ }
+{
+    let end = text(out, at, b"late ");
     put_values(out, end, source, number, focus)
 }
 
@@ -145,6 +155,7 @@ fn put_reason(out: &mut [u8], at: usize, reason: Reason) -> usize
         Reason::ReplyWaiting => text(out, at, b"reply waiting"),
         Reason::ReplyQuiet => text(out, at, b"reply-quiet"),
         Reason::RequestQuiet => text(out, at, b"request quiet"),
+        Reason::NoFetch => text(out, at, b"no fetch"),
     }
 }
 
@@ -169,6 +180,8 @@ fn put_answer(out: &mut [u8], at: usize, a: Shown) -> usize
         Shown::Nothing => text(out, at, b"nothing"),
         Shown::Refused(question) => put_refused(out, at, question),
         Shown::Clash(source, number) => put_clash(out, at, source, number),
+        Shown::Late(source, number, focus) => put_late(out, at, source, number, focus),
+        Shown::Exhausted => text(out, at, b"exhausted"),
     }
 }
 

@@ -13,6 +13,7 @@ use Rattle.cases.specs.Clashes.{clashRows}
 use Rattle.cases.specs.Probe.{probeRows}
 use Rattle.cases.specs.Season.{seasonRows}
 use Rattle.cases.specs.Express.{expressRows}
+use Rattle.cases.specs.Fetch.{fetchRows}
 use Rattle.cases.proofs.Opened.{opened}
 
 pub cases-hold : Hold rows
@@ -25,7 +26,7 @@ moves-hold = (refl, (refl, (refl, (refl, (refl, tt)))))
 
 pub wire-holds : Hold wireRows
 unfolding wireRows opened
-wire-holds = (refl, (refl, (refl, (refl, (refl, (refl, (refl, (refl, (refl, (refl, (refl, (refl, (refl, (refl, (refl, (refl, (refl, (refl, (refl, (refl, (refl, (refl, (refl, (refl, (refl, (refl, (refl, (refl, (refl, (refl, tt))))))))))))))))))))))))))))))
+wire-holds = (refl, (refl, (refl, (refl, (refl, (refl, (refl, (refl, (refl, (refl, (refl, (refl, (refl, (refl, (refl, (refl, (refl, (refl, (refl, (refl, (refl, (refl, (refl, (refl, (refl, (refl, (refl, (refl, (refl, (refl, (refl, (refl, (refl, (refl, (refl, (refl, (refl, (refl, (refl, (refl, (refl, (refl, (refl, (refl, (refl, (refl, tt))))))))))))))))))))))))))))))))))))))))))))))
 
 pub timed-hold : Hold timedRows
 unfolding timedRows opened
@@ -45,7 +46,7 @@ stage-holds = (refl, (refl, tt))
 
 pub answers-hold : Hold answerRows
 unfolding answerRows opened
-answers-hold = (refl, (refl, (refl, (refl, (refl, (refl, (refl, (refl, (refl, (refl, (refl, (refl, (refl, (refl, (refl, (refl, (refl, (refl, (refl, (refl, (refl, tt)))))))))))))))))))))
+answers-hold = (refl, (refl, (refl, (refl, (refl, (refl, (refl, (refl, (refl, (refl, (refl, (refl, (refl, (refl, (refl, (refl, (refl, (refl, (refl, (refl, (refl, (refl, (refl, (refl, (refl, (refl, (refl, (refl, (refl, tt)))))))))))))))))))))))))))))
 
 pub reasons-hold : Hold reasonRows
 unfolding reasonRows opened
@@ -70,3 +71,7 @@ season-holds = (refl, (refl, (refl, (refl, (refl, (refl, (refl, (refl, (refl, (r
 pub express-holds : Hold expressRows
 unfolding expressRows opened
 express-holds = (refl, (refl, (refl, (refl, (refl, (refl, (refl, (refl, (refl, (refl, (refl, (refl, (refl, (refl, (refl, (refl, (refl, (refl, (refl, (refl, (refl, (refl, (refl, (refl, (refl, (refl, (refl, (refl, (refl, tt)))))))))))))))))))))))))))))
+
+pub fetch-holds : Hold fetchRows
+unfolding fetchRows opened
+fetch-holds = (refl, (refl, (refl, (refl, (refl, (refl, (refl, (refl, (refl, (refl, (refl, (refl, (refl, (refl, (refl, (refl, (refl, tt)))))))))))))))))

@@ -11,7 +11,7 @@ use Rattle.message.specs.declared.Name.{Name}
 use Rattle.message.specs.Message.{Meaning, meaningFrom}
 use Rattle.end.specs.declared.Status.{Status}
 use Rattle.end.specs.declared.Status.the-variants.{Idle, Joining, Member, Leaving, Crashed}
-use Rattle.end.specs.Answer.{Effect, Out, Got, Done, Ignored, Nothing, Clash}
+use Rattle.end.specs.Answer.{Effect, Out, Got, Done, Ignored, Nothing, Clash, Late, Exhausted}
 use Rattle.end.specs.Arrival.{messageName, messageCue}
 use Rattle.end.specs.Answer.{Did}
 use Rattle.end.specs.Book.{Book, Entry, readAs, isOriginal, Original, Meets, bookAfter, RunFrom, emptyBook}
@@ -87,6 +87,8 @@ told Done = 1
 told Ignored = 2
 told Nothing = 0
 told (Clash name) = 0
+told (Late name cue) = 0
+told Exhausted = 0
 
 unfoldable standing : Status → ℕ
 standing Idle = 0

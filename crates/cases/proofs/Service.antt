@@ -1,5 +1,5 @@
--- Demand 3 is not empty: it applies to the listing, to the rejoining lists, to a list with probes, to the list on host 7 and to one with an
--- express repair, whose answers are computed.
+-- Demand 3 is not empty: it applies to the listing, to the rejoining lists, to a list with probes, to one in which a controller joins late, to the
+-- list on host 7 and to one with an express repair, whose answers are computed.
 use mathlib.Core.Path.{_≡_, refl}
 use mathlib.Core.List.{map}
 use borrow.Author.Tests.{lt-ltb}
@@ -13,6 +13,7 @@ use Rattle.cases.specs.Probe.{probing, probingGives}
 use Rattle.cases.specs.Shown.{returned, onlooked}
 use Rattle.cases.specs.Stage.{stageParams, stage, play}
 use Rattle.cases.specs.Express.{expressParams, expressStage, exchange}
+use Rattle.cases.specs.Fetch.{lateJoiner, lateJoinerGives}
 use Rattle.cases.proofs.Opened.{opened}
 use Rattle.cases.proofs.Allowed.{tests, is-allowed}
 use Rattle.cases.proofs.Shown.{service-shown}
@@ -33,6 +34,10 @@ below-first = refl
 pub probed : played probing ≡ probingGives
 unfolding opened
 probed = refl
+
+pub late-joined : played lateJoiner ≡ lateJoinerGives
+unfolding opened
+late-joined = refl
 
 -- ---- the theorem at work
 
@@ -64,6 +69,11 @@ below-first-runs = service house house-fresh belowFirst (is-allowed belowFirst h
 pub probing-runs : RunFrom emptyBook (seen house probing)
 unfolding tests opened
 probing-runs = service house house-fresh probing (is-allowed probing house refl)
+
+-- and with a controller that joins late and fetches what it lacks
+pub late-joiner-runs : RunFrom emptyBook (seen house lateJoiner)
+unfolding tests opened
+late-joiner-runs = service house house-fresh lateJoiner (is-allowed lateJoiner house refl)
 
 -- ---- in terms of answers and outputs: the list on host 7, with other parameters
 pub stage-fresh : Fresh stage

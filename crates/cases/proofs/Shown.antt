@@ -1,5 +1,5 @@
 -- Demand 3 in terms of answers and outputs, from the crate end's `service`: what an onlooker reads off an answer and an output is the
--- call's outcome, since a cue that is handed out was filed by a Send, and so has 24 bytes.
+-- call's outcome, since a cue that is handed out, as Got or as Late, was filed by a Send, and so has 24 bytes.
 use mathlib.Core.Path.{_≡_, refl, sym, ap, _∙_, subst}
 use mathlib.Core.Bool.{Bool, true, false, not, _&&_, _||_}
 use mathlib.Core.List.{List, [], _∷_, _++_, map, List·Memᴰ, List·Memᴰ·head, List·Memᴰ·tail, List·Memᴰ·cases-cons, List·Memᴰ·not-nil}
@@ -14,16 +14,18 @@ use Rattle.message.specs.Message.{Meaning}
 use Rattle.end.specs.declared.Answer.{Answer}
 use Rattle.end.specs.declared.Answer.the-variants as answer
 use Rattle.end.specs.Answer.{answerOf, bufferOf}
-use Rattle.end.specs.Answer.{Effect, Out, Got, Done, Ignored, Nothing, Clash}
+use Rattle.end.specs.Answer.{Effect, Out, Got, Done, Ignored, Nothing, Clash, Late, Exhausted}
 use Rattle.end.specs.Event.{Action, Moves, Send, Arrival, Else, moves}
 use Rattle.end.specs.Answer.{Outcome, Refused, Did}
 use Rattle.end.specs.State.{isMember}
 use Rattle.end.specs.Book.{Book, put, readAs, source, number, isOriginal, isRepair, among, firstOf, notBelow, isSome, kept, limits, gets, hears, bring, dueMessage}
 use Rattle.end.specs.Book.{Entry, due, movedBook, file, hand, afterMessage, after, isGot, Meets, Answered, bookAfter, RunFrom, emptyBook}
+use Rattle.end.specs.Lates.{LateAsFiled, LatesAsFiled}
 use Rattle.end.specs.Run.{World, Call, CueArray, Allowed, resultOf, sentAfter, worldAfter, seen}
 use Rattle.end.proofs.Tools.{byCond, clash, clash′, and-left, and-right}
 use Rattle.end.proofs.Service.Ends.{service}
 use Rattle.end.proofs.Service.Unclashed.{never-clashes}
+use Rattle.end.proofs.Service.Lates.{late-has-the-sources-bytes}
 use Rattle.cases.specs.Shown.{Returned, returned, readOff, onlooked, ServiceShown, NeverReturnsClash}
 
 -- ---- every filed cue has 24 bytes
@@ -45,6 +47,12 @@ unfolding AllLong isSome
 long-at [] n a h = clash (sym h)
 long-at (x ∷ l) zero a h = a .0
 long-at (x ∷ l) (suc n) a h = long-at l n (a .1) h
+
+long-some : (l : List (List ℕ)) (n : ℕ) (c : List ℕ) → AllLong l → getElem? l n ≡ some c → length c ≡ 24
+unfolding AllLong isSome
+long-some [] n c a h = clash′ (ap isSome h)
+long-some (x ∷ l) zero c a h = let same : x ≡ c = cc in sym (ap length same) ∙ a .0
+long-some (x ∷ l) (suc n) c a h = long-some l n c (a .1) h
 
 -- a call leaves the book so
 long-message : (b : Book) (h : ℕ) (m : Option Meaning) → Long b → Long (afterMessage b h m)
@@ -105,20 +113,31 @@ whole b h (Send cue) x l =
 whole b h (Arrival bytes) x l = whole-message b h (readAs bytes) x l
 whole b h (Else o) x l = never-got x
 
--- ---- so the outcome is read off the answer and the output
-read-back : (x : Effect) (out : List ℕ) → Whole x → readOff (answerOf (Did x)) (bufferOf (Did x) out) ≡ Did x
-unfolding Whole readOff answerOf bufferOf
-read-back (Out bytes) out w = ap (λ (l : List ℕ). Did (Out l)) (take-at bytes (drop (length bytes) out) (length bytes) refl)
-read-back (Got name cue) out w = ap (λ (l : List ℕ). Did (Got name l)) (take-at cue (drop (length cue) out) 24 (w name cue refl))
-read-back Done out w = refl
-read-back Ignored out w = refl
-read-back Nothing out w = refl
-read-back (Clash name) out w = refl
+-- ---- and one that is handed out as Late
+WholeLate : Effect → Type 0
+WholeLate x = (name : Name) (cue : List ℕ) → x ≡ Late name cue → length cue ≡ 24
 
-outcome-back : (b : Book) (h : ℕ) (ev : Action) (o : Outcome) (out : List ℕ) → Long b → Answered b h ev o → readOff (answerOf o) (bufferOf o out) ≡ o
+whole-late : (b : Book) (x : Effect) → Long b → LateAsFiled b (Did x) → WholeLate x
+unfolding WholeLate Long
+whole-late b x l filed name cue e = long-some (b .filed (name .source .0)) (name .number .0) cue (l (name .source .0)) (filed name cue (ap Did e))
+
+-- ---- so the outcome is read off the answer and the output
+read-back : (x : Effect) (out : List ℕ) → Whole x → WholeLate x → readOff (answerOf (Did x)) (bufferOf (Did x) out) ≡ Did x
+unfolding Whole WholeLate readOff answerOf bufferOf
+read-back (Out bytes) out w v = ap (λ (l : List ℕ). Did (Out l)) (take-at bytes (drop (length bytes) out) (length bytes) refl)
+read-back (Got name cue) out w v = ap (λ (l : List ℕ). Did (Got name l)) (take-at cue (drop (length cue) out) 24 (w name cue refl))
+read-back Done out w v = refl
+read-back Ignored out w v = refl
+read-back Nothing out w v = refl
+read-back (Clash name) out w v = refl
+read-back (Late name cue) out w v = ap (λ (l : List ℕ). Did (Late name l)) (take-at cue (drop (length cue) out) 24 (v name cue refl))
+read-back Exhausted out w v = refl
+
+outcome-back : (b : Book) (h : ℕ) (ev : Action) (o : Outcome) (out : List ℕ) → Long b → LateAsFiled b o → Answered b h ev o
+    → readOff (answerOf o) (bufferOf o out) ≡ o
 unfolding readOff answerOf bufferOf
-outcome-back b h ev (Refused k) out l a = refl
-outcome-back b h ev (Did x) out l a = read-back x out (whole b h ev x l a)
+outcome-back b h ev (Refused k) out l f a = refl
+outcome-back b h ev (Did x) out l f a = read-back x out (whole b h ev x l a) (whole-late b x l f)
 
 -- and so are the bytes that are put out, which a later Arrival may bring
 pub sent-as-shown : (o : Outcome) (out : List ℕ) (l : List (List ℕ)) → sentAfter (readOff (answerOf o) (bufferOf o out)) l ≡ sentAfter o l
@@ -130,22 +149,25 @@ sent-as-shown (Did Done) out l = refl
 sent-as-shown (Did Ignored) out l = refl
 sent-as-shown (Did Nothing) out l = refl
 sent-as-shown (Did (Clash name)) out l = refl
+sent-as-shown (Did (Late name cue)) out l = refl
+sent-as-shown (Did Exhausted) out l = refl
 
-shown-runs : (cs : List Call) (w : World) (b : Book) → Long b → Allowed w cs → RunFrom b (seen w cs) → RunFrom b (map onlooked (returned w cs))
+shown-runs : (cs : List Call) (w : World) (b : Book) → Long b → Allowed w cs → LatesAsFiled b (seen w cs) → RunFrom b (seen w cs)
+    → RunFrom b (map onlooked (returned w cs))
 unfolding seen returned onlooked
-shown-runs [] w b l a r = tt
-shown-runs (c ∷ cs) w b l a r =
+shown-runs [] w b l a f r = tt
+shown-runs (c ∷ cs) w b l a f r =
     let o = resultOf w c .outcome in
-    let back : readOff (answerOf o) (bufferOf o (c .output)) ≡ o = outcome-back b (c .host) (c .action) o (c .output) l (r .0) in
+    let back : readOff (answerOf o) (bufferOf o (c .output)) ≡ o = outcome-back b (c .host) (c .action) o (c .output) l (f .0) (r .0) in
     let rest = map onlooked (returned (worldAfter w (c .host) (resultOf w c)) cs) in
-    let tail : RunFrom (bookAfter b (c .host) (c .action) o) rest = shown-runs cs _ _ (long-book b (c .host) (c .action) o (a .1) l) (a .3) (r .2) in
+    let tail : RunFrom (bookAfter b (c .host) (c .action) o) rest = shown-runs cs _ _ (long-book b (c .host) (c .action) o (a .1) l) (a .3) (f .1) (r .2) in
     subst
     (λ (x : Outcome). RunFrom b (record { host = c .host; action = c .action; outcome = x; status = resultOf w c .left .status } ∷ rest))
     (sym back) (r .0, r .1, tail)
 
 pub service-shown : ServiceShown
 unfolding Long AllLong
-service-shown w f cs a = shown-runs cs w emptyBook (λ s. tt) a (service w f cs a)
+service-shown w f cs a = shown-runs cs w emptyBook (λ s. tt) a (late-has-the-sources-bytes w f cs a) (service w f cs a)
 
 -- ---- no call returns Clash: the answer is the outcome's
 abbrev isClash : Answer → Bool
@@ -156,6 +178,8 @@ isClash answer.Done = false
 isClash answer.Ignored = false
 isClash answer.Nothing = false
 isClash (answer.Clash name) = true
+isClash (answer.Late name) = false
+isClash answer.Exhausted = false
 
 clash-back : (o : Outcome) (name : Name) → answerOf o ≡ answer.Clash name → o ≡ Did (Clash name)
 unfolding answerOf
@@ -165,6 +189,8 @@ clash-back (Did (Got x cue)) name p = clash′ (ap isClash p)
 clash-back (Did Done) name p = clash′ (ap isClash p)
 clash-back (Did Ignored) name p = clash′ (ap isClash p)
 clash-back (Did Nothing) name p = clash′ (ap isClash p)
+clash-back (Did (Late x cue)) name p = clash′ (ap isClash p)
+clash-back (Did Exhausted) name p = clash′ (ap isClash p)
 clash-back (Did (Clash x)) name p = let same : x ≡ name = cc in ap (λ (y : Name). Did (Clash y)) same
 
 none-returned : (cs : List Call) (w : World) → ((y : Entry) → List·Memᴰ y (seen w cs) → (name : Name) → y .outcome ≡ Did (Clash name) → ⊥)

@@ -6,7 +6,7 @@ use mathlib.Core.Bool.{true, false}
 use mathlib.Core.List.{List, [], _∷_}
 use Rattle.message.specs.declared.Name.{Name}
 use Rattle.message.specs.Entry.{asHost, asNumber}
-use Rattle.end.specs.Answer.{Outcome, Refused, Did, Out, Got, Done, Ignored, Nothing, Clash, answerOf, answerNumber, answerValues, bufferOf}
+use Rattle.end.specs.Answer.{Outcome, Refused, Did, Out, Got, Done, Ignored, Nothing, Clash, Late, Exhausted, answerOf, answerNumber, answerValues, bufferOf}
 use Rattle.end.specs.Book.{isGot}
 use Rattle.cases.specs.Case.{Case, case}
 
@@ -43,4 +43,13 @@ answerRows =
     ∷ case (valuesOf (Did (Clash name35))) (3 ∷ 5 ∷ [])
     ∷ case (isGot (Clash name35)) false
     ∷ case (bufferOf (Did (Clash name35)) (1 ∷ 2 ∷ 3 ∷ [])) (1 ∷ 2 ∷ 3 ∷ [])
+    -- P9: "Late, written as Got is", and no Got
+    ∷ case (numberOf (Did (Late name35 (9 ∷ [])))) 0
+    ∷ case (valuesOf (Did (Late name35 (9 ∷ [])))) (3 ∷ 5 ∷ [])
+    ∷ case (isGot (Late name35 (9 ∷ []))) false
+    ∷ case (bufferOf (Did (Late name35 (9 ∷ []))) (1 ∷ 2 ∷ 3 ∷ [])) (9 ∷ 2 ∷ 3 ∷ [])
+    ∷ case (numberOf (Did Exhausted)) 0
+    ∷ case (valuesOf (Did Exhausted)) []
+    ∷ case (isGot Exhausted) false
+    ∷ case (bufferOf (Did Exhausted) (1 ∷ 2 ∷ 3 ∷ [])) (1 ∷ 2 ∷ 3 ∷ [])
     ∷ []

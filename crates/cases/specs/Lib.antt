@@ -17,4 +17,5 @@ pub mod Reasons
 pub mod Probe
 pub mod Season
 pub mod Express
+pub mod Fetch
 pub mod Turn

@@ -17,6 +17,7 @@ use Rattle.end.specs.declared.Record.{Record}
 use Rattle.end.specs.declared.Span.{Span}
 use Rattle.end.specs.declared.Span.the-variants.{Closed, Open}
 use Rattle.end.specs.declared.Heard.the-variants.{At}
+use Rattle.end.specs.declared.Origin.the-variants.{From}
 use Rattle.end.specs.declared.Source.{Source}
 use Rattle.end.specs.declared.Moment.{Moment}
 use Rattle.end.specs.declared.Says.{Says}
@@ -30,7 +31,7 @@ use Rattle.end.specs.Round.{requestWith}
 use Rattle.end.specs.Names.{asked, asking, filled, rise}
 use Rattle.end.specs.Decide.{decide}
 use Rattle.end.specs.Session.{reportedSource}
-use Rattle.end.specs.State.{blankRecord, blankNames}
+use Rattle.end.specs.State.{blankRecord, blankNames, blankAttempts}
 use Rattle.end.specs.Opening.{houseParams}
 use Rattle.cases.specs.Case.{Case, case}
 
@@ -55,8 +56,10 @@ keeping first last held = record {
   missed = 0;
   pair = NoPair;
   distance = 40;
-  heard = At 0 0;
+  heard = At 0 0 0;
   names = filled (λ n. cond (held n) heldRecord (asked now draws 40 n)) (last + 1 - first) first blankNames;
+  origin = From (asNumber first);
+  attempts = blankAttempts;
 }
 
 abbrev pub all : ℕ → Bool

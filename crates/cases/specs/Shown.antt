@@ -7,7 +7,7 @@ use Rattle.message.specs.declared.Name.{Name}
 use Rattle.end.specs.declared.Answer.{Answer}
 use Rattle.end.specs.declared.Answer.the-variants as answer
 use Rattle.end.specs.declared.Status.{Status}
-use Rattle.end.specs.Answer.{Out, Got, Done, Ignored, Nothing, Clash}
+use Rattle.end.specs.Answer.{Out, Got, Done, Ignored, Nothing, Clash, Late, Exhausted}
 use Rattle.end.specs.Event.{Action}
 use Rattle.end.specs.Answer.{Outcome, Refused, Did}
 use Rattle.end.specs.Answer.{answerOf, bufferOf}
@@ -30,7 +30,7 @@ returned w (c ∷ cs) =
     ∷ returned (worldAfter w (c .host) r) cs
 
 -- what an onlooker reads off an answer and an output: "Out (length, the message in the first output bytes), Got (name, and its cue in the
--- first 24), Done, Ignored, Nothing"; document 02, P4: "Clash, with the name"
+-- first 24), Done, Ignored, Nothing"; document 02, P4: "Clash, with the name"; P9: "Late, written as Got is", and "exhausted"
 unfoldable pub readOff : Answer → List ℕ → Outcome
 readOff (answer.Refused k) output = Refused k
 readOff (answer.Out n) output = Did (Out (take n output))
@@ -39,6 +39,8 @@ readOff answer.Done output = Did Done
 readOff answer.Ignored output = Did Ignored
 readOff answer.Nothing output = Did Nothing
 readOff (answer.Clash name) output = Did (Clash name)
+readOff (answer.Late name) output = Did (Late name (take 24 output))
+readOff answer.Exhausted output = Did Exhausted
 
 unfoldable pub onlooked : Returned → Entry
 onlooked r = record { host = r .host; action = r .action; outcome = readOff (r .answer) (r .output); status = r .status }

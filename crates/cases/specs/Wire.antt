@@ -1,13 +1,14 @@
 -- Messages and cues as bytes, written and read, in which no two fields could change places unseen. Document 01, "Messages" and "The link
 -- and its edge". "Numbers are big-endian." Document 02, P7: "Cue numbers become 0..65535, two bytes in names and reports, under kinds 17 to 20
--- for 1 to 4; the old kinds are still read, numbers to 63, as the same meanings and no longer written". P8: "kind 21, laid out as kind 18".
+-- for 1 to 4; the old kinds are still read, numbers to 63, as the same meanings and no longer written". P8: "kind 21, laid out as kind 18". P9:
+-- "Fetch, kind 22, is shaped as kind 21 with the host tried as host; its cue, kind 23, as REPL".
 use Prim.Native.Nat.{ℕ}
 use mathlib.Core.List.{List, [], _∷_, _++_}
 use lib.ListN.{length, drop, replicate}
 use lib.IntN.{pos, negsuc}
 use Rattle.message.specs.Cue.{fieldsOf, cueWith}
 use Rattle.message.specs.Entry.{asHost, asNumber}
-use Rattle.message.specs.Message.{DATA, RQST, SESS, XPRS, Meaning, Saying, heldAs}
+use Rattle.message.specs.Message.{DATA, RQST, SESS, XPRS, FTCH, LATE, Meaning, Saying, heldAs}
 use Rattle.message.specs.Question.{blankMessage, readOf, writtenOf, outputOf}
 use Rattle.message.specs.declared.CueFields.{CueFields}
 use Rattle.message.specs.declared.Reading.{Reading}
@@ -114,6 +115,27 @@ express source host = naming XPRS 5 stamp source 0x0221 host
 abbrev pub expressBytes : ℕ → ℕ → List ℕ
 expressBytes source host = head 21 5 ++ (1 ∷ source ∷ 0x02 ∷ 0x21 ∷ host ∷ 0 ∷ 0 ∷ 0 ∷ [])
 
+-- P9: end 5 fetches number 0x0221 of a source from a host, and end 6 brings its cue to a host
+abbrev pub fetch : ℕ → ℕ → Meaning
+fetch source host = naming FTCH 5 stamp source 0x0221 host
+
+abbrev pub fetchBytes : ℕ → ℕ → List ℕ
+fetchBytes source host = head 22 5 ++ (1 ∷ source ∷ 0x02 ∷ 0x21 ∷ host ∷ 0 ∷ 0 ∷ 0 ∷ [])
+
+abbrev pub fetched : ℕ → ℕ → Meaning
+fetched source host = record {
+  kind = LATE;
+  sender = asHost 6;
+  stamp = stamp;
+  names = record { name = record { source = asHost source; number = asNumber 0x0221 }; host = asHost host } ∷ [];
+  cues = fullCue ∷ [];
+  reports = [];
+  echoes = [];
+}
+
+abbrev pub fetchedBytes : ℕ → ℕ → List ℕ
+fetchedBytes source host = head 23 6 ++ (1 ∷ source ∷ 0x02 ∷ 0x21 ∷ host ∷ 1 ∷ fullCue ++ (0 ∷ 0 ∷ []))
+
 -- what the reader answers: a message, or a refusal
 abbrev pub says : Meaning → Reading
 says m = record { verdict = Accepted; message = heldAs m }
@@ -143,6 +165,18 @@ expressRows =
     ∷ bothWays (express 2 3) (expressBytes 2 3)
     ++ (bothWays (express 2 2) (expressBytes 2 2)
     ++ (neitherWay 11 (express 2 5) (expressBytes 2 5) ++ neitherWay 11 (express 5 3) (expressBytes 5 3)))
+
+-- P9: of kind 22 neither host nor source is the sender, and the host may be the source; of kind 23 the host is neither sender nor source, and the
+-- sender may be the source
+abbrev pub fetchRows : List Case
+fetchRows =
+    bothWays (fetch 2 3) (fetchBytes 2 3)
+    ++ (bothWays (fetch 2 2) (fetchBytes 2 2)
+    ++ (neitherWay 11 (fetch 2 5) (fetchBytes 2 5)
+    ++ (neitherWay 11 (fetch 5 3) (fetchBytes 5 3)
+    ++ (bothWays (fetched 2 3) (fetchedBytes 2 3)
+    ++ (bothWays (fetched 6 3) (fetchedBytes 6 3)
+    ++ (neitherWay 11 (fetched 2 6) (fetchedBytes 2 6) ++ neitherWay 11 (fetched 2 2) (fetchedBytes 2 2)))))))
 
 -- document 01's kinds, read and no longer written
 abbrev pub oldRows : List Case
@@ -174,4 +208,4 @@ wireRows =
     ∷ bothWays request requestBytes
     ++ (bothWays original originalBytes
     ++ (bothWays session sessionBytes
-    ++ (bothWays caseRequest caseBytesNow ++ (bothWays (asks RQST 5 stamp 2 65535) greatest ++ (expressRows ++ (oldRows ++ sizeRows))))))
+    ++ (bothWays caseRequest caseBytesNow ++ (bothWays (asks RQST 5 stamp 2 65535) greatest ++ (expressRows ++ (oldRows ++ (sizeRows ++ fetchRows)))))))

@@ -1,7 +1,10 @@
 // `END set ..`: an end with a field changed, sound or not. Reading goes on at `at`, as the crate trace has it.
+use end::Attempt;
 use end::End;
 use end::Express;
 use end::Heard;
+use end::Hosts;
+use end::Origin;
 use end::Pair;
 use end::Params;
 use end::Record;
@@ -22,6 +25,11 @@ pub fn source(e: End, h: usize) -> Source {
 pub fn record(s: Source, n: usize) -> Record {
     let names = s.names;
     if n < 64 { names[n] } else { names[0] }
+}
+
+pub fn attempt(s: Source, n: usize) -> Attempt {
+    let all = s.attempts;
+    if n < 64 { all[n] } else { all[0] }
 }
 
 fn params(line: &[u8; 1000], end: usize, at: &mut usize) -> Params {
@@ -95,14 +103,30 @@ fn pair(old: Pair, field: u64, line: &[u8; 1000], end: usize, at: &mut usize) ->
     }
 }
 
+// The sources that were reported, where there is a third number; otherwise none.
+fn reported(line: &[u8; 1000], end: usize, at: &mut usize) -> Hosts {
+    if trace::whole(end, *at) {
+        return 0;
+    }
+    trace::byte(line, end, at)
+}
+
 fn heard(old: Heard, field: u64, line: &[u8; 1000], end: usize, at: &mut usize) -> Heard {
     match field {
         words::HEARD => {
             let stamp = trace::number(line, end, at);
             let when = trace::number(line, end, at);
-            Heard::At(stamp, when)
+            Heard::At(stamp, when, reported(line, end, at))
         }
         words::UNHEARD => Heard::Never,
+        _ => old,
+    }
+}
+
+fn origin(old: Origin, field: u64, line: &[u8; 1000], end: usize, at: &mut usize) -> Origin {
+    match field {
+        words::ORIGIN => Origin::From(trace::cue_number(line, end, at)),
+        words::NOORIGIN => Origin::NoOrigin,
         _ => old,
     }
 }
@@ -122,10 +146,13 @@ fn set_source(e: End, field: u64, line: &[u8; 1000], end: usize, at: &mut usize)
     let old_span = s.span;
     let old_pair = s.pair;
     let old_heard = s.heard;
+    let old_origin = s.origin;
     let names = s.names;
+    let attempts = s.attempts;
     let span = span(old_span, field, line, end, at);
     let pair = pair(old_pair, field, line, end, at);
     let heard = heard(old_heard, field, line, end, at);
+    let origin = origin(old_origin, field, line, end, at);
     let mut missed = s.missed;
     if field == words::MISSED {
         missed = trace::count(line, end, at);
@@ -141,6 +168,8 @@ fn set_source(e: End, field: u64, line: &[u8; 1000], end: usize, at: &mut usize)
         distance,
         heard,
         names,
+        origin,
+        attempts,
     };
     with_source(e, h, changed)
 }
@@ -211,6 +240,19 @@ fn set_record(e: End, field: u64, line: &[u8; 1000], end: usize, at: &mut usize)
     with_source(e, h, s)
 }
 
+// What was done to fetch the number of a place.
+fn set_attempt(e: End, line: &[u8; 1000], end: usize, at: &mut usize) -> End {
+    let h = trace::place(line, end, at, 7);
+    let n = trace::place(line, end, at, 63);
+    let tried = trace::byte(line, end, at);
+    let late = trace::small(line, end, at, 1) == 1;
+    let mut s = source(e, h);
+    if n < 64 {
+        s.attempts[n] = Attempt { tried, late };
+    }
+    with_source(e, h, s)
+}
+
 // The end with what the next words set.
 pub fn set(e: End, line: &[u8; 1000], end: usize, at: &mut usize) -> End {
     let field = trace::key(line, end, at);
@@ -223,10 +265,13 @@ pub fn set(e: End, line: &[u8; 1000], end: usize, at: &mut usize) -> End {
         | words::NOPAIR
         | words::DISTANCE
         | words::HEARD
-        | words::UNHEARD => set_source(e, field, line, end, at),
+        | words::UNHEARD
+        | words::ORIGIN
+        | words::NOORIGIN => set_source(e, field, line, end, at),
         words::EMPTY | words::HELD | words::WAITS | words::REPLY | words::CUE | words::HUSH => {
             set_record(e, field, line, end, at)
         }
+        words::ATTEMPT => set_attempt(e, line, end, at),
         _ => set_top(e, field, line, end, at),
     }
 }

@@ -55,7 +55,7 @@ module _ (e : End) where
 -- ---- echoes
 echo-one : (h : Host) (clock : ℕ) (x : Heard) → length (echoOn h clock x) ≤ 1
 echo-one h clock Never = omega arith
-echo-one h clock (At stamp when) = omega arith
+echo-one h clock (At stamp when reported) = omega arith
 
 echoed : (l m : List Echo) → length m ≤ 1 → length l + length m ≤ 7 → withEcho (echoesIn l) m ≡ echoesIn (l ++ m)
 echoed l [] o h = ap echoesIn (sym (append-nil l))

@@ -76,7 +76,7 @@ fn no_echo() -> Echo
     }
 }
 
-// A message about one name: DATA and REPL with one cue, RQST and XPRS with none.
+// A message about one name: DATA, REPL and LATE with one cue, RQST, XPRS and FTCH with none.
 fn about_name(kind: u8, t: Moment, name: Name, host: Host, cues: usize, cue: [u8; 24]) -> Message
     requires { ⌜ cues ≤ 1 ⌝ }
     ensures { λ r. ⌜ meaningOf r ≡ aboutName kind t name host (take cues (cue ∷ [])) ⌝ }
@@ -130,7 +130,7 @@ fn with_echo(all: Echoes, h: Host, clock: u64, heard: Heard) -> Echoes
 {
     match heard {
         Heard::Never => all,
-        Heard::At(stamp, when) => {
+        Heard::At(stamp, when, _) => {
             let n = all.count;
             let mut places = all.places;
             places[n] = Echo {

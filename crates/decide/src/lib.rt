@@ -197,13 +197,13 @@ pub fn decide(t: Moment, w: Word, r: Record, span: Span) -> Decision
 
 // ---- what is done
 
-// The first cue of a source.
+// The first cue of a source: its first original.
 fn open_source(w: Word, s: Source) -> Source
     ensures { λ r. ⌜ r ≡ hold (number w) (w .cue) (opened w s) ⌝ }
 {
     let n = w.name.number;
     let cue = w.cue;
-    let open = state::with_span(s, Span::Open(n, n));
+    let open = records::open_at(s, n);
     records::hold_cue(open, n, cue)
 }
 

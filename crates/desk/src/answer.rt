@@ -51,11 +51,16 @@ pub fn message_in(bytes: &[u8], len: usize) -> Message {
     }
 }
 
-// `got SOURCE NUMBER`, `clash SOURCE NUMBER`.
+// `got SOURCE NUMBER`, `clash SOURCE NUMBER`, `late SOURCE NUMBER`.
 fn with_name(out: &mut [u8; 65536], n: &mut [usize; 20], word: u64, name: Name) {
     let source = name.source.0 as u64;
     let number = name.number.0 as u64;
     text::row(out, n, word, [source, number, 0, 0, 0, 0], 2);
+}
+
+fn exhausted(out: &mut [u8; 65536], n: &mut [usize; 20]) {
+    text::word(out, n, words::EXHAUSTE);
+    text::put(out, n, b'd');
 }
 
 // The answer of an event, whose output is given.
@@ -68,6 +73,8 @@ pub fn event(out: &mut [u8; 65536], n: &mut [usize; 20], a: Answer, bytes: &[u8;
         Answer::Ignored => text::word(out, n, words::IGNORED),
         Answer::Nothing => text::word(out, n, words::NOTHING),
         Answer::Clash(name) => with_name(out, n, words::CLASH, name),
+        Answer::Late(name) => with_name(out, n, words::LATE, name),
+        Answer::Exhausted => exhausted(out, n),
     }
 }
 

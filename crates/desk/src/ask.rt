@@ -26,6 +26,11 @@ fn ask_source(
         words::DISTANCE => text::number(text, n, head.distance),
         words::SPAN => shown::span(text, n, head),
         words::HEARD => shown::heard(text, n, head),
+        words::ORIGIN => shown::origin(text, n, head),
+        words::ATTEMPT => {
+            let place = trace::place(line, end, at, 63);
+            shown::attempt(text, n, changes::attempt(s, place));
+        }
         words::RECORD => {
             let place = trace::place(line, end, at, 63);
             shown::record(text, n, changes::record(s, place));

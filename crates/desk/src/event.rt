@@ -9,12 +9,22 @@ use end::End;
 use end::Params;
 use end::Status;
 use end::Stepped;
+use message::CueNumber;
 use message::Host;
+use message::Name;
 use message::Verdict;
 use picture::digest;
 use picture::same;
 use picture::text;
 use trace::words;
+
+// What the line of an event says: its word and clock, the cue of a `send` and the name of a `fetch`. What an event has not is zeros.
+pub struct Said {
+    pub word: u64,
+    pub clock: u64,
+    pub cue: [u8; 24],
+    pub name: Name,
+}
 
 // The moves of membership.
 fn call_move(e: End, word: u64, clock: u64, draws: &[Draw], out: &mut [u8]) -> Stepped {
@@ -27,20 +37,17 @@ fn call_move(e: End, word: u64, clock: u64, draws: &[Draw], out: &mut [u8]) -> S
     }
 }
 
-fn call(
-    e: End,
-    word: u64,
-    clock: u64,
-    cue: [u8; 24],
-    bytes: &[u8],
-    draws: &[Draw],
-    out: &mut [u8],
-) -> Stepped {
+fn call(e: End, said: Said, bytes: &[u8], draws: &[Draw], out: &mut [u8]) -> Stepped {
+    let word = said.word;
+    let clock = said.clock;
+    let cue = said.cue;
+    let name = said.name;
     match word {
         words::SEND => link::send(e, clock, draws, cue, out),
         words::HEAR => link::arrival(e, clock, draws, bytes, out),
         words::FIRE => link::fire(e, clock, draws, out),
         words::REPORT => link::report(e, clock, draws, out),
+        words::FETCH => link::fetch(e, clock, draws, name, out),
         _ => call_move(e, word, clock, draws, out),
     }
 }
@@ -55,9 +62,7 @@ fn untouched(e: End) -> Stepped {
 // A call with the first bytes of each buffer; each is long enough.
 fn call_parts(
     e: End,
-    word: u64,
-    clock: u64,
-    cue: [u8; 24],
+    said: Said,
     bytes: &[u8],
     len: usize,
     draws: &[Draw],
@@ -74,23 +79,13 @@ fn call_parts(
     if out.len() < room {
         return untouched(e);
     }
-    call(
-        e,
-        word,
-        clock,
-        cue,
-        &bytes[0..len],
-        &draws[0..count],
-        &mut out[0..room],
-    )
+    call(e, said, &bytes[0..len], &draws[0..count], &mut out[0..room])
 }
 
 // The same on whole arrays, whose lengths are known.
 fn call_with(
     e: End,
-    word: u64,
-    clock: u64,
-    cue: [u8; 24],
+    said: Said,
     bytes: &[u8; 256],
     len: usize,
     draws: &[Draw; 66],
@@ -98,14 +93,14 @@ fn call_with(
     out: &mut [u8; 200],
     room: usize,
 ) -> Stepped {
-    call_parts(e, word, clock, cue, bytes, len, draws, count, out, room)
+    call_parts(e, said, bytes, len, draws, count, out, room)
 }
 
 // How many bytes of the output an answer accounts for.
 fn accounted(a: Answer) -> usize {
     match a {
         Answer::Out(len) => len,
-        Answer::Got(_) => 24,
+        Answer::Got(_) | Answer::Late(_) => 24,
         _ => 0,
     }
 }
@@ -163,11 +158,27 @@ fn told(
     rest(text, n, out, after);
 }
 
-pub fn cue_for(word: u64, line: &[u8; 1000], end: usize, at: &mut usize) -> [u8; 24] {
+fn cue_for(word: u64, line: &[u8; 1000], end: usize, at: &mut usize) -> [u8; 24] {
     if word == words::SEND {
         trace::cue(line, end, at)
     } else {
         [0u8; 24]
+    }
+}
+
+fn name_for(word: u64, line: &[u8; 1000], end: usize, at: &mut usize) -> Name {
+    if word == words::FETCH {
+        let source = trace::byte(line, end, at);
+        let number = trace::cue_number(line, end, at);
+        Name {
+            source: Host(source),
+            number,
+        }
+    } else {
+        Name {
+            source: Host(0),
+            number: CueNumber(0),
+        }
     }
 }
 
@@ -216,24 +227,36 @@ pub fn bring(
 fn is_event(word: u64) -> bool {
     match word {
         words::JOIN | words::JOINED | words::LEAVE | words::LEFT | words::CRASH => true,
-        words::SEND | words::HEAR | words::FIRE | words::REPORT => true,
+        words::SEND | words::HEAR | words::FIRE | words::REPORT | words::FETCH => true,
         _ => false,
     }
 }
 
 // The clock of an event; no other word stands before one.
-pub fn clock_of(word: u64, line: &[u8; 1000], end: usize, at: &mut usize) -> u64 {
+fn clock_of(word: u64, line: &[u8; 1000], end: usize, at: &mut usize) -> u64 {
     if !is_event(word) {
         trace::spoil(at);
     }
     trace::number(line, end, at)
 }
 
+// What the words of an event say, but for the message that a `hear` brings.
+pub fn read(word: u64, line: &[u8; 1000], end: usize, at: &mut usize) -> Said {
+    let clock = clock_of(word, line, end, at);
+    let cue = cue_for(word, line, end, at);
+    let name = name_for(word, line, end, at);
+    Said {
+        word,
+        clock,
+        cue,
+        name,
+    }
+}
+
 // In the mode RECORD the line that the event leaves in a run's record stands in place of what was told of it, up to FROM.
 fn keep_line(
     e: End,
-    word: u64,
-    cue: [u8; 24],
+    said: Said,
     a: Answer,
     n: &mut [usize; 20],
     out: &[u8; 200],
@@ -241,8 +264,11 @@ fn keep_line(
 ) {
     if n[crate::MODE] == crate::RECORD {
         let host = e.host;
+        let cue = said.cue;
+        let name = said.name;
+        let what = why::event_of(said.word, name);
         let at = n[crate::START];
-        n[crate::FROM] = keeping::put(text, at, host, why::event_of(word), cue, a, out);
+        n[crate::FROM] = keeping::put(text, at, host, what, cue, a, out);
     }
 }
 
@@ -259,17 +285,14 @@ pub fn event(
     store: &mut [u8; 17408],
     text: &mut [u8; 65536],
 ) -> End {
-    let clock = clock_of(word, line, end, at);
-    let cue = cue_for(word, line, end, at);
+    let said = read(word, line, end, at);
     let mut bytes = [0u8; 256];
     let len = bring(word, n, store, line, end, at, &mut bytes);
     crate::begin(n, out);
-    let reason = why::of(e, word, clock, cue, &bytes, len);
+    let reason = why::of(e, said, &bytes, len);
     let s = call_with(
         e,
-        word,
-        clock,
-        cue,
+        said,
         &bytes,
         len,
         draws,
@@ -282,7 +305,7 @@ pub fn event(
     told(e, a, after, n, out, store, text);
     text::sign(text, n, b';');
     why::say(text, n, reason);
-    keep_line(e, word, cue, a, n, out, text);
+    keep_line(e, said, a, n, out, text);
     after
 }
 

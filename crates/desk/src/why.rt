@@ -1,16 +1,18 @@
 // The reason call: why an event would be ignored, in words. It is asked before every event, and by a line of its own, `END why EVENT`.
 use crate::answer;
 use crate::event;
+use crate::event::Said;
 use end::End;
 use end::Event;
 use end::Move;
 use end::Reason;
 use end::Why;
+use message::Name;
 use picture::text;
 use trace::words;
 
-// The event of a word.
-pub fn event_of(word: u64) -> Event {
+// The event of a word; a `fetch` has the name.
+pub fn event_of(word: u64, name: Name) -> Event {
     match word {
         words::JOIN => Event::Moves(Move::Join),
         words::JOINED => Event::Moves(Move::Joined),
@@ -20,21 +22,25 @@ pub fn event_of(word: u64) -> Event {
         words::HEAR => Event::Arrival,
         words::FIRE => Event::Fire,
         words::REPORT => Event::Report,
+        words::FETCH => Event::Fetch(name),
         _ => Event::Moves(Move::Crash),
     }
 }
 
 // The call with the first bytes of the buffer; it is long enough.
-fn asked(e: End, word: u64, clock: u64, cue: [u8; 24], bytes: &[u8], len: usize) -> Why {
+fn asked(e: End, said: Said, bytes: &[u8], len: usize) -> Why {
     if bytes.len() < len {
         return Why::NoReason;
     }
-    link::reason(e, clock, event_of(word), cue, &bytes[0..len])
+    let cue = said.cue;
+    let name = said.name;
+    let what = event_of(said.word, name);
+    link::reason(e, said.clock, what, cue, &bytes[0..len])
 }
 
 // The reason of an event.
-pub fn of(e: End, word: u64, clock: u64, cue: [u8; 24], bytes: &[u8; 256], len: usize) -> Why {
-    asked(e, word, clock, cue, bytes, len)
+pub fn of(e: End, said: Said, bytes: &[u8; 256], len: usize) -> Why {
+    asked(e, said, bytes, len)
 }
 
 fn two(out: &mut [u8; 65536], n: &mut [usize; 20], first: u64, second: u64) {
@@ -66,6 +72,7 @@ fn reason(out: &mut [u8; 65536], n: &mut [usize; 20], r: Reason) {
             text::word(out, n, words::QUIET);
         }
         Reason::RequestQuiet => two(out, n, words::REQUEST, words::QUIET),
+        Reason::NoFetch => two(out, n, words::NO, words::FETCH),
     }
 }
 
@@ -90,12 +97,11 @@ pub fn why(
     text: &mut [u8; 65536],
 ) {
     let word = trace::key(line, end, at);
-    let clock = event::clock_of(word, line, end, at);
-    let cue = event::cue_for(word, line, end, at);
+    let said = event::read(word, line, end, at);
     let mut bytes = [0u8; 256];
     let len = event::bring(word, n, store, line, end, at, &mut bytes);
     crate::begin(n, out);
-    let given = of(e, word, clock, cue, &bytes, len);
+    let given = of(e, said, &bytes, len);
     say(text, n, given);
     answer::end(n);
 }

@@ -8,7 +8,7 @@ use lib.Seq.{set-getD}
 use lib.Dec.{eqb}
 use borrow.Author.Tests.{eqb-true, eq-eqb}
 use Rattle.message.specs.declared.Name.{Name}
-use Rattle.message.specs.Message.{DATA, RQST, REPL, XPRS, Meaning, meaningFrom}
+use Rattle.message.specs.Message.{DATA, RQST, REPL, XPRS, FTCH, LATE, Meaning, meaningFrom}
 use Rattle.message.specs.Question.{sameHost, messageQuestions, readQuestions}
 use Rattle.end.specs.declared.Move.{Move}
 use Rattle.end.specs.declared.Slot.{Slot}
@@ -20,14 +20,17 @@ use Rattle.end.specs.declared.Decision.{Decision}
 use Rattle.end.specs.declared.Decision.the-variants.{Ignores, Opens, Takes, Repairs, Hushes, Replies, Learns, BacksOff, Clashes, Expresses}
 use Rattle.end.specs.declared.Earliest.{Earliest}
 use Rattle.end.specs.declared.Earliest.the-variants.{NoWait, First}
+use Rattle.end.specs.declared.Nearest.{Nearest}
+use Rattle.end.specs.declared.Nearest.the-variants.{Nobody, Found}
 use Rattle.end.specs.declared.End.{End}
 use Rattle.end.specs.State.{noSource, sourceAt, isMember, isCrashed, momentOf, withSources, withClock}
-use Rattle.end.specs.Answer.{Effect, Out, Got, Done, Ignored, Nothing, Clash, Step}
+use Rattle.end.specs.Answer.{Effect, Out, Got, Done, Ignored, Nothing, Clash, Late, Exhausted, Step}
 use Rattle.end.specs.Decide.{sameCue, decide, known, apply, effectOf, stepBy, stepAt}
 use Rattle.end.specs.Session.{sessionOf}
 use Rattle.end.specs.Arrival.{messageName, wordOf, wordStep, messageStep, arrivalOf}
 use Rattle.end.specs.Fire.{expressRank, fireAt, fired, earliest}
-use Rattle.end.specs.Event.{Other, Fire, Report, Action, Moves, Send, Arrival, Else, moves, moveOf, otherOf, ifMember, actOf, stepOf}
+use Rattle.end.specs.Fetch.{mayFetch, nearest, tryOf, fetchOf, mayAnswer, fetchedOf, mayHand, lateOf}
+use Rattle.end.specs.Event.{Other, Fire, Report, Fetch, Action, Moves, Send, Arrival, Else, moves, moveOf, otherOf, ifMember, actOf, stepOf}
 use Rattle.end.specs.Clashes.{SameCueIsSameBytes, namedRecord, Clashing}
 use Rattle.end.proofs.Tools.{byCond, clash, clash′, and-left, and-right}
 use Rattle.end.proofs.Grounds.{isRequest, Grounds, grounds}
@@ -56,6 +59,8 @@ isClash Done = false
 isClash Ignored = false
 isClash Nothing = false
 isClash (Clash name) = true
+isClash (Late name cue) = false
+isClash Exhausted = false
 
 -- where a step clashes, the message clashed, and nothing has changed
 abbrev pub Clashed : End → Meaning → Step → Type 0
@@ -80,9 +85,17 @@ unfolding fired
 fired-calm us e NoWait = refl
 fired-calm us e (First w) = fire-calm us (w .rank) (w .name) e _
 
+try-calm : (name : Name) (e : End) (x : Nearest) → isClash (tryOf name e x .effect) ≡ false
+unfolding tryOf
+try-calm name e Nobody = refl
+try-calm name e (Found h d) = refl
+
 other-calm : (us : List ℕ) (o : Other) (e : End) → isClash (otherOf us o e .effect) ≡ false
+unfolding fetchOf
 other-calm us Fire e = fired-calm us e (earliest e 8)
 other-calm us Report e = refl
+other-calm us (Fetch name) e =
+    byCond (λ (r : Step). isClash (r .effect) ≡ false) (mayFetch e name) (λ _. try-calm name e (nearest e name 8)) (λ _. refl)
 
 -- ---- a message about a name, by what was decided
 module _ (us : List ℕ) (says : Says) (m : Meaning) (e : End) (member : isMember (e .status) ≡ true) (another : sameHost (m .sender) (e .host) ≡ false)
@@ -114,13 +127,15 @@ module _ (us : List ℕ) (says : Says) (m : Meaning) (e : End) (member : isMembe
 
 -- ---- any message, and any event
 message-clashed : (us : List ℕ) (m : Meaning) (e : End) → isMember (e .status) ≡ true → sameHost (m .sender) (e .host) ≡ false → Clashed e m (messageStep us m e)
-unfolding messageStep sessionOf
+unfolding messageStep sessionOf fetchedOf lateOf
 message-clashed us m e member another =
     byCond (Clashed e m) (eqb (m .kind) DATA) (λ k. word-clashed us Data m e member another (λ _. rw k))
     (λ d. byCond (Clashed e m) (eqb (m .kind) RQST) (λ k. word-clashed us Rqst m e member another (λ q. clash q))
     (λ _. byCond (Clashed e m) (eqb (m .kind) REPL) (λ k. word-clashed us Repl m e member another (λ _. rw (d, k)))
     (λ _. byCond (Clashed e m) (eqb (m .kind) XPRS) (λ k. word-clashed us Xprs m e member another (λ q. clash q))
-    (λ _. never e m _ refl))))
+    (λ _. byCond (Clashed e m) (eqb (m .kind) FTCH) (λ _. byCond (Clashed e m) (mayAnswer e m) (λ _. never e m _ refl) (λ _. never e m _ refl))
+    (λ _. byCond (Clashed e m) (eqb (m .kind) LATE) (λ _. byCond (Clashed e m) (mayHand e m) (λ _. never e m _ refl) (λ _. never e m _ refl))
+    (λ _. never e m _ refl))))))
 
 arrival-clashed : (us : List ℕ) (m : Meaning) (e : End) → Clashed e m (ifMember e (arrivalOf us m e))
 unfolding arrivalOf

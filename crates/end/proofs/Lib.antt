@@ -5,6 +5,7 @@ pub mod RiseLaws
 pub mod FireLaws
 pub mod Bounds
 pub mod SoundLaws
+pub mod AttemptLaws
 pub mod Ready
 pub mod Facts
 pub mod Readings
@@ -12,4 +13,5 @@ pub mod Grounds
 pub mod Reasons
 pub mod ReasonLaws
 pub mod Clashes
+pub mod Lates
 pub mod Service

@@ -3,13 +3,13 @@ use mathlib.Core.Path.{_≡_, refl, sym, ap, _∙_}
 use Prim.Native.Nat.{ℕ, zero, suc, _+_, _-_, _≤_, _<_}
 use native.Mathlib.Omega.{arith}
 use mathlib.Core.Bool.{Bool, true, false, cond, not}
-use mathlib.Core.List.{List, [], _∷_}
+use mathlib.Core.List.{List, [], _∷_, _++_}
 use mathlib.Core.Option.{Option, none, some}
 use lib.ListN.{length, getD}
 use lib.Dec.{eqb, leb}
 use borrow.Author.Tests.{le-leb, eq-eqb, eqb-true}
 use Rattle.message.specs.Limit.{roomNeeded}
-use Rattle.message.specs.Message.{Meaning, DATA, RQST, REPL, XPRS, Datagram, Probe, Saying, datagramFrom}
+use Rattle.message.specs.Message.{Meaning, DATA, RQST, REPL, XPRS, FTCH, LATE, Datagram, Probe, Saying, datagramFrom}
 use Rattle.message.specs.Question.{sameHost}
 use Rattle.end.specs.declared.Slot.{Slot}
 use Rattle.end.specs.declared.Slot.the-variants.{Empty, Held, Waiting}
@@ -22,7 +22,7 @@ use Rattle.end.specs.declared.Says.the-variants.{Data, Rqst, Repl, Xprs}
 use Rattle.end.specs.declared.Moment.{Moment}
 use Rattle.end.specs.declared.Word.{Word}
 use Rattle.end.specs.declared.Reason.{Reason}
-use Rattle.end.specs.declared.Reason.the-variants.{Crashed, WrongStatus, OwnMessage, NotOpen, BelowFirst, OwnAboveLast, AlreadyHeld, ReplyWaiting, ReplyQuiet, RequestQuiet}
+use Rattle.end.specs.declared.Reason.the-variants.{Crashed, WrongStatus, OwnMessage, NotOpen, BelowFirst, OwnAboveLast, AlreadyHeld, ReplyWaiting, ReplyQuiet, RequestQuiet, NoFetch}
 use Rattle.end.specs.declared.Why.{Why}
 use Rattle.end.specs.declared.Why.the-variants as why
 use Rattle.end.specs.declared.Decision.{Decision}
@@ -31,6 +31,9 @@ use Rattle.end.specs.declared.Earliest.{Earliest}
 use Rattle.end.specs.declared.Earliest.the-variants.{NoWait, First}
 use Rattle.end.specs.declared.Source.{Source}
 use Rattle.end.specs.declared.Move.{Move}
+use Rattle.end.specs.declared.Nearest.{Nearest}
+use Rattle.end.specs.declared.Nearest.the-variants.{Nobody, Found}
+use Rattle.message.specs.declared.Name.{Name}
 use Rattle.end.specs.declared.End.{End}
 use Rattle.end.specs.State.{sourceAt, isMember, isCrashed, momentOf, withClock}
 use Rattle.end.specs.Records.{within, recordAt, isHeld}
@@ -42,8 +45,9 @@ use Rattle.end.specs.Reasons.{nameReasons, reasons, firstThat, reasonOf}
 use Rattle.end.specs.Session.{sessionOf}
 use Rattle.end.specs.Arrival.{wordOf, namedIn, messageStep, arrivalOf}
 use Rattle.end.specs.Fire.{expressRank, fireAt, fired, earliest}
-use Rattle.end.specs.Event.{Other, Fire, Report, Action, Moves, Send, Arrival, Else, moves, moveOf, otherOf, hearingOf, actOf, stepOf, questionOf, eventOf}
-use Rattle.end.specs.Why.{wrongStatus, isOwn, ownMessage, namedOf, namedBy, holdsOf, reasonHolds, refusedAs, because, whyOf, reasonNumber, isIgnored, ReasonIsFirst, NoneHolds, NumberExactly, ReasonExactly, NoneExactly}
+use Rattle.end.specs.Fetch.{mayFetch, nearest, tryOf, fetchOf, mayAnswer, fetchedOf, mayHand, lateOf}
+use Rattle.end.specs.Event.{Other, Fire, Report, Fetch, Action, Moves, Send, Arrival, Else, moves, moveOf, otherOf, hearingOf, actOf, stepOf, questionOf, eventOf}
+use Rattle.end.specs.Why.{wrongStatus, isOwn, ownMessage, namedOf, namedBy, holdsOf, noFetchIn, noFetchOf, noFetchFor, noFetch, reasonHolds, refusedAs, because, whyOf, reasonNumber, isIgnored, ReasonIsFirst, NoneHolds, NumberExactly, ReasonExactly, NoneExactly}
 use Rattle.end.proofs.Tools.{byCond, byTest, clash, clash′}
 use Rattle.end.proofs.RecordLaws.{at-outside}
 use Rattle.end.proofs.SoundLaws.{all-at}
@@ -77,7 +81,7 @@ first-at f (x ∷ l) reason = byCond (λ o. o ≡ some reason → FirstAt f (x �
     before h i g (suc j) k = g j (omega arith)
 
 -- a reason's number is its place in the list, from 1
-numbered : (reason : Reason) → (1 ≤ reasonNumber reason) × (at reasons (reasonNumber reason - 1) ≡ reason) × (reasonNumber reason ≤ 10)
+numbered : (reason : Reason) → (1 ≤ reasonNumber reason) × (at reasons (reasonNumber reason - 1) ≡ reason) × (reasonNumber reason ≤ 11)
 numbered Crashed = (omega arith, refl, omega arith)
 numbered WrongStatus = (omega arith, refl, omega arith)
 numbered OwnMessage = (omega arith, refl, omega arith)
@@ -88,10 +92,11 @@ numbered AlreadyHeld = (omega arith, refl, omega arith)
 numbered ReplyWaiting = (omega arith, refl, omega arith)
 numbered ReplyQuiet = (omega arith, refl, omega arith)
 numbered RequestQuiet = (omega arith, refl, omega arith)
+numbered NoFetch = (omega arith, refl, omega arith)
 
 placed : (i : ℕ) → i < length reasons → reasonNumber (at reasons i) ≡ suc i
 unfolding allBelow
-placed i h = eqb-true _ _ (all-at (λ i. eqb (reasonNumber (at reasons i)) (suc i)) 10 i refl h)
+placed i h = eqb-true _ _ (all-at (λ i. eqb (reasonNumber (at reasons i)) (suc i)) 11 i refl h)
 
 first-holds : (f : Reason → Bool) (reason : Reason) → firstThat f reasons ≡ some reason
     → (f reason ≡ true) × ((other : Reason) → reasonNumber other < reasonNumber reason → f other ≡ false)
@@ -159,9 +164,29 @@ decided t w r (BacksOff k) = (_, refl, refl)
 decided t w r Clashes = (_, refl, refl)
 decided t w r Expresses = (_, refl, refl)
 
--- the reasons from the fourth on, by what is said of a name
+-- the reasons that lie in a name's source, by what is said of the name
 abbrev pub later : End → Option Word → Option Reason
 later e o = firstThat (λ reason. holdsOf e reason o) nameReasons
+
+-- and then the last one, which no message about a name has that lies in its source
+abbrev pub orElse : Option Reason → Option Reason → Option Reason
+orElse none other = other
+orElse (some reason) other = some reason
+
+abbrev pub ifNoFetch : Bool → Option Reason
+ifNoFetch b = cond b (some NoFetch) none
+
+or-none : (o : Option Reason) → orElse o none ≡ o
+or-none none = refl
+or-none (some reason) = refl
+
+first-of-both : (f : Reason → Bool) (l k : List Reason) → firstThat f (l ++ k) ≡ orElse (firstThat f l) (firstThat f k)
+first-of-both f [] k = refl
+first-of-both f (x ∷ l) k = byTest (f x) (λ t. rw t) (λ t. rw t (first-of-both f l k))
+
+-- kinds differ
+other-kind : (kind a b : ℕ) → eqb kind a ≡ true → eqb a b ≡ false → eqb kind b ≡ false
+other-kind kind a b p q = ap (λ (k : ℕ). eqb k b) (eqb-true kind a p) ∙ q
 
 closed-bare : (w : Word) (s : Source) → s .span ≡ Closed → isHeld (known w s .slot) ≡ false
 closed-bare w s p = ap (λ (r : Record). isHeld (r .slot)) (at-outside s (number w) (ap (λ (x : Span). within x (number w)) p))
@@ -177,21 +202,33 @@ module _ (us : List ℕ) (m : Meaning) (e : End) where
   unfolding stepAt
   about says = rw (later-decided e (wordOf says m e)) (decided (momentOf e) (wordOf says m e) _ (decide (momentOf e) (wordOf says m e) (sourceAt e (wordOf says m e .name .source))))
 
-  message-told : Foretells (because (later e (namedIn m e))) (Did (messageStep us m e .effect))
-  unfolding messageStep sessionOf
-  message-told = byTest (eqb (m .kind) DATA) (λ d. rw d (about Data))
-      (λ d. byTest (eqb (m .kind) RQST) (λ r. rw (d, r) (about Rqst))
-      (λ r. byTest (eqb (m .kind) REPL) (λ p. rw (d, r, p) (about Repl))
-      (λ p. byTest (eqb (m .kind) XPRS) (λ x. rw (d, r, p, x) (about Xprs))
-      (λ x. rw (d, r, p, x) (_, refl, refl)))))
+  -- of one of the kinds 17 to 19 and 21 no fetch is the last reason
+  named : (kind : ℕ) (says : Says) → eqb (m .kind) kind ≡ true → eqb kind FTCH ≡ false → eqb kind LATE ≡ false
+      → Foretells (because (orElse (later e (some (wordOf says m e))) (ifNoFetch (noFetchIn m e)))) (Did (stepAt (momentOf e) us (wordOf says m e) e .effect))
+  named kind says k f l =
+      rw (other-kind (m .kind) kind FTCH k f, other-kind (m .kind) kind LATE k l, or-none (later e (some (wordOf says m e)))) (about says)
 
-  arrival-told : Foretells (because (cond (sameHost (m .sender) (e .host)) (some OwnMessage) (later e (namedIn m e)))) (Did (arrivalOf us m e .effect))
+  message-told : Foretells (because (orElse (later e (namedIn m e)) (ifNoFetch (noFetchIn m e)))) (Did (messageStep us m e .effect))
+  unfolding messageStep sessionOf fetchedOf lateOf
+  message-told = byTest (eqb (m .kind) DATA) (λ d. rw d (named DATA Data d refl refl))
+      (λ d. byTest (eqb (m .kind) RQST) (λ r. rw (d, r) (named RQST Rqst r refl refl))
+      (λ r. byTest (eqb (m .kind) REPL) (λ p. rw (d, r, p) (named REPL Repl p refl refl))
+      (λ p. byTest (eqb (m .kind) XPRS) (λ x. rw (d, r, p, x) (named XPRS Xprs x refl refl))
+      (λ x. byTest (eqb (m .kind) FTCH)
+      (λ f. byTest (mayAnswer e m) (λ t. rw (d, r, p, x, f, t) (_, refl, refl)) (λ t. rw (d, r, p, x, f, t)))
+      (λ f. byTest (eqb (m .kind) LATE)
+      (λ l. byTest (mayHand e m) (λ t. rw (d, r, p, x, f, l, t) (_, refl, refl)) (λ t. rw (d, r, p, x, f, l, t)))
+      (λ l. rw (d, r, p, x, f, l) (_, refl, refl)))))))
+
+  arrival-told : Foretells (because (cond (sameHost (m .sender) (e .host)) (some OwnMessage) (orElse (later e (namedIn m e)) (ifNoFetch (noFetchIn m e)))))
+      (Did (arrivalOf us m e .effect))
   unfolding arrivalOf
   arrival-told = byTest (sameHost (m .sender) (e .host)) (λ o. rw o) (λ o. rw o message-told)
 
 -- a datagram: a probe is a Report
 module _ (us : List ℕ) (e : End) where
-  heard-told : (d : Datagram Meaning) → Foretells (because (cond (isOwn d (e .host)) (some OwnMessage) (later e (namedOf d e)))) (Did (hearingOf us d e .effect))
+  heard-told : (d : Datagram Meaning)
+      → Foretells (because (cond (isOwn d (e .host)) (some OwnMessage) (orElse (later e (namedOf d e)) (ifNoFetch (noFetchOf d e))))) (Did (hearingOf us d e .effect))
   heard-told Probe = (_, refl, refl)
   heard-told (Saying m) = arrival-told us m e
 
@@ -207,25 +244,37 @@ fire-at us e (First w) = go (recordAt (sourceAt e (w .name .source)) (w .name .n
     go (Held No) = refl
     go (Held (Due due requester)) = refl
 
-other-told : (us : List ℕ) (o : Other) (e : End) → isIgnored (otherOf us o e .effect) ≡ false
-other-told us Fire e = fire-at us e (earliest e 8)
-other-told us Report e = refl
+-- nor is a fetch that may be made
+try-at : (name : Name) (e : End) (x : Nearest) → isIgnored (tryOf name e x .effect) ≡ false
+unfolding tryOf
+try-at name e Nobody = refl
+try-at name e (Found h d) = refl
+
+other-told : (us : List ℕ) (o : Other) (e : End) → Foretells (because (ifNoFetch (noFetchFor o e))) (Did (otherOf us o e .effect))
+unfolding fetchOf
+other-told us Fire e = (_, refl, fire-at us e (earliest e 8))
+other-told us Report e = (_, refl, refl)
+other-told us (Fetch name) e = byTest (mayFetch e name) (λ t. rw t (_, refl, try-at name e (nearest e name 8))) (λ t. rw t)
 
 -- an event on an end that is not crashed and whose clock is set
 module _ (us : List ℕ) (e : End) where
   abbrev first : Action → Option Reason
-  first a = cond (wrongStatus a (e .status)) (some WrongStatus) (cond (ownMessage a (e .host)) (some OwnMessage) (later e (namedBy a e)))
+  first a =
+      cond (wrongStatus a (e .status)) (some WrongStatus)
+      (cond (ownMessage a (e .host)) (some OwnMessage) (orElse (later e (namedBy a e)) (ifNoFetch (noFetch a e))))
 
   act-told : (a : Action) → Foretells (because (first a)) (Did (actOf us a e .effect))
   unfolding actOf moveOf
   act-told (Moves m) = byTest (moves m (e .status)) (λ t. rw t (_, refl, refl)) (λ t. rw t)
   act-told (Send cue) = byTest (isMember (e .status)) (λ t. rw t (_, refl, refl)) (λ t. rw t)
   act-told (Arrival bytes) = byTest (isMember (e .status)) (λ t. rw t (heard-told us e (datagramFrom bytes))) (λ t. rw t)
-  act-told (Else o) = byTest (isMember (e .status)) (λ t. rw t (_, refl, other-told us o e)) (λ t. rw t)
+  act-told (Else o) = byTest (isMember (e .status)) (λ t. rw t (other-told us o e)) (λ t. rw t)
 
 step-told : (e : End) (clock : ℕ) (us : List ℕ) (a : Action) → Foretells (because (firstThat (reasonHolds e clock a) reasons)) (Did (stepOf clock us a e .effect))
 unfolding stepOf
-step-told e clock us a = byTest (isCrashed (e .status)) (λ t. rw t) (λ t. rw t (act-told us (withClock e clock) a))
+step-told e clock us a =
+    byTest (isCrashed (e .status)) (λ t. rw t)
+    (λ t. rw (t, first-of-both (reasonHolds e clock a) nameReasons (NoFetch ∷ [])) (act-told us (withClock e clock) a))
 
 -- with an output and draws as they must be, the questions asked are the same
 asked : (e : End) (clock room draws : ℕ) (a : Action) → roomNeeded ≤ room → draws ≡ drawCount → questionOf e a clock room draws ≡ refusedAs e clock a

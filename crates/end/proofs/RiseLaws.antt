@@ -182,4 +182,4 @@ rise-still new n s (Open first last) p w u =
     let le = ltb-false k n u in
     let l : max k n ≡ k = omega arith in
     rw (l, still-first f k (w .0) (w .1), still-retired f k (w .0), still-new f k (w .0))
-    (λ i. record { span = (sym p) i; missed = still-over (s .missed) f k (w .0) i; pair = s .pair; distance = s .distance; heard = s .heard; names = s .names })
+    (λ i. record { span = (sym p) i; missed = still-over (s .missed) f k (w .0) i; pair = s .pair; distance = s .distance; heard = s .heard; names = s .names; origin = s .origin; attempts = s .attempts })

@@ -8,3 +8,4 @@ pub mod Words
 pub mod Quiets
 pub mod Ends
 pub mod Unclashed
+pub mod Lates

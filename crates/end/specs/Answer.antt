@@ -1,7 +1,8 @@
 -- What a call answers, and what it leaves in the output. Document 01, "Events": "Answers: Out (length, the message in the first output
 -- bytes), Got (name, and its cue in the first 24), Done, Ignored, Nothing. Other output bytes are untouched." An answer that is added
--- later is a case of `Effect` and of the declared `Answer`, and a line in each of `classOf`, `answerOf`, `answerNumber` and `answerValues`.
--- Document 02, P4: "a new answer, Clash, with the name; apart from the clock nothing changes".
+-- later is a case of `Effect` and of the declared `Answer`, and a line in each of `classOf`, `answerOf`, `answerNumber` and `answerValues`
+-- (and of `isIgnored`, Why.antt).
+-- Document 02, P4: "a new answer, Clash, with the name; apart from the clock nothing changes"; P9: Late, "written as Got is", and "exhausted".
 use Prim.Native.Nat.{ℕ}
 use mathlib.Core.Bool.{Bool, true, false}
 use mathlib.Core.List.{List, [], _∷_, _++_}
@@ -20,6 +21,8 @@ pub data Effect : Type 0 where
   Ignored : Effect
   Nothing : Effect
   Clash : Name → Effect
+  Late : Name → List ℕ → Effect
+  Exhausted : Effect
 
 -- what an event does: its effect, and the state that it leaves
 pub record Step : Type 0 where
@@ -47,6 +50,8 @@ pub data Class : Type 0 where
   PutsOut : List ℕ → Class
   -- a cue, handed out under its name
   HandsOut : Name → List ℕ → Class
+  -- a fetched cue, which lies outside the service's record of receptions
+  HandsLate : Name → List ℕ → Class
   -- nothing
   Untouched : Class
 
@@ -57,6 +62,8 @@ classOf Done = Untouched
 classOf Ignored = Untouched
 classOf Nothing = Untouched
 classOf (Clash name) = Untouched
+classOf (Late name cue) = HandsLate name cue
+classOf Exhausted = Untouched
 
 abbrev pub classIn : Outcome → Class
 classIn (Refused k) = Untouched
@@ -65,11 +72,13 @@ classIn (Did a) = classOf a
 abbrev pub handsOut : Class → Bool
 handsOut (PutsOut bytes) = false
 handsOut (HandsOut name cue) = true
+handsOut (HandsLate name cue) = false
 handsOut Untouched = false
 
 abbrev pub writtenBy : Class → List ℕ
 writtenBy (PutsOut bytes) = bytes
 writtenBy (HandsOut name cue) = cue
+writtenBy (HandsLate name cue) = cue
 writtenBy Untouched = []
 
 -- the output that a call leaves: what it writes in the first bytes, every other byte as it was
@@ -85,12 +94,14 @@ answerOf (Did Done) = answer.Done
 answerOf (Did Ignored) = answer.Ignored
 answerOf (Did Nothing) = answer.Nothing
 answerOf (Did (Clash name)) = answer.Clash name
+answerOf (Did (Late name cue)) = answer.Late name
+answerOf (Did Exhausted) = answer.Exhausted
 
 -- what a call gives, refused or not: its answer, and the end that it leaves
 abbrev pub calledOf : Result → Stepped
 calledOf r = record { answer = answerOf (r .outcome); end = r .left }
 
--- document 01's number of an answer, 0 where the call was not refused, and its values: the length of Out, the name of Got and of Clash
+-- document 01's number of an answer, 0 where the call was not refused, and its values: the length of Out, the name of Got, of Clash and of Late
 abbrev pub answerNumber : Answer → ℕ
 answerNumber (answer.Refused k) = k
 answerNumber (answer.Out n) = 0
@@ -99,6 +110,8 @@ answerNumber answer.Done = 0
 answerNumber answer.Ignored = 0
 answerNumber answer.Nothing = 0
 answerNumber (answer.Clash name) = 0
+answerNumber (answer.Late name) = 0
+answerNumber answer.Exhausted = 0
 
 abbrev pub answerValues : Answer → List ℕ
 answerValues (answer.Refused k) = []
@@ -108,3 +121,5 @@ answerValues answer.Done = []
 answerValues answer.Ignored = []
 answerValues answer.Nothing = []
 answerValues (answer.Clash name) = name .source .0 ∷ name .number .0 ∷ []
+answerValues (answer.Late name) = name .source .0 ∷ name .number .0 ∷ []
+answerValues answer.Exhausted = []

@@ -1,14 +1,11 @@
--- What a member does with a message, by its kind. Document 01, "Events": DATA, RQST, REPL, SESS.
+-- What a member does with a message, by its kind. Document 01, "Events": DATA, RQST, REPL, SESS; document 02, P8 and P9: the kinds 21 to 23.
 use Prim.Native.Nat.{ℕ}
 use mathlib.Core.Bool.{cond}
 use mathlib.Core.List.{List}
 use mathlib.Core.Option.{Option, none, some}
-use lib.ListN.{getD}
 use lib.Dec.{eqb}
 use Rattle.message.specs.declared.Host.{Host}
-use Rattle.message.specs.declared.Name.{Name}
-use Rattle.message.specs.Entry.{blankName, blankCue}
-use Rattle.message.specs.Message.{DATA, RQST, REPL, XPRS, Meaning}
+use Rattle.message.specs.Message.{DATA, RQST, REPL, XPRS, FTCH, LATE, Meaning}
 use Rattle.message.specs.Question.{sameHost}
 use Rattle.end.specs.declared.Says.{Says}
 use Rattle.end.specs.declared.Says.the-variants.{Data, Rqst, Repl, Xprs}
@@ -17,17 +14,11 @@ use Rattle.end.specs.declared.End.{End}
 use Rattle.end.specs.State.{distanceTo, momentOf}
 use Rattle.end.specs.Answer.{Ignored, Step, give}
 use Rattle.end.specs.Decide.{stepAt}
+pub use Rattle.end.specs.Messages.{messageName, messageHost, messageCue}
 use Rattle.end.specs.Session.{sessionOf}
+use Rattle.end.specs.Fetch.{fetchedOf, lateOf}
 
 -- ---- what a message about a name says
-abbrev pub messageName : Meaning → Name
-messageName m = getD (m .names) 0 blankName .name
-
-abbrev pub messageHost : Meaning → Host
-messageHost m = getD (m .names) 0 blankName .host
-
-abbrev pub messageCue : Meaning → List ℕ
-messageCue m = getD (m .cues) 0 blankCue
 
 -- who asked: of a RQST or XPRS its sender, of a REPL the host in its name; a DATA has no requester, and no rule reads this of it
 abbrev pub requesterIn : Says → Meaning → Host
@@ -47,7 +38,7 @@ wordOf says m e = record {
   cue = messageCue m;
 }
 
--- the word of a message about a name, by its kind; a SESS is about none
+-- the word of a message about a name, by its kind; a SESS is about none, and the kinds 22 and 23 go by rules of their own (Fetch.antt)
 abbrev pub namedIn : Meaning → End → Option Word
 namedIn m e =
     cond (eqb (m .kind) DATA) (some (wordOf Data m e))
@@ -66,7 +57,9 @@ messageStep us m e =
     (cond (eqb (m .kind) RQST) (wordStep us Rqst m e)
     (cond (eqb (m .kind) REPL) (wordStep us Repl m e)
     (cond (eqb (m .kind) XPRS) (wordStep us Xprs m e)
-    (sessionOf (momentOf e) us m e))))
+    (cond (eqb (m .kind) FTCH) (fetchedOf m e)
+    (cond (eqb (m .kind) LATE) (lateOf m e)
+    (sessionOf (momentOf e) us m e))))))
 
 -- "an arrival whose sender is oneself: Ignored"
 unfoldable pub arrivalOf : List ℕ → Meaning → End → Step

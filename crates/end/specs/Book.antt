@@ -45,7 +45,7 @@ messageIn (Saying m) = some m
 unfoldable pub readAs : List ℕ → Option Meaning
 readAs bytes = cond (eqb (readRefusal bytes) 0) (messageIn (datagramFrom bytes)) none
 
--- "an original is a DATA, a repair a REPL"
+-- "an original is a DATA, a repair a REPL". Document 02, P9: "Kind 23 is neither an original nor a repair of the service"
 abbrev pub isOriginal : Meaning → Bool
 isOriginal m = eqb (m .kind) DATA
 
@@ -59,7 +59,7 @@ abbrev pub number : Meaning → ℕ
 number m = messageName m .number .0
 
 -- ---- the numbers that a message brings of a source: the number in the name of a DATA, RQST or REPL, and of "what later counts as RQST", an
--- XPRS; the reported last ones of a SESS
+-- XPRS; the reported last ones of a SESS. The kinds 22 and 23 (P9) bring none
 
 -- after a number: "the highest number L", once there is one
 unfoldable pub raisedTo : ℕ → Option ℕ → Option ℕ

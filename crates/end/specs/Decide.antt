@@ -13,6 +13,7 @@ use Rattle.end.specs.declared.Slot.the-variants.{Empty, Held, Waiting}
 use Rattle.end.specs.declared.Record.{Record}
 use Rattle.end.specs.declared.Span.{Span}
 use Rattle.end.specs.declared.Span.the-variants.{Closed, Open}
+use Rattle.end.specs.declared.Origin.the-variants.{From}
 use Rattle.end.specs.declared.Source.{Source}
 use Rattle.end.specs.declared.End.{End}
 use Rattle.end.specs.declared.Moment.{Moment}
@@ -23,7 +24,7 @@ use Rattle.end.specs.declared.Reason.{Reason}
 use Rattle.end.specs.declared.Reason.the-variants.{NotOpen, BelowFirst, OwnAboveLast, AlreadyHeld, ReplyWaiting, ReplyQuiet, RequestQuiet}
 use Rattle.end.specs.declared.Decision.{Decision}
 use Rattle.end.specs.declared.Decision.the-variants.{Ignores, Opens, Takes, Repairs, Hushes, Replies, Learns, BacksOff, Clashes, Expresses}
-use Rattle.end.specs.State.{sourceAt, onSource}
+use Rattle.end.specs.State.{sourceAt, withOrigin, onSource}
 use Rattle.end.specs.Records.{isAbove, recordAt, isHeld, isNo, replyIn}
 use Rattle.end.specs.Round.{nextRound}
 use Rattle.end.specs.Names.{setRound, hold, setReply, quietReply, keepPair, rise, riseByData, openAt}
@@ -121,9 +122,9 @@ risenByData t us w s = riseByData t us (number w) s (s .span)
 abbrev pub paired : Word → Source → Source
 paired w s = keepPair (w .requester) (w .sender) (w .name .number) s
 
--- "no first: first = last = the number"
+-- "no first: first = last = the number"; document 02, P9: the end keeps "that first original's number"
 abbrev pub opened : Word → Source → Source
-opened w s = openAt (number w) s
+opened w s = withOrigin (openAt (number w) s) (From (w .name .number))
 
 -- REPL: "Either way its waiting reply goes and reply-quiet = t + D3×d, d to the requester." P4: "apart from the clock nothing changes,
 -- reply waits included". P8: the named sender "drops its waiting reply, sets reply-quiet as Fire does"

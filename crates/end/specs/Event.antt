@@ -1,4 +1,4 @@
--- The nine events, their questions, and what a call gives. Document 01, "The questions, in this order" and "Events".
+-- The ten events, their questions, and what a call gives. Document 01, "The questions, in this order" and "Events".
 use Prim.Native.Nat.{ℕ, _+_}
 use mathlib.Core.Bool.{Bool, true, false, cond, not, _||_}
 use mathlib.Core.List.{List, [], _∷_, _++_}
@@ -30,12 +30,14 @@ use Rattle.end.specs.Answer.{Out, Done, Ignored, Step, give, Refused, Re
 use Rattle.end.specs.Messages.{dataMessage, sessionMessage}
 use Rattle.end.specs.Arrival.{arrivalOf}
 use Rattle.end.specs.Fire.{fireOf}
+use Rattle.end.specs.Fetch.{fetchOf}
 
 -- ---- the events
 
 -- the events of which the book only says that they hand nothing out; events added later join them
 pub data Other : Type 0 where
   Fire Report : Other
+  Fetch : Name → Other
 
 -- an event with its arguments: the cue of a Send is the 24 bytes of its declared type, and a message is any bytes
 pub data Action : Type 0 where
@@ -51,6 +53,7 @@ actionOf event.Send cue bytes = Send cue
 actionOf event.Arrival cue bytes = Arrival bytes
 actionOf event.Fire cue bytes = Else Fire
 actionOf event.Report cue bytes = Else Report
+actionOf (event.Fetch name) cue bytes = Else (Fetch name)
 
 -- ---- the moves: "Join: idle to joining. Joined: joining to member. Leave: joining or member to leaving. Left: leaving to idle.
 -- Crash: to crashed. These give Done, from any other status Ignored."
@@ -89,7 +92,8 @@ movesTo Left = Idle
 movesTo Crash = Crashed
 
 -- "Leave and Crash clear firsts, names and heard stamps and set distances to others to 40. The next own number stays." The count of the
--- numbers missed goes with its first: "0 without one" (document 02, P7); and so does the kept pair: "until Leave or Crash" (P8)
+-- numbers missed goes with its first: "0 without one" (document 02, P7); so does the kept pair: "until Leave or Crash" (P8); and the first
+-- original's number and what was reported, tried and handed out as Late "since joining": "non-members keep none" (P9)
 abbrev pub cleared : End → Status → End
 cleared e status = withSources (withStatus e status) (unheardSources (e .host .0))
 
@@ -125,10 +129,11 @@ sentEnd us cue e = withNext (onSource e (e .host) (sentSource (momentOf e) us (e
 abbrev pub sendOf : List ℕ → List ℕ → End → Step
 sendOf us cue e = give (Out (bytesOf (dataMessage (momentOf e) (ownName e) cue))) (sentEnd us cue e)
 
--- ---- Fire; Report: "Out SESS with all firsts' sources and all heard stamps."
+-- ---- Fire; Report: "Out SESS with all firsts' sources and all heard stamps."; Fetch: document 02, P9
 abbrev pub otherOf : List ℕ → Other → End → Step
 otherOf us Fire e = fireOf us e
 otherOf us Report e = give (Out (bytesOf (sessionMessage e))) e
+otherOf us (Fetch name) e = fetchOf name e
 
 -- ---- Arrival. Document 02, P5: "A message of no bytes is now taken by a member as a Report event at that clock, and by any other status as
 -- Ignored."
@@ -136,7 +141,7 @@ abbrev pub hearingOf : List ℕ → Datagram Meaning → End → Step
 hearingOf us Probe e = otherOf us Report e
 hearingOf us (Saying m) e = arrivalOf us m e
 
--- ---- "Send, Fire, Report, Arrival outside membership ..: Ignored."
+-- ---- "Send, Fire, Report, Arrival outside membership ..: Ignored."; P9: "A member may fetch"
 abbrev pub ifMember : End → Step → Step
 ifMember e step = cond (isMember (e .status)) step (give Ignored e)
 

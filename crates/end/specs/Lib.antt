@@ -9,11 +9,13 @@ pub mod Ready
 pub mod Decide
 pub mod Reasons
 pub mod Session
-pub mod Arrival
 pub mod Fire
+pub mod Fetch
+pub mod Arrival
 pub mod Event
 pub mod Why
 pub mod Opening
 pub mod Book
 pub mod Run
 pub mod Clashes
+pub mod Lates

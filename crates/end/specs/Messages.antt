@@ -1,5 +1,5 @@
--- The messages that an end puts out. Document 01, "Messages" (the table) and "Events": "Out DATA", "goes out as RQST", "goes out as
--- REPL", "Out SESS with all firsts' sources and all heard stamps".
+-- What a message about a name says, and the messages that an end puts out. Document 01, "Messages" (the table) and "Events": "Out DATA", "goes
+-- out as RQST", "goes out as REPL", "Out SESS with all firsts' sources and all heard stamps"; document 02, P8 and P9: the kinds 21 to 23.
 use Prim.Native.Nat.{ℕ, zero, suc, _-_}
 use mathlib.Core.List.{List, [], _∷_, _++_}
 use lib.ListN.{getD}
@@ -7,8 +7,8 @@ use Rattle.message.specs.declared.Host.{Host}
 use Rattle.message.specs.declared.Name.{Name}
 use Rattle.message.specs.declared.Report.{Report}
 use Rattle.message.specs.declared.Echo.{Echo}
-use Rattle.message.specs.Entry.{asHost}
-use Rattle.message.specs.Message.{DATA, RQST, REPL, SESS, XPRS, Meaning}
+use Rattle.message.specs.Entry.{asHost, blankName, blankCue}
+use Rattle.message.specs.Message.{DATA, RQST, REPL, SESS, XPRS, FTCH, LATE, Meaning}
 use Rattle.end.specs.declared.Span.{Span}
 use Rattle.end.specs.declared.Span.the-variants.{Closed, Open}
 use Rattle.end.specs.declared.Heard.{Heard}
@@ -16,6 +16,18 @@ use Rattle.end.specs.declared.Heard.the-variants.{Never, At}
 use Rattle.end.specs.declared.End.{End}
 use Rattle.end.specs.declared.Moment.{Moment}
 use Rattle.end.specs.State.{noSource}
+
+-- ---- what a message about a name says
+abbrev pub messageName : Meaning → Name
+messageName m = getD (m .names) 0 blankName .name
+
+abbrev pub messageHost : Meaning → Host
+messageHost m = getD (m .names) 0 blankName .host
+
+abbrev pub messageCue : Meaning → List ℕ
+messageCue m = getD (m .cues) 0 blankCue
+
+-- ---- what is put out
 
 -- a message about one name: its host, and its cue if it carries one; sender and stamp are one's own host and the clock
 abbrev pub aboutName : ℕ → Moment → Name → Host → List (List ℕ) → Meaning
@@ -42,6 +54,14 @@ expressMessage t name host = aboutName XPRS t name host []
 abbrev pub repairMessage : Moment → Name → Host → List ℕ → Meaning
 repairMessage t name requester cue = aboutName REPL t name requester (cue ∷ [])
 
+-- document 02, P9: "Fetch, kind 22, is shaped as kind 21 with the host tried as host; its cue, kind 23, as REPL": the host of kind 23 is who
+-- fetches
+abbrev pub fetchMessage : Moment → Name → Host → Meaning
+fetchMessage t name tried = aboutName FTCH t name tried []
+
+abbrev pub fetchedMessage : Moment → Name → Host → List ℕ → Meaning
+fetchedMessage t name requester cue = aboutName LATE t name requester (cue ∷ [])
+
 -- the report of a source that has a first, and the echo of a host that was heard: its stamp, and the ticks since
 abbrev pub reportOn : Host → Span → List Report
 reportOn h Closed = []
@@ -49,7 +69,7 @@ reportOn h (Open first last) = record { source = h; last = last } ∷ []
 
 abbrev pub echoOn : Host → ℕ → Heard → List Echo
 echoOn h clock Never = []
-echoOn h clock (At stamp when) = record { host = h; stamp = stamp; held = clock - when } ∷ []
+echoOn h clock (At stamp when reported) = record { host = h; stamp = stamp; held = clock - when } ∷ []
 
 -- of the hosts below k, in rising order
 unfoldable pub reportsBelow : End → ℕ → List Report

@@ -47,4 +47,4 @@ SpanIn (Open first last) = (first .0 ≤ last .0) × (last .0 < numberLimit) × 
 -- heard at the clock or before
 abbrev pub HeardBy : ℕ → Heard → Type 0
 HeardBy clock Never = Unit {0}
-HeardBy clock (At stamp when) = when ≤ clock
+HeardBy clock (At stamp when reported) = when ≤ clock

@@ -1,9 +1,9 @@
--- Why a message about a name is ignored: document 02, P3, each reason that lies in the name's source as a test, and the order of all ten. A
+-- Why a message about a name is ignored: document 02, P3, each reason that lies in the name's source as a test, and the order of all eleven. A
 -- message is ignored for the first of them that holds, and only if one does. The reason of any event, by the same list: Why.antt.
 use mathlib.Core.Path.{_≡_}
 use Prim.Native.Nat.{ℕ}
 use mathlib.Core.Bool.{Bool, true, false, cond, not, _&&_}
-use mathlib.Core.List.{List, [], _∷_}
+use mathlib.Core.List.{List, [], _∷_, _++_}
 use mathlib.Core.Option.{Option, none, some}
 use lib.Dec.{ltb, leb}
 use Rattle.message.specs.Question.{sameHost}
@@ -17,7 +17,7 @@ use Rattle.end.specs.declared.Says.{Says}
 use Rattle.end.specs.declared.Says.the-variants.{Data, Rqst, Repl, Xprs}
 use Rattle.end.specs.declared.Word.{Word}
 use Rattle.end.specs.declared.Reason.{Reason}
-use Rattle.end.specs.declared.Reason.the-variants.{Crashed, WrongStatus, OwnMessage, NotOpen, BelowFirst, OwnAboveLast, AlreadyHeld, ReplyWaiting, ReplyQuiet, RequestQuiet}
+use Rattle.end.specs.declared.Reason.the-variants.{Crashed, WrongStatus, OwnMessage, NotOpen, BelowFirst, OwnAboveLast, AlreadyHeld, ReplyWaiting, ReplyQuiet, RequestQuiet, NoFetch}
 use Rattle.end.specs.declared.Decision.{Decision}
 use Rattle.end.specs.declared.Decision.the-variants.{Ignores, Opens, Takes, Repairs, Hushes, Replies, Learns, BacksOff, Clashes, Expresses}
 use Rattle.end.specs.Records.{isClosed, isBelow, isAbove, isHeld, isNo, replyIn}
@@ -78,7 +78,7 @@ replyQuiet says t r = isRequest says && (isHeld (r .slot) && ltb (t .clock) (r .
 abbrev pub requestQuiet : Says → Moment → Word → Record → Span → Bool
 requestQuiet says t w r x = isRequest says && (not (isHeld (r .slot)) && (not (isAbove x (number w)) && isQuiet (t .clock) (r .slot)))
 
--- whether a reason lies in the name's source; the first three lie elsewhere (Why.antt)
+-- whether a reason lies in the name's source; the first three and the last lie elsewhere (Why.antt)
 abbrev pub holds : Says → Moment → Word → Record → Span → Reason → Bool
 holds says t w r x Crashed = false
 holds says t w r x WrongStatus = false
@@ -90,13 +90,14 @@ holds says t w r x AlreadyHeld = alreadyHeld says w r
 holds says t w r x ReplyWaiting = replyWaiting says t w r
 holds says t w r x ReplyQuiet = replyQuiet says t r
 holds says t w r x RequestQuiet = requestQuiet says t w r x
+holds says t w r x NoFetch = false
 
--- ---- the list, in document 02's order: those of a message about a name, and all ten
+-- ---- the list, in document 02's order: those of a message about a name, and all eleven; P9: "a last reason"
 abbrev pub nameReasons : List Reason
 nameReasons = NotOpen ∷ BelowFirst ∷ OwnAboveLast ∷ AlreadyHeld ∷ ReplyWaiting ∷ ReplyQuiet ∷ RequestQuiet ∷ []
 
 abbrev pub reasons : List Reason
-reasons = Crashed ∷ WrongStatus ∷ OwnMessage ∷ nameReasons
+reasons = Crashed ∷ WrongStatus ∷ OwnMessage ∷ (nameReasons ++ (NoFetch ∷ []))
 
 abbrev pub firstThat : (Reason → Bool) → List Reason → Option Reason
 firstThat f [] = none

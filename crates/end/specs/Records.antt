@@ -16,8 +16,11 @@ use Rattle.end.specs.declared.Reply.the-variants.{No, Due}
 use Rattle.end.specs.declared.Record.{Record}
 use Rattle.end.specs.declared.Span.{Span}
 use Rattle.end.specs.declared.Span.the-variants.{Closed, Open}
+use Rattle.end.specs.declared.Origin.{Origin}
+use Rattle.end.specs.declared.Origin.the-variants.{NoOrigin, From}
+use Rattle.end.specs.declared.Attempt.{Attempt}
 use Rattle.end.specs.declared.Source.{Source}
-use Rattle.end.specs.State.{noRecord, blankRecord, withNames}
+use Rattle.end.specs.State.{noRecord, blankRecord, noAttempt, withNames, withAttempts}
 
 -- ---- first and last
 abbrev pub isClosed : Span → Bool
@@ -97,3 +100,18 @@ abbrev pub withExpress : Express → Slot → Slot
 withExpress x Empty = Empty
 withExpress x (Held reply) = Held reply
 withExpress x (Waiting q was) = Waiting q x
+
+-- ---- the marks of a number below a source's first original. Document 02, P9
+
+-- "any of the 64 numbers just below the first original it had since joining from another host"
+abbrev pub fetchable : Origin → ℕ → Bool
+fetchable NoOrigin n = false
+fetchable (From first) n = ltb n (first .0) && leb (first .0) (n + 64)
+
+-- what an end has done to fetch a number: of any other number, nothing
+unfoldable pub attemptAt : Source → ℕ → Attempt
+attemptAt s n = cond (fetchable (s .origin) n) (getD (s .attempts) (place n) noAttempt) noAttempt
+
+-- the marks of a number that may be fetched stored
+abbrev pub withAttempt : Source → ℕ → Attempt → Source
+withAttempt s n a = withAttempts s (set (s .attempts) (place n) a)

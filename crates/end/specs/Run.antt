@@ -7,7 +7,7 @@ use Rattle.message.specs.Entry.{asHost}
 use Rattle.message.specs.declared.Verdict.the-variants.{Accepted}
 use Rattle.end.specs.declared.Params.{Params}
 use Rattle.end.specs.declared.End.{End}
-use Rattle.end.specs.Answer.{Class, PutsOut, HandsOut, Untouched, classIn, Outcome, Refused, Did, Result}
+use Rattle.end.specs.Answer.{Class, PutsOut, HandsOut, HandsLate, Untouched, classIn, Outcome, Refused, Did, Result}
 use Rattle.end.specs.Event.{Action, Moves, Send, Arrival, Else, eventOf}
 use Rattle.end.specs.Opening.{openingOf}
 use Rattle.end.specs.Book.{put, Entry, RunFrom, emptyBook}
@@ -33,6 +33,7 @@ resultOf w c = eventOf (w .ends (c .host)) (c .action) (c .clock) (length (c .ou
 abbrev pub sentBy : Class → List (List ℕ) → List (List ℕ)
 sentBy (PutsOut bytes) l = bytes ∷ l
 sentBy (HandsOut name cue) l = l
+sentBy (HandsLate name cue) l = l
 sentBy Untouched l = l
 
 unfoldable pub sentAfter : Outcome → List (List ℕ) → List (List ℕ)

@@ -4,6 +4,7 @@ use Prim.Native.Nat.{ℕ, _+_, _-_}
 use mathlib.Core.Bool.{cond, not, _&&_}
 use mathlib.Core.List.{List, [], _∷_}
 use lib.Dec.{leb}
+use Rattle.numbers.specs.Bits.{withBit}
 use Rattle.message.specs.declared.Host.{Host}
 use Rattle.message.specs.declared.Report.{Report}
 use Rattle.message.specs.declared.Echo.{Echo}
@@ -35,9 +36,19 @@ measured me clock [] d = d
 measured me clock (x ∷ xs) d =
     measured me clock xs (cond (sameHost (x .host) me && leb (x .stamp + x .held) clock) (halfTrip (clock - (x .stamp + x .held))) d)
 
--- the sender's source: its distance after the echoes; "The sender's stamp is kept as heard now."
+-- the sources that a session message reported: document 02, P9, "the other hosts whose last heard session message since joining reported that
+-- source"
+unfoldable pub reportedAfter : ℕ → List Report → ℕ
+reportedAfter sources [] = sources
+reportedAfter sources (r ∷ rs) = reportedAfter (withBit sources (r .source .0)) rs
+
+abbrev pub reportedIn : List Report → ℕ
+reportedIn rs = reportedAfter 0 rs
+
+-- the sender's source: its distance after the echoes; "The sender's stamp is kept as heard now.", and beside it what the message reported
 abbrev pub heardFrom : Moment → Meaning → Source → Source
-heardFrom t m s = withHeard (withDistance s (measured (t .me) (t .clock) (m .echoes) (s .distance))) (At (m .stamp) (t .clock))
+heardFrom t m s =
+    withHeard (withDistance s (measured (t .me) (t .clock) (m .echoes) (s .distance))) (At (m .stamp) (t .clock) (reportedIn (m .reports)))
 
 -- "After that, an echo .."; "SESS: Done."
 unfoldable pub sessionOf : Moment → List ℕ → Meaning → End → Step

@@ -1,10 +1,11 @@
 -- When a state is sound. Document 01, "What an end keeps", second paragraph, clause by clause; the ranges are those of the first
 -- paragraph and of "The link and its edge". A test is a list of its parts.
-use Prim.Native.Nat.{ℕ, zero, suc, _+_}
+use Prim.Native.Nat.{ℕ, zero, suc, _+_, _-_}
 use mathlib.Core.Bool.{Bool, true, false, cond, not, _&&_, _||_}
 use mathlib.Core.List.{List, [], _∷_}
 use lib.ListN.{length, getD}
 use lib.Dec.{ltb, leb, eqb}
+use Rattle.numbers.specs.Bits.{bit}
 use Rattle.message.specs.declared.Host.{Host}
 use Rattle.message.specs.Limit.{numberLimit}
 use Rattle.message.specs.Cue.{cueIn}
@@ -25,10 +26,13 @@ use Rattle.end.specs.declared.Span.{Span}
 use Rattle.end.specs.declared.Span.the-variants.{Closed, Open}
 use Rattle.end.specs.declared.Heard.{Heard}
 use Rattle.end.specs.declared.Heard.the-variants.{Never, At}
+use Rattle.end.specs.declared.Origin.{Origin}
+use Rattle.end.specs.declared.Origin.the-variants.{NoOrigin, From}
+use Rattle.end.specs.declared.Attempt.{Attempt}
 use Rattle.end.specs.declared.Source.{Source}
 use Rattle.end.specs.declared.End.{End}
-use Rattle.end.specs.State.{noSource, places, isMember, firstDistance}
-use Rattle.end.specs.Records.{isClosed, within, start, rawAt}
+use Rattle.end.specs.State.{noSource, noAttempt, places, isMember, firstDistance}
+use Rattle.end.specs.Records.{isClosed, within, start, place, rawAt, fetchable}
 
 -- ---- tests
 
@@ -116,19 +120,39 @@ pairTests me (Kept requester sender n) = hostIn requester ∷ hostIn sender ∷ 
 abbrev pub distanceSound : Bool → ℕ → Bool
 distanceSound own d = cond own (eqb d 0) (leb 1 d && leb d 1000)
 
--- "heard times are at most the clock; no stamp is heard from oneself"
+-- "heard times are at most the clock; no stamp is heard from oneself". P9: "heard reports only beside heard stamps": they have no other place
 abbrev pub heardTests : Bool → ℕ → Heard → List Bool
 heardTests own clock Never = []
-heardTests own clock (At stamp when) = not own ∷ ticksIn stamp ∷ leb when clock ∷ []
+heardTests own clock (At stamp when reported) = not own ∷ ticksIn stamp ∷ leb when clock ∷ []
 
 abbrev pub isNever : Heard → Bool
 isNever Never = true
-isNever (At stamp when) = false
+isNever (At stamp when reported) = false
 
 -- "a non-member has no first, request, reply or heard stamp, and distances to others at 40": a source with no first has neither
--- request nor reply. P8: "non-members keep none"
+-- request nor reply. P8: "non-members keep none". P9: "non-members keep none": a source with no first has no first original, and so no try
 abbrev pub nonMemberTests : Bool → Source → List Bool
 nonMemberTests own s = isClosed (s .span) ∷ isNever (s .heard) ∷ (own || eqb (s .distance) firstDistance) ∷ isNoPair (s .pair) ∷ []
+
+-- P9: "A sound state keeps that first original's number, at most first, exactly beside another's first"
+abbrev pub originSound : Bool → Span → Origin → Bool
+originSound own Closed NoOrigin = true
+originSound own Closed (From n) = false
+originSound own (Open first last) NoOrigin = own
+originSound own (Open first last) (From n) = not own && leb (n .0) (first .0)
+
+-- "tries only of other hosts at fetchable numbers, Late marks only beside a try"
+abbrev pub attemptSound : Host → Bool → Attempt → Bool
+attemptSound me may a = cond may (not (bit (a .tried) (me .0)) && (not (a .late) || not (eqb (a .tried) 0))) (eqb (a .tried) 0 && not (a .late))
+
+-- each place is that of one of the 64 numbers below the first original, or, where that is below 64 or there is none, of one of 0..63
+abbrev pub lowest : Origin → ℕ
+lowest NoOrigin = 0
+lowest (From n) = n .0 - 64
+
+abbrev pub attemptsSound : Host → Origin → List Attempt → ℕ → Bool
+attemptsSound me origin attempts k =
+    allBelow (λ i. attemptSound me (fetchable origin (lowest origin + i)) (getD attempts (place (lowest origin + i)) noAttempt)) k
 
 -- each place is that of one of the 64 numbers from first on, or from 0 where there is no first: those in first..last are inside, the
 -- rest are not
@@ -145,6 +169,9 @@ sourceTests me next clock member h s =
     ∷ (member || allOf (nonMemberTests (sameHost h me) s))
     ∷ namesSound me h (s .pair) (s .span) (s .names) places
     ∷ allOf (pairTests me (s .pair))
+    ∷ eqb (length (s .attempts)) places
+    ∷ originSound (sameHost h me) (s .span) (s .origin)
+    ∷ attemptsSound me (s .origin) (s .attempts) places
     ∷ []
 
 abbrev pub sourceSound : Host → ℕ → ℕ → Bool → Host → Source → Bool

@@ -17,6 +17,9 @@ use Rattle.end.specs.declared.Span.{Span}
 use Rattle.end.specs.declared.Span.the-variants.{Closed}
 use Rattle.end.specs.declared.Heard.{Heard}
 use Rattle.end.specs.declared.Heard.the-variants.{Never}
+use Rattle.end.specs.declared.Origin.{Origin}
+use Rattle.end.specs.declared.Origin.the-variants.{NoOrigin}
+use Rattle.end.specs.declared.Attempt.{Attempt}
 use Rattle.end.specs.declared.Source.{Source}
 use Rattle.end.specs.declared.End.{End}
 use Rattle.end.specs.declared.Moment.{Moment}
@@ -26,7 +29,10 @@ abbrev pub noRecord : Record
 noRecord = record { slot = Empty; cue = []; hush = 0 }
 
 abbrev pub noSource : Source
-noSource = record { span = Closed; missed = 0; pair = NoPair; distance = 0; heard = Never; names = [] }
+noSource = record { span = Closed; missed = 0; pair = NoPair; distance = 0; heard = Never; names = []; origin = NoOrigin; attempts = [] }
+
+abbrev pub noAttempt : Attempt
+noAttempt = record { tried = 0; late = false }
 
 -- ---- a fresh end
 
@@ -41,12 +47,25 @@ blankRecord = record { slot = Empty; cue = blankCue; hush = 0 }
 abbrev pub blankNames : List Record
 blankNames = replicate places blankRecord
 
+-- the marks of the numbers below a first original: nobody tried, and nothing handed out
+abbrev pub blankAttempts : List Attempt
+blankAttempts = replicate places noAttempt
+
 -- "A distance .. is .. at first 40; to oneself it is 0."
 abbrev pub firstDistance : ℕ
 firstDistance = 40
 
 abbrev pub unheard : ℕ → Source
-unheard distance = record { span = Closed; missed = 0; pair = NoPair; distance = distance; heard = Never; names = blankNames }
+unheard distance = record {
+  span = Closed;
+  missed = 0;
+  pair = NoPair;
+  distance = distance;
+  heard = Never;
+  names = blankNames;
+  origin = NoOrigin;
+  attempts = blankAttempts;
+}
 
 -- the eight sources of which nothing is kept: 0 to oneself, 40 to the others
 abbrev pub unheardSources : ℕ → List Source
@@ -82,22 +101,100 @@ momentOf e = record { me = e .host; params = e .params; clock = e .clock }
 
 -- ---- changing a part of a source
 abbrev pub withSpan : Source → Span → Source
-withSpan s span = record { span = span; missed = s .missed; pair = s .pair; distance = s .distance; heard = s .heard; names = s .names }
+withSpan s span = record {
+  span = span;
+  missed = s .missed;
+  pair = s .pair;
+  distance = s .distance;
+  heard = s .heard;
+  names = s .names;
+  origin = s .origin;
+  attempts = s .attempts;
+}
 
 abbrev pub withMissed : Source → ℕ → Source
-withMissed s missed = record { span = s .span; missed = missed; pair = s .pair; distance = s .distance; heard = s .heard; names = s .names }
+withMissed s missed = record {
+  span = s .span;
+  missed = missed;
+  pair = s .pair;
+  distance = s .distance;
+  heard = s .heard;
+  names = s .names;
+  origin = s .origin;
+  attempts = s .attempts;
+}
 
 abbrev pub withPair : Source → Pair → Source
-withPair s pair = record { span = s .span; missed = s .missed; pair = pair; distance = s .distance; heard = s .heard; names = s .names }
+withPair s pair = record {
+  span = s .span;
+  missed = s .missed;
+  pair = pair;
+  distance = s .distance;
+  heard = s .heard;
+  names = s .names;
+  origin = s .origin;
+  attempts = s .attempts;
+}
 
 abbrev pub withDistance : Source → ℕ → Source
-withDistance s distance = record { span = s .span; missed = s .missed; pair = s .pair; distance = distance; heard = s .heard; names = s .names }
+withDistance s distance = record {
+  span = s .span;
+  missed = s .missed;
+  pair = s .pair;
+  distance = distance;
+  heard = s .heard;
+  names = s .names;
+  origin = s .origin;
+  attempts = s .attempts;
+}
 
 abbrev pub withHeard : Source → Heard → Source
-withHeard s heard = record { span = s .span; missed = s .missed; pair = s .pair; distance = s .distance; heard = heard; names = s .names }
+withHeard s heard = record {
+  span = s .span;
+  missed = s .missed;
+  pair = s .pair;
+  distance = s .distance;
+  heard = heard;
+  names = s .names;
+  origin = s .origin;
+  attempts = s .attempts;
+}
 
 abbrev pub withNames : Source → List Record → Source
-withNames s names = record { span = s .span; missed = s .missed; pair = s .pair; distance = s .distance; heard = s .heard; names = names }
+withNames s names = record {
+  span = s .span;
+  missed = s .missed;
+  pair = s .pair;
+  distance = s .distance;
+  heard = s .heard;
+  names = names;
+  origin = s .origin;
+  attempts = s .attempts;
+}
+
+abbrev pub withOrigin : Source → Origin → Source
+withOrigin s origin = record {
+  span = s .span;
+  missed = s .missed;
+  pair = s .pair;
+  distance = s .distance;
+  heard = s .heard;
+  names = s .names;
+  origin = origin;
+  attempts = s .attempts;
+}
+
+abbrev pub withAttempts : Source → List Attempt → Source
+withAttempts s attempts = record {
+  span = s .span;
+  missed = s .missed;
+  pair = s .pair;
+  distance = s .distance;
+  heard = s .heard;
+  names = s .names;
+  origin = s .origin;
+  attempts = attempts;
+}
 
 -- ---- changing a part of an end
 abbrev pub withClock : End → ℕ → End

@@ -10,26 +10,27 @@ use lib.ListN.{length}
 use lib.Dec.{eqb}
 use Rattle.message.specs.declared.Host.{Host}
 use Rattle.message.specs.Limit.{roomNeeded}
-use Rattle.message.specs.Message.{Meaning, Datagram, Probe, Saying, datagramFrom}
+use Rattle.message.specs.Message.{FTCH, LATE, Meaning, Datagram, Probe, Saying, datagramFrom}
 use Rattle.message.specs.Question.{firstNo, sameHost}
 use Rattle.end.specs.declared.Status.{Status}
 use Rattle.end.specs.declared.Word.{Word}
 use Rattle.end.specs.declared.Reason.{Reason}
-use Rattle.end.specs.declared.Reason.the-variants.{Crashed, WrongStatus, OwnMessage, NotOpen, BelowFirst, OwnAboveLast, AlreadyHeld, ReplyWaiting, ReplyQuiet, RequestQuiet}
+use Rattle.end.specs.declared.Reason.the-variants.{Crashed, WrongStatus, OwnMessage, NotOpen, BelowFirst, OwnAboveLast, AlreadyHeld, ReplyWaiting, ReplyQuiet, RequestQuiet, NoFetch}
 use Rattle.end.specs.declared.Why.{Why}
 use Rattle.end.specs.declared.Why.the-variants as why
 use Rattle.end.specs.declared.End.{End}
 use Rattle.end.specs.State.{sourceAt, isMember, isCrashed, momentOf, withClock}
 use Rattle.end.specs.Round.{drawCount}
-use Rattle.end.specs.Answer.{Effect, Out, Got, Done, Ignored, Nothing, Clash, Outcome, Refused, Did}
+use Rattle.end.specs.Answer.{Effect, Out, Got, Done, Ignored, Nothing, Clash, Late, Exhausted, Outcome, Refused, Did}
 use Rattle.end.specs.Decide.{known}
 use Rattle.end.specs.Reasons.{holds, reasons, firstThat}
+use Rattle.end.specs.Fetch.{mayFetch, mayAnswer, mayHand}
 use Rattle.end.specs.Arrival.{namedIn}
-use Rattle.end.specs.Event.{Action, Moves, Send, Arrival, Else, moves, stateQuestions, ownQuestions, eventOf}
+use Rattle.end.specs.Event.{Other, Fire, Report, Fetch, Action, Moves, Send, Arrival, Else, moves, stateQuestions, ownQuestions, eventOf}
 
 -- ---- the reasons
 
--- "wrong status": a move "from any other status"; "Send, Fire, Report, Arrival outside membership"
+-- "wrong status": a move "from any other status"; "Send, Fire, Report, Arrival outside membership", and a Fetch (P9)
 abbrev pub wrongStatus : Action → Status → Bool
 wrongStatus (Moves m) status = not (moves m status)
 wrongStatus (Send cue) status = not (isMember status)
@@ -47,7 +48,7 @@ ownMessage (Send cue) me = false
 ownMessage (Arrival bytes) me = isOwn (datagramFrom bytes) me
 ownMessage (Else o) me = false
 
--- what an event says about a name: only an arrival of a DATA, RQST, REPL or XPRS does
+-- what an event says about a name that a decision is made on: only an arrival of a DATA, RQST, REPL or XPRS does
 abbrev pub namedOf : Datagram Meaning → End → Option Word
 namedOf Probe e = none
 namedOf (Saying m) e = namedIn m e
@@ -57,6 +58,26 @@ namedBy (Moves m) e = none
 namedBy (Send cue) e = none
 namedBy (Arrival bytes) e = namedOf (datagramFrom bytes) e
 namedBy (Else o) e = none
+
+-- document 02, P9: "any other fetch, or one already handed out, is Ignored"; of the kinds 22 and 23, "All else is Ignored, for a last reason "no
+-- fetch"."
+abbrev pub noFetchIn : Meaning → End → Bool
+noFetchIn m e = cond (eqb (m .kind) FTCH) (not (mayAnswer e m)) (cond (eqb (m .kind) LATE) (not (mayHand e m)) false)
+
+abbrev pub noFetchOf : Datagram Meaning → End → Bool
+noFetchOf Probe e = false
+noFetchOf (Saying m) e = noFetchIn m e
+
+abbrev pub noFetchFor : Other → End → Bool
+noFetchFor Fire e = false
+noFetchFor Report e = false
+noFetchFor (Fetch name) e = not (mayFetch e name)
+
+abbrev pub noFetch : Action → End → Bool
+noFetch (Moves m) e = false
+noFetch (Send cue) e = false
+noFetch (Arrival bytes) e = noFetchOf (datagramFrom bytes) e
+noFetch (Else o) e = noFetchFor o e
 
 -- a reason that lies in the name's source, at the end's clock
 abbrev pub holdsOf : End → Reason → Option Word → Bool
@@ -78,6 +99,7 @@ reasonHolds e clock a AlreadyHeld = inSource e clock a AlreadyHeld
 reasonHolds e clock a ReplyWaiting = inSource e clock a ReplyWaiting
 reasonHolds e clock a ReplyQuiet = inSource e clock a ReplyQuiet
 reasonHolds e clock a RequestQuiet = inSource e clock a RequestQuiet
+reasonHolds e clock a NoFetch = noFetch a (withClock e clock)
 
 -- ---- the call
 
@@ -107,6 +129,7 @@ reasonNumber AlreadyHeld = 7
 reasonNumber ReplyWaiting = 8
 reasonNumber ReplyQuiet = 9
 reasonNumber RequestQuiet = 10
+reasonNumber NoFetch = 11
 
 -- a reason's words, as characters' ASCII codes
 abbrev pub reasonWords : Reason → List ℕ
@@ -130,6 +153,8 @@ reasonWords ReplyWaiting = 114 ∷ 101 ∷ 112 ∷ 108 ∷ 121 ∷ 32 ∷ 119 �
 reasonWords ReplyQuiet = 114 ∷ 101 ∷ 112 ∷ 108 ∷ 121 ∷ 45 ∷ 113 ∷ 117 ∷ 105 ∷ 101 ∷ 116 ∷ []
 -- "request quiet"
 reasonWords RequestQuiet = 114 ∷ 101 ∷ 113 ∷ 117 ∷ 101 ∷ 115 ∷ 116 ∷ 32 ∷ 113 ∷ 117 ∷ 105 ∷ 101 ∷ 116 ∷ []
+-- "no fetch"
+reasonWords NoFetch = 110 ∷ 111 ∷ 32 ∷ 102 ∷ 101 ∷ 116 ∷ 99 ∷ 104 ∷ []
 
 -- document 01's number of what the call gives, 0 where the event would not be refused
 abbrev pub whyRefusal : Why → ℕ
@@ -146,13 +171,15 @@ isIgnored Done = false
 isIgnored Ignored = true
 isIgnored Nothing = false
 isIgnored (Clash name) = false
+isIgnored (Late name cue) = false
+isIgnored Exhausted = false
 
 -- "The reason named is shown true and those before it false"
 abbrev pub ReasonIsFirst : Type 0
 ReasonIsFirst = (e : End) (clock : ℕ) (a : Action) (reason : Reason) → whyOf e clock a ≡ why.Because reason
     → (reasonHolds e clock a reason ≡ true) × ((other : Reason) → reasonNumber other < reasonNumber reason → reasonHolds e clock a other ≡ false)
 
--- and where "none" is given, none of the ten holds
+-- and where "none" is given, none of the eleven holds
 abbrev pub NoneHolds : Type 0
 NoneHolds = (e : End) (clock : ℕ) (a : Action) → whyOf e clock a ≡ why.NoReason → (reason : Reason) → reasonHolds e clock a reason ≡ false
 
@@ -164,7 +191,7 @@ Gives e clock a P = (room : ℕ) (draws : List ℕ) → roomNeeded ≤ room → 
 abbrev pub NumberExactly : Type 0
 NumberExactly = (e : End) (clock : ℕ) (a : Action) (k : ℕ) → Gives e clock a (λ o. (whyOf e clock a ≡ why.Refused k → o ≡ Refused k) × (o ≡ Refused k → whyOf e clock a ≡ why.Refused k))
 
--- one of the ten is named exactly where the event is Ignored
+-- one of the eleven is named exactly where the event is Ignored
 abbrev pub ReasonExactly : Type 0
 ReasonExactly = (e : End) (clock : ℕ) (a : Action)
     → Gives e clock a (λ o. ((reason : Reason) → whyOf e clock a ≡ why.Because reason → o ≡ Did Ignored) × (o ≡ Did Ignored → (reason : Reason) × (whyOf e clock a ≡ why.Because reason)))

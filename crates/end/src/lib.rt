@@ -1,6 +1,6 @@
 // The types of one SRM end, in the forms that document 01 names. All rules of the end are definitions on these types, in specs/: State,
-// Records, Round, Names, Answer, Messages, Sound, Ready, Decide, Reasons, Session, Arrival, Fire, Event, Why, Opening, in this order; then
-// the service: Book, Run, and what both say of a Clash: Clashes.
+// Records, Round, Names, Answer, Messages, Sound, Ready, Decide, Reasons, Session, Fire, Fetch, Arrival, Event, Why, Opening, in this order; then
+// the service: Book, Run, and what both say of a Clash and of a Late cue: Clashes, Lates.
 use message::CueNumber;
 use message::Host;
 use message::Name;
@@ -81,10 +81,13 @@ pub enum Span {
     Open(CueNumber, CueNumber),
 }
 
-// The latest stamp heard from a host, and when.
+// The sources that a message reported, or the hosts that were tried, as bits: host h is in the set where bit h is 1.
+pub type Hosts = u8;
+
+// The latest stamp heard from a host, when, and the sources that the message reported.
 pub enum Heard {
     Never,
-    At(u64, u64),
+    At(u64, u64, Hosts),
 }
 
 // The requester and the sender of the latest REPL answered Got or Done that named a number at least as high as the kept one's, and that number.
@@ -93,8 +96,22 @@ pub enum Pair {
     Kept(Host, Host, CueNumber),
 }
 
+// The number of the first original since joining, of another host's source.
+pub enum Origin {
+    NoOrigin,
+    From(CueNumber),
+}
+
+// What an end has done to fetch one of the 64 numbers below a source's first original: the hosts that it tried, and whether the cue was handed
+// out as Late.
+pub struct Attempt {
+    pub tried: Hosts,
+    pub late: bool,
+}
+
 // What an end keeps for one of the eight hosts, with a record for each of its latest 64 cue numbers: number n stands at place n mod 64.
-// `missed` is how many numbers were retired without a cue since joining.
+// `missed` is how many numbers were retired without a cue since joining. Of the 64 numbers below the first original, number n has its marks at
+// place n mod 64 of `attempts`.
 pub struct Source {
     pub span: Span,
     pub missed: u32,
@@ -102,6 +119,8 @@ pub struct Source {
     pub distance: u64,
     pub heard: Heard,
     pub names: [Record; 64],
+    pub origin: Origin,
+    pub attempts: [Attempt; 64],
 }
 
 // The state of an end. `next` is the next own cue number, 0..65536.
@@ -130,6 +149,7 @@ pub enum Event {
     Arrival,
     Fire,
     Report,
+    Fetch(Name),
 }
 
 // What a step on one source takes of the end: one's own host, the parameters, and the clock, which is the call's by then.
@@ -139,7 +159,7 @@ pub struct Moment {
     pub clock: u64,
 }
 
-// The kinds of a message about a name.
+// The kinds of a message about a name that a decision is made on. (FTCH and LATE have rules of their own.)
 pub enum Says {
     Data,
     Rqst,
@@ -159,8 +179,8 @@ pub struct Word {
     pub cue: [u8; 24],
 }
 
-// Why an event is Ignored: document 02, P3, in its order. A decision on a message about a name has one of those from NotOpen on, which lie
-// in the name's source.
+// Why an event is Ignored: document 02, P3, in its order, and P9's last reason. A decision on a message has one of those from NotOpen to
+// RequestQuiet, which lie in the name's source.
 pub enum Reason {
     Crashed,
     WrongStatus,
@@ -172,6 +192,7 @@ pub enum Reason {
     ReplyWaiting,
     ReplyQuiet,
     RequestQuiet,
+    NoFetch,
 }
 
 // What the reason call gives: the number of the question that would refuse the event, or why it would be Ignored, or that it would be
@@ -198,7 +219,8 @@ pub enum Decision {
 }
 
 // What a call answers. A refusal gives only its number; Out gives the length of the message in the first output bytes; Got
-// gives the name, and its cue is in the first 24 output bytes; Clash gives the name of a held cue that came with other bytes.
+// gives the name, and its cue is in the first 24 output bytes; Clash gives the name of a held cue that came with other bytes; Late gives the
+// name of a fetched cue, which is in the first 24 output bytes; Exhausted says that no host is left to fetch from.
 pub enum Answer {
     Refused(u8),
     Out(usize),
@@ -207,6 +229,8 @@ pub enum Answer {
     Ignored,
     Nothing,
     Clash(Name),
+    Late(Name),
+    Exhausted,
 }
 
 // A wait that is due, as Fire compares it: its rank among waits due at one time (express, request, reply), and for which name.
@@ -226,6 +250,12 @@ pub const REPLY: u8 = 2;
 pub enum Earliest {
     NoWait,
     First(Wait),
+}
+
+// The nearest host found so far to fetch a cue from, and its distance.
+pub enum Nearest {
+    Nobody,
+    Found(Host, u64),
 }
 
 // What a call gives: its answer, and the end that it leaves.

@@ -1,4 +1,5 @@
-// How a host program calls the end: two controllers become members, a cue goes from one to the other, and each other event comes once.
+// How a host program calls the end: two controllers become members, a cue goes from one to the other, a third one joins late and fetches it,
+// and each other event comes once.
 // A call takes an end by value and gives back the end for the next call. Only that one may be used again.
 use end::Answer;
 use end::Draw;
@@ -6,7 +7,9 @@ use end::End;
 use end::Params;
 use end::Stepped;
 use libc::STDOUT_FILENO;
+use message::CueNumber;
 use message::Host;
+use message::Name;
 use message::Verdict;
 
 // The draws of a call. A controller takes 64 new random numbers of 16 bits for each call; here they are 0, so that the output is always
@@ -31,6 +34,8 @@ fn said(call: &[u8], s: Stepped) -> End {
         Answer::Ignored => print(b": ignored\n"),
         Answer::Nothing => print(b": nothing\n"),
         Answer::Clash(_) => print(b": clash\n"),
+        Answer::Late(_) => print(b": late\n"),
+        Answer::Exhausted => print(b": exhausted\n"),
     }
     s.end
 }
@@ -64,7 +69,7 @@ fn member(host: Host) -> End {
     said(b"joined", link::joined(end, 0, &draws(), &mut out))
 }
 
-// The first 24 output bytes: the cue of an answer Got.
+// The first 24 output bytes: the cue of an answer Got or Late.
 fn cue_in(out: &[u8; 128]) -> [u8; 24] {
     let mut cue = [0u8; 24];
     let mut i: usize = 0;
@@ -90,7 +95,7 @@ fn print_focus(cue: [u8; 24]) {
     print(b"\n");
 }
 
-// An end takes the first `len` bytes that came over the network, and prints the focus of a cue that it got.
+// An end takes the first `len` bytes that came over the network, and prints the focus of a cue that it handed out.
 fn hear(end: End, clock: u64, came: &[u8], len: usize) -> End {
     if came.len() < len {
         return end;
@@ -99,8 +104,9 @@ fn hear(end: End, clock: u64, came: &[u8], len: usize) -> End {
     let s = link::arrival(end, clock, &draws(), &came[0..len], &mut out);
     let answer = s.answer;
     let end = said(b"arrival", s);
-    if let Answer::Got(_) = answer {
-        print_focus(cue_in(&out));
+    match answer {
+        Answer::Got(_) | Answer::Late(_) => print_focus(cue_in(&out)),
+        _ => {}
     }
     end
 }
@@ -141,6 +147,65 @@ fn restarted(host: Host, clock: u64, next: u32) -> End {
     end
 }
 
+// A controller that joined late, and the one that it fetches from.
+struct Both {
+    late: End,
+    holder: End,
+}
+
+// The holder takes the first `len` bytes, which ask for a cue, and what it answers goes back to the one that asked.
+fn answered(both: Both, clock: u64, came: &[u8], len: usize) -> Both {
+    if came.len() < len {
+        return both;
+    }
+    let mut out = [0u8; 128];
+    let late = both.late;
+    let s = link::arrival(both.holder, clock, &draws(), &came[0..len], &mut out);
+    let answer = s.answer;
+    let holder = said(b"arrival", s);
+    let late = carry(answer, &out, late, clock);
+    Both { late, holder }
+}
+
+// Fetches a cue that went out before the controller joined. Each call tries the nearest host that was not tried yet; once the cue has
+// come it is Ignored.
+fn fetched(both: Both, clock: u64, name: Name) -> Both {
+    let mut out = [0u8; 128];
+    let holder = both.holder;
+    let s = link::fetch(both.late, clock, &draws(), name, &mut out);
+    let answer = s.answer;
+    let late = said(b"fetch", s);
+    let both = Both { late, holder };
+    match answer {
+        Answer::Out(len) => answered(both, clock, &out, len),
+        _ => both,
+    }
+}
+
+// A third controller joins when the sender's first cue has gone out already. It gets the next one, hears which sources the sender
+// reports, and then fetches the cue before. Gives the sender's end.
+fn joins_late(sender: End) -> End {
+    let late = member(Host(2));
+    let mut out = [0u8; 128];
+    let cue = message::cue_with(3, 0, 0, 0, 500);
+    let s = link::send(sender, 24, &draws(), cue, &mut out);
+    let answer = s.answer;
+    let sender = said(b"send", s);
+    let late = carry(answer, &out, late, 24);
+    let s = link::report(sender, 25, &draws(), &mut out);
+    let answer = s.answer;
+    let holder = said(b"report", s);
+    let late = carry(answer, &out, late, 25);
+
+    let first = Name {
+        source: Host(0),
+        number: CueNumber(0),
+    };
+    let both = fetched(Both { late, holder }, 26, first);
+    let both = fetched(both, 27, first);
+    both.holder
+}
+
 fn main() {
     let sender = member(Host(0));
     let listener = member(Host(1));
@@ -156,6 +221,7 @@ fn main() {
     let answer = s.answer;
     let listener = said(b"report", s);
     let sender = carry(answer, &out, sender, 22);
+    let sender = joins_late(sender);
 
     let sender = said(b"leave", link::leave(sender, 30, &draws(), &mut out));
     let sender = said(b"left", link::left(sender, 40, &draws(), &mut out));

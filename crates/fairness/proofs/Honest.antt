@@ -11,7 +11,7 @@ use Rattle.message.specs.declared.Name.{Name}
 use Rattle.message.specs.Message.{Meaning}
 use Rattle.end.specs.declared.Move.{Move}
 use Rattle.end.specs.State.{isMember}
-use Rattle.end.specs.Answer.{Effect, Out, Got, Done, Ignored, Nothing, Clash, Outcome, Refused, Did}
+use Rattle.end.specs.Answer.{Effect, Out, Got, Done, Ignored, Nothing, Clash, Late, Exhausted, Outcome, Refused, Did}
 use Rattle.end.specs.Arrival.{messageName}
 use Rattle.end.specs.Event.{Other, Action, Moves, Send, Arrival, Else, moves}
 use Rattle.end.specs.Book.{Book, emptyBook, Entry, RunFrom, Answered, Meets, Original, readAs, source, number, isGot, isOriginal, isRepair, isSome, firstOf, notBelow, kept, among, limits, gets, hears, dueMessage, due, hand, afterMessage, after, bookAfter}
@@ -126,6 +126,8 @@ quiet-lines h x Done q = refl
 quiet-lines h x Ignored q = refl
 quiet-lines h x Nothing q = refl
 quiet-lines h x (Clash name) q = refl
+quiet-lines h x (Late name cue) q = refl
+quiet-lines h x Exhausted q = refl
 
 pub else-lines : (h : ℕ) (o : Other) (a : Effect) → isGot a ≡ false → linesFor h (Else o) a ≡ []
 unfolding linesFor isGot
@@ -135,6 +137,8 @@ else-lines h o Done q = refl
 else-lines h o Ignored q = refl
 else-lines h o Nothing q = refl
 else-lines h o (Clash name) q = refl
+else-lines h o (Late name cue) q = refl
+else-lines h o Exhausted q = refl
 
 pub got-line : (h : ℕ) (x : List ℕ) (m : Meaning) (cue : List ℕ) → linesFor h (Arrival x) (Got (messageName m) cue) ≡ handedOut h (source m) (number m) cue ∷ []
 unfolding linesFor

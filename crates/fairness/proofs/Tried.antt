@@ -5,7 +5,7 @@ use mathlib.Core.List.{List, [], _∷_, _++_, append-assoc}
 use Prim.Native.Nat.{ℕ, zero, suc, _<_, _≤_}
 use lib.ListN.{length}
 use Rattle.end.specs.declared.Move.{Move}
-use Rattle.end.specs.Answer.{Effect, Out, Got, Done, Ignored, Nothing, Clash, Outcome, Refused, Did}
+use Rattle.end.specs.Answer.{Effect, Out, Got, Done, Ignored, Nothing, Clash, Late, Exhausted, Outcome, Refused, Did}
 use Rattle.end.specs.Event.{Action, Moves, Send, Arrival, Else, moves}
 use Rattle.end.specs.Book.{Book, emptyBook, Entry, RunFrom, Answered, Meets, due, after, bookAfter}
 use Rattle.end.specs.Run.{World, Call, seen, Allowed, Fresh}
@@ -54,6 +54,8 @@ isDone Done = true
 isDone Ignored = false
 isDone Nothing = false
 isDone (Clash name) = false
+isDone (Late name cue) = false
+isDone Exhausted = false
 
 -- after the lines of a call
 tried-on : (b : Book) {k : Book} (t : Bool) (h : ℕ) (ev : Action) (o : Outcome) → Answered b h ev o → Follows k (bookAfter b h ev o)
@@ -72,6 +74,8 @@ tried-on b t h (Arrival bytes) (Did Ignored) p f = no-lines f
 tried-on b t h (Else o) (Did Ignored) p f = no-lines f
 tried-on b t h ev (Did Nothing) p f = no-lines f
 tried-on b t h ev (Did (Clash name)) p f = no-lines f
+tried-on b t h ev (Did (Late name cue)) p f = no-lines f
+tried-on b t h ev (Did Exhausted) p f = no-lines f
 
 runs-with : (t : ℕ → Bool) (xs : List Entry) (j b : Book) → Follows j b → RunFrom b xs → permitsRun j (recordWith t xs) ≡ true
 unfolding recordWith permitsRun
@@ -100,6 +104,8 @@ tried-proper t h (Arrival bytes) (Did Ignored) s = tt
 tried-proper t h (Else o) (Did Ignored) s = tt
 tried-proper t h ev (Did Nothing) s = tt
 tried-proper t h ev (Did (Clash name)) s = tt
+tried-proper t h ev (Did (Late name cue)) s = tt
+tried-proper t h ev (Did Exhausted) s = tt
 
 all-proper : (t : ℕ → Bool) (b : Book) → Filed b → (xs : List Entry) → AllSized xs → RunFrom b xs → AllProper (recordWith t xs)
 unfolding recordWith

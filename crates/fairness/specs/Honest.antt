@@ -6,7 +6,7 @@ use mathlib.Core.List.{List, [], _∷_, _++_}
 use Prim.Native.Nat.{ℕ, suc, _≤_}
 use lib.ListN.{length}
 use Rattle.numbers.specs.Number.{Bytes}
-use Rattle.end.specs.Answer.{Effect, Out, Got, Done, Ignored, Nothing, Clash, Outcome, Refused, Did}
+use Rattle.end.specs.Answer.{Effect, Out, Got, Done, Ignored, Nothing, Clash, Late, Exhausted, Outcome, Refused, Did}
 use Rattle.end.specs.Event.{Action, Moves, Send, Arrival, Else}
 use Rattle.end.specs.Book.{Entry, RunFrom, emptyBook}
 use Rattle.end.specs.Run.{Call, World, seen, Allowed, Fresh}
@@ -69,6 +69,8 @@ triedFor t h a Done = []
 triedFor t h a Ignored = triedLine t h a
 triedFor t h a Nothing = []
 triedFor t h a (Clash name) = []
+triedFor t h a (Late name cue) = []
+triedFor t h a Exhausted = []
 
 abbrev pub triedBy : Bool → ℕ → Action → Outcome → List Line
 triedBy t h a (Refused k) = []

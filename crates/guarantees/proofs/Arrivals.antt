@@ -10,15 +10,17 @@ use lib.ListN.{length}
 use lib.Dec.{eqb}
 use borrow.Author.Tests.{ltb-true, lt-ltb, eq-eqb}
 use Rattle.message.specs.declared.CueNumber.{CueNumber}
+use Rattle.message.specs.declared.Host.{Host}
 use Rattle.message.specs.declared.Report.{Report}
 use Rattle.message.specs.Entry.{asHost, asNumber}
-use Rattle.message.specs.Message.{DATA, RQST, REPL, XPRS, Meaning, meaningFrom}
+use Rattle.message.specs.Message.{DATA, RQST, REPL, XPRS, FTCH, LATE, Meaning, meaningFrom}
 use Rattle.message.specs.Question.{sameHost}
 use Rattle.message.proofs.QuestionLaws.{and-both}
 use Rattle.end.specs.declared.Express.the-variants.{Unset}
 use Rattle.end.specs.declared.Record.{Record}
 use Rattle.end.specs.declared.Span.{Span}
 use Rattle.end.specs.declared.Span.the-variants.{Closed, Open}
+use Rattle.end.specs.declared.Attempt.{Attempt}
 use Rattle.end.specs.declared.Source.{Source}
 use Rattle.end.specs.declared.End.{End}
 use Rattle.end.specs.declared.Moment.{Moment}
@@ -41,11 +43,12 @@ use Rattle.invariants.proofs.Facts.{SoundState, facts, span-in}
 use Rattle.invariants.proofs.Questions.{Passed}
 use Rattle.guarantees.specs.Calls.{momentAt}
 use Rattle.guarantees.specs.Records.{recordOf, StayOrRise, retires, retired}
-use Rattle.guarantees.specs.Arrivals.{SameEnd, asks, expressBy, risen, reportedUp, hasName, touches, SpanAs, isDataOf, isSessionOf, hear, ProbeIsReport, ProbesAnswered, RefusedChangesNothing, ArrivalKeepsStatusAndNext, HeldStays, UntouchedStays, OtherSourcesStay, SlotsAsHeard, HeldIsCarried, RepliesAsHeard, ReplyQuietStays, SpansAsHeard, DistancesStay}
+use Rattle.guarantees.specs.Arrivals.{SameEnd, asks, expressBy, risen, reportedUp, hasName, isFetched, touches, SpanAs, isDataOf, isSessionOf, hear, ProbeIsReport, ProbesAnswered, RefusedChangesNothing, ArrivalKeepsStatusAndNext, HeldStays, UntouchedStays, OtherSourcesStay, SlotsAsHeard, HeldIsCarried, RepliesAsHeard, ReplyQuietStays, SpansAsHeard, DistancesStay}
 use Rattle.guarantees.proofs.Calls.{call-cases, member-not-crashed}
 use Rattle.guarantees.proofs.Names.{held-inside, above-blank, source-of}
 use Rattle.guarantees.proofs.Retired.{rise-moves, moves-on, last-rises, retires-is, none-retired, retired-below, outside-before, inside-unretired, risen-above, risen-below}
 use Rattle.guarantees.proofs.Heard.{or-first, or-second, Heard, inGap, heard-asked, not-kind, not-asked}
+use Rattle.guarantees.proofs.Fetches.{marked, fetched-cases, late-cases, marked-at}
 use Rattle.guarantees.proofs.Messages.{span-rise, span-may, HeardSource, HeardEnd, same-end, source-none, heard-ignored, no-express, word-heard}
 
 -- ---- SESS
@@ -178,9 +181,10 @@ module _ (us : List ℕ) (m : Meaning) (e : End) (f : SoundState e) (unnamed : h
       q)
 
 -- then the sender's distance and stamp are new; first, last and records are not
-session-heard : (us : List ℕ) (m : Meaning) (e : End) → SoundState e → hasName m ≡ false → HeardEnd (momentOf e) us m e (sessionOf (momentOf e) us m e .left)
+session-heard : (us : List ℕ) (m : Meaning) (e : End) → SoundState e → hasName m ≡ false → isFetched m ≡ false
+    → HeardEnd (momentOf e) us m e (sessionOf (momentOf e) us m e .left)
 unfolding sessionOf isSessionOf touches recordAt
-session-heard us m e f unnamed =
+session-heard us m e f unnamed unfetched =
     let t = momentOf e in
     let now = allReported t us (m .reports) e in
     let kept = reported-same t us (m .reports) e in
@@ -190,7 +194,11 @@ session-heard us m e f unnamed =
           let q = all-risen us m e f unnamed h hh (m .reports) (λ j k. rw unnamed k) e (none us m e f unnamed h hh) in
           set-elim (HeardSource t us m (distanceTo e) h (source-of e h)) (now .sources) (m .sender .0) h (heardFrom t m (sourceAt now (m .sender))) noSource
           (λ i. subst (λ k. HeardSource t us m (distanceTo e) h (source-of e h) (heardFrom t m (source-of now k))) i
-          (record { rest = (q .span, λ x. clash (sym (λ k. not (unnamed k) && eq-eqb (m .sender .0) h (sym i) k) ∙ x)); gone = q .gone; each = q .each }))
+          (record {
+            rest = (q .span, λ x. clash (sym (λ k. not (unnamed k || unfetched k) && eq-eqb (m .sender .0) h (sym i) k) ∙ x));
+            gone = q .gone;
+            each = q .each;
+          }))
           (record { rest = (q .span, λ _. (q .distance, q .heard)); gone = q .gone; each = q .each });
     }
 
@@ -199,6 +207,19 @@ module _ (us : List ℕ) (m : Meaning) (e : End) (f : SoundState e) (hs : messag
   abbrev Hears : Step → Type 0
   Hears s = HeardEnd (momentOf e) us m e (s .left)
 
+  ignored : HeardEnd (momentOf e) us m e e
+  ignored = heard-ignored (momentOf e) us m e
+
+  -- the marks of numbers below a first original are another matter
+  marked-heard : (k : Host) (l : List Attempt) → HeardEnd (momentOf e) us m e (marked e k l)
+  unfolding recordAt
+  marked-heard k l = record {
+    same = record { host = refl; params = refl; status = refl; next = refl };
+    sources = λ h hh.
+        let q = ignored .sources h hh in
+        marked-at (HeardSource (momentOf e) us m (distanceTo e) h (source-of e h)) e k l h q (record { rest = q .rest; gone = q .gone; each = q .each });
+  }
+
   message-heard : Hears (messageStep us m e)
   unfolding messageStep
   message-heard =
@@ -206,12 +227,13 @@ module _ (us : List ℕ) (m : Meaning) (e : End) (f : SoundState e) (hs : messag
       (λ k. byCond Hears (eqb (m .kind) RQST) (λ r. word-heard us m e f Rqst r hs)
       (λ r. byCond Hears (eqb (m .kind) REPL) (λ q. word-heard us m e f Repl q hs)
       (λ q. byCond Hears (eqb (m .kind) XPRS) (λ x. word-heard us m e f Xprs x hs)
-      (λ x. session-heard us m e f (λ i. k i || (r i || (q i || x i)))))))
+      (λ x. byCond Hears (eqb (m .kind) FTCH) (λ _. fetched-cases Hears m e ignored (λ bytes. ignored))
+      (λ t. byCond Hears (eqb (m .kind) LATE) (λ _. late-cases Hears m e ignored (λ l. marked-heard (messageName m .source) l))
+      (λ l. session-heard us m e f (λ i. k i || (r i || (q i || x i))) (λ i. t i || l i)))))))
 
   pub arrival-heard : Hears (ifMember e (arrivalOf us m e))
   unfolding arrivalOf
   arrival-heard =
-      let ignored = heard-ignored (momentOf e) us m e in
       byCond Hears (isMember (e .status)) (λ _. byCond Hears (sameHost (m .sender) (e .host)) (λ _. ignored) (λ _. message-heard)) (λ _. ignored)
 
 -- ---- any bytes

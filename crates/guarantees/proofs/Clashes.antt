@@ -16,7 +16,7 @@ use Rattle.end.specs.declared.Span.the-variants.{Closed, Open}
 use Rattle.end.specs.declared.Source.{Source}
 use Rattle.end.specs.declared.Says.{Says}
 use Rattle.end.specs.declared.Says.the-variants.{Data, Repl}
-use Rattle.end.specs.declared.Reason.the-variants.{Crashed, WrongStatus, OwnMessage, NotOpen, BelowFirst, OwnAboveLast, AlreadyHeld, ReplyWaiting, ReplyQuiet, RequestQuiet}
+use Rattle.end.specs.declared.Reason.the-variants.{Crashed, WrongStatus, OwnMessage, NotOpen, BelowFirst, OwnAboveLast, AlreadyHeld, ReplyWaiting, ReplyQuiet, RequestQuiet, NoFetch}
 use Rattle.end.specs.declared.Decision.{Decision}
 use Rattle.end.specs.declared.Decision.the-variants.{Ignores, Opens, Takes, Repairs, Hushes, Replies, Learns, BacksOff, Clashes, Expresses}
 use Rattle.end.specs.declared.End.{End}
@@ -73,6 +73,7 @@ module _ (us : List ℕ) (m : Meaning) (e : End) (c : Clashing e m) where
   decided says k (Ignores ReplyWaiting) g = clash (sym (and-both (isRequest says) _ g .0) ∙ k)
   decided says k (Ignores ReplyQuiet) g = clash (sym (and-both (isRequest says) _ g .0) ∙ k)
   decided says k (Ignores RequestQuiet) g = clash (sym (and-both (isRequest says) _ g .0) ∙ k)
+  decided says k (Ignores NoFetch) g = clash (sym g)
   decided says k Opens g = absurd (inside-open span n inside (ap isClosed (g .1)))
   decided says k Takes g = clash (sym (c .held) ∙ g .1 .lacks)
   decided says k Repairs g = clash (sym (c .held) ∙ g .1 .missing .lacks)

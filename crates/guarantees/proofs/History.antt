@@ -12,7 +12,7 @@ use Rattle.message.specs.declared.Host.{Host}
 use Rattle.message.specs.declared.Name.{Name}
 use Rattle.message.specs.declared.Report.{Report}
 use Rattle.message.specs.Entry.{asHost}
-use Rattle.message.specs.Message.{DATA, RQST, REPL, XPRS, Meaning, meaningFrom, countsOf}
+use Rattle.message.specs.Message.{DATA, RQST, REPL, XPRS, FTCH, LATE, Meaning, meaningFrom, countsOf}
 use Rattle.message.specs.Question.{sameHost, readRefusal}
 use Rattle.message.proofs.QuestionLaws.{counted as counted-row}
 use Rattle.roundtrip.proofs.RoundTrip.{accepted, counts-read}
@@ -29,6 +29,8 @@ use Rattle.end.specs.declared.Reply.the-variants.{No, Due}
 use Rattle.end.specs.declared.Record.{Record}
 use Rattle.end.specs.declared.Span.{Span}
 use Rattle.end.specs.declared.Span.the-variants.{Closed, Open}
+use Rattle.end.specs.declared.Origin.{Origin}
+use Rattle.end.specs.declared.Origin.the-variants.{NoOrigin, From}
 use Rattle.end.specs.declared.Source.{Source}
 use Rattle.end.specs.declared.End.{End}
 use Rattle.end.specs.declared.Moment.{Moment}
@@ -37,13 +39,13 @@ use Rattle.end.specs.declared.Earliest.the-variants.{NoWait, First}
 use Rattle.end.specs.State.{noSource, unheard, unheardSources, sourceAt, isMember, momentOf, withClock, onSource}
 use Rattle.end.specs.Records.{isClosed, within, recordAt, isHeld, withRecord, withExpress}
 use Rattle.end.specs.Names.{asked, holdsCue, firstAfter}
-use Rattle.end.specs.Sound.{allOf, spanTests, nonMemberTests, soundOf}
+use Rattle.end.specs.Sound.{allOf, spanTests, nonMemberTests, originSound, soundOf}
 use Rattle.end.specs.Answer.{Done, Ignored, Step, Untouched, Did, Result, done}
 use Rattle.end.specs.Decide.{stepAt, number, known}
 use Rattle.end.specs.Session.{reportedSource, allReported, sessionOf}
 use Rattle.end.specs.Arrival.{messageStep, arrivalOf}
 use Rattle.end.specs.Fire.{expressRank, earliest, fireAt, fired}
-use Rattle.end.specs.Event.{Action, Moves, Send, Arrival, Else, Other, Fire, Report as Reporting, moves, clears, movedEnd, moveOf, extended, sentSource, sendOf, otherOf, ifMember, actOf, eventOf}
+use Rattle.end.specs.Event.{Action, Moves, Send, Arrival, Else, Other, Fire, Report as Reporting, Fetch, moves, clears, movedEnd, moveOf, extended, sentSource, sendOf, otherOf, ifMember, actOf, eventOf}
 use Rattle.end.specs.Opening.{openRefusal, endFor, openingOf}
 use Rattle.end.specs.Book.{source, readAs, among}
 use Rattle.end.proofs.Tools.{byCond, clash, clash′, set-elim}
@@ -51,18 +53,20 @@ use Rattle.end.proofs.Lacking.{lacking-no}
 use Rattle.end.proofs.Readings.{reads}
 use Rattle.end.proofs.RecordLaws.{Narrow, within-in}
 use Rattle.end.proofs.RiseLaws.{missed-plain}
-use Rattle.end.proofs.SoundLaws.{nth, own-held}
-use Rattle.invariants.proofs.Facts.{SoundState, facts}
+use Rattle.end.proofs.SoundLaws.{nth, own-held, sound-end}
+use Rattle.end.proofs.AttemptLaws.{sound-origin}
+use Rattle.invariants.proofs.Facts.{SoundState, facts, sound}
 use Rattle.invariants.proofs.Ends.{clock-kept}
 use Rattle.invariants.proofs.Questions.{Passed}
 use Rattle.guarantees.specs.Calls.{OneCall, after, afterAll}
 use Rattle.guarantees.specs.Records.{requestIn}
-use Rattle.guarantees.specs.History.{told, Since, nothingYet, sinceRead, sinceAction, sinceCall, sinceFrom, sinceJoining, countOver, counted, spanSince, CountOverHistory, NonMembersCountNone}
+use Rattle.guarantees.specs.History.{told, Since, nothingYet, sinceRead, sinceAction, sinceCall, sinceFrom, sinceJoining, countOver, counted, spanSince, originOver, CountOverHistory, NonMembersCountNone}
 use Rattle.guarantees.proofs.Calls.{call-cases, crashed-no-member, changed-at}
 use Rattle.guarantees.proofs.Names.{waits-inside, held-inside, source-of, Ends, own-ends}
+use Rattle.guarantees.proofs.Fetches.{fetch-cases, fetched-cases, late-cases, marked-at}
 use Rattle.guarantees.proofs.Heard.{replied-held}
-use Rattle.guarantees.proofs.HistoryMessages.{Tells, read-none, closed-none, tells-none, tells-stored, arrival-tells}
-use Rattle.guarantees.proofs.HistoryKept.{others-count, others-span, others-held}
+use Rattle.guarantees.proofs.HistoryMessages.{Tells, read-none, closed-none, tells-none, tells-stored, tells-marked, arrival-tells}
+use Rattle.guarantees.proofs.HistoryKept.{Others, rise-origin, others-count, others-span, others-origin, others-least, others-held}
 
 -- an express wait beside a request, or none
 beside-held : (x : Express) (y : Slot) → isHeld (withExpress x y) ≡ isHeld y
@@ -107,6 +111,9 @@ module _ (us : List ℕ) (e : End) (long : length (e .sources) ≡ 8) (past : �
       go NoWait = told-so s hh
       go (First w) = fire-tells (w .rank) (w .name) _ refl
   other-tells Reporting = told-so s hh
+  other-tells (Fetch name) = fetch-cases Stays name e (told-so s hh) (told-so s hh)
+      (λ bytes l. marked-at (Tells (eqb s (e .host .0)) (past s)) e (name .source) l s (told-so s hh)
+      (tells-marked (eqb s (e .host .0)) (past s) (source-of e s) l (told-so s hh)))
 
 -- ---- Send: own numbers are all held, so none is counted
 own-uncounted : (t : Moment) (us : List ℕ) (next : ℕ) (s : Source) (x : Span) → s .span ≡ x → Ends next x → Narrow x
@@ -123,9 +130,13 @@ own-uncounted t us next s (Open first last) is ends o held =
     plain : (i : ℕ) → i + 0 ≡ i
     plain i = omega arith
 
-own-tells : (x : Since) (s p : Source) → p .missed ≡ s .missed → Tells true x s → Tells true x p
+extended-origin : (t : Moment) (us : List ℕ) (n : ℕ) (s : Source) (x : Span) → extended t us n s x .origin ≡ s .origin
+extended-origin t us n s Closed = refl
+extended-origin t us n s (Open first last) = rise-origin _ n s (Open first last)
+
+own-tells : (x : Since) (s p : Source) → p .missed ≡ s .missed → p .origin ≡ s .origin → Tells true x s → Tells true x p
 unfolding Tells
-own-tells x s p same q = (q .0, same ∙ q .1)
+own-tells x s p same begins q = (q .0, same ∙ q .1, begins ∙ q .2)
 
 send-tells : (us cue : List ℕ) (e : End) → soundOf e ≡ true → (clock : ℕ) (past : ℕ → Since)
     → ((s : ℕ) → s < 8 → Tells (eqb s (e .host .0)) (past s) (source-of e s))
@@ -143,13 +154,14 @@ send-tells us cue e sound clock past told-so s hh =
     (λ it.
     let mine : eqb s (me .0) ≡ true = eq-eqb s (me .0) it in
     rw mine (own-tells (past s) p _ (own-uncounted (momentOf (withClock e clock)) us (e .next) p (p .span) refl (ends .0) (ends .1) held)
+    (extended-origin (momentOf (withClock e clock)) us (e .next) p (p .span))
     (subst (λ (k : ℕ). Tells true (past s) (source-of e k)) it (subst (λ (b : Bool). Tells b (past s) (source-of e s)) mine (told-so s hh)))))
     (λ _. told-so s hh)
 
 -- ---- the moves
 
 -- a move that clears nothing is no member's
-kept-from : (m : Move) (x : Status) → clears m ≡ false → moves m x ≡ true → isMember x ≡ false
+pub kept-from : (m : Move) (x : Status) → clears m ≡ false → moves m x ≡ true → isMember x ≡ false
 kept-from m Idle c t = refl
 kept-from m Joining c t = refl
 kept-from m Leaving c t = refl
@@ -160,24 +172,28 @@ kept-from Leave Member c t = clash c
 kept-from Left Member c t = clash′ t
 kept-from Crash Member c t = clash c
 
--- a source of which nothing is kept: no first, and nothing counted
-abbrev Bare : Source → Type 0
-Bare s = (s .span ≡ Closed) × (s .missed ≡ 0)
+-- a source of which nothing is kept: no first, nothing counted, and no first original
+abbrev pub Bare : Source → Type 0
+Bare s = (s .span ≡ Closed) × (s .missed ≡ 0) × (s .origin ≡ NoOrigin)
 
-unheard-bare : (me s : ℕ) → s < 8 → Bare (getD (unheardSources me) s noSource)
+pub unheard-bare : (me s : ℕ) → s < 8 → Bare (getD (unheardSources me) s noSource)
 unheard-bare me s hs =
-    set-elim Bare (replicate 8 (unheard 40)) me s (unheard 0) noSource (λ i. (refl, refl)) (rw (getD-replicate 8 s (unheard 40) noSource hs) (refl, refl))
+    set-elim Bare (replicate 8 (unheard 40)) me s (unheard 0) noSource (λ i. (refl, refl, refl))
+    (rw (getD-replicate 8 s (unheard 40) noSource hs) (refl, refl, refl))
 
 -- so of a sound non-member
-aside-bare : (e : End) → SoundState e → isMember (e .status) ≡ false → (s : ℕ) → s < 8 → Bare (source-of e s)
+pub aside-bare : (e : End) → SoundState e → isMember (e .status) ≡ false → (s : ℕ) → s < 8 → Bare (source-of e s)
 aside-bare e f aside s hh =
     let p = source-of e s in
     let own = sameHost (asHost s) (e .host) in
-    go own (p .missed) (p .span) (nth (nonMemberTests own p) 0 (f .each s hh .aside aside)) (f .each s hh .span)
+    let origin = sound-origin (e .host) (e .next) (e .clock) (isMember (e .status)) (asHost s) p (sound-end e (sound e f) .each s hh) in
+    go own (p .missed) (p .span) (p .origin) (nth (nonMemberTests own p) 0 (f .each s hh .aside aside)) (f .each s hh .span) origin
   where
-    go : (own : Bool) (missed : ℕ) (x : Span) → isClosed x ≡ true → allOf (spanTests own (e .next) missed x) ≡ true → (x ≡ Closed) × (missed ≡ 0)
-    go own missed Closed c t = (refl, eqb-true missed 0 t)
-    go own missed (Open first last) c t = clash′ c
+    go : (own : Bool) (missed : ℕ) (x : Span) (o : Origin) → isClosed x ≡ true → allOf (spanTests own (e .next) missed x) ≡ true → originSound own x o ≡ true
+        → (x ≡ Closed) × (missed ≡ 0) × (o ≡ NoOrigin)
+    go own missed Closed NoOrigin c t k = (refl, eqb-true missed 0 t, refl)
+    go own missed Closed (From n) c t k = clash′ k
+    go own missed (Open first last) o c t k = clash′ c
 
 -- ---- a call
 record After (e : End) (past : ℕ → Since) (a : Action) (r : Result) : Type 0 where
@@ -200,7 +216,10 @@ arrival-frame us m e = byCond (Frame e) (sameHost (m .sender) (e .host)) (λ _. 
     (λ _. byCond (Frame e) (eqb (m .kind) DATA) (λ _. (refl, refl))
     (λ _. byCond (Frame e) (eqb (m .kind) RQST) (λ _. (refl, refl))
     (λ _. byCond (Frame e) (eqb (m .kind) REPL) (λ _. (refl, refl))
-    (λ _. byCond (Frame e) (eqb (m .kind) XPRS) (λ _. (refl, refl)) (λ _. reported-frame (momentOf e) us (m .reports) e)))))
+    (λ _. byCond (Frame e) (eqb (m .kind) XPRS) (λ _. (refl, refl))
+    (λ _. byCond (Frame e) (eqb (m .kind) FTCH) (λ _. fetched-cases (Frame e) m e (refl, refl) (λ bytes. (refl, refl)))
+    (λ _. byCond (Frame e) (eqb (m .kind) LATE) (λ _. late-cases (Frame e) m e (refl, refl) (λ l. (refl, refl)))
+    (λ _. reported-frame (momentOf e) us (m .reports) e)))))))
 
 fire-frame : (us : List ℕ) (e : End) (x : Earliest) → Frame e (fired us e x)
 unfolding fired fireAt
@@ -216,6 +235,7 @@ fire-frame us e (First w) = go (recordAt (sourceAt e (w .name .source)) (w .name
 other-frame : (us : List ℕ) (o : Other) (e : End) → Frame e (otherOf us o e)
 other-frame us Fire e = fire-frame us e (earliest e 8)
 other-frame us Reporting e = (refl, refl)
+other-frame us (Fetch name) e = fetch-cases (Frame e) name e (refl, refl) (refl, refl) (λ bytes l. (refl, refl))
 
 -- Ignored outside membership: no source is open, so nothing is told of any, whatever arrives
 ignored-tells : (e : End) → SoundState e → isMember (e .status) ≡ false → (a : Action) (x : Since) (s : ℕ) → s < 8
@@ -248,14 +268,16 @@ module _ (us : List ℕ) (e : End) (past : ℕ → Since) (told-so : (s : ℕ) �
       (λ t. byCond (λ (x : End). After e past (Moves m) (record { outcome = Did Done; left = x })) (clears m)
       (λ _. record {
         host = refl;
-        tells = λ s hh. let q = unheard-bare (e .host .0) s hh in tells-none (eqb s (e .host .0)) (getD (unheardSources (e .host .0)) s noSource) (q .0) (q .1);
+        tells = λ s hh.
+            let q = unheard-bare (e .host .0) s hh in
+            tells-none (eqb s (e .host .0)) (getD (unheardSources (e .host .0)) s noSource) (q .0) (q .1) (q .2);
         aside = λ _ s hh. unheard-bare (e .host .0) s hh .1;
       })
       (λ c.
       let bare = aside-bare e f (kept-from m (e .status) c t) in
       record {
         host = refl;
-        tells = λ s hh. let q = bare s hh in tells-none (eqb s (e .host .0)) (source-of e s) (q .0) (q .1);
+        tells = λ s hh. let q = bare s hh in tells-none (eqb s (e .host .0)) (source-of e s) (q .0) (q .1) (q .2);
         aside = λ _ s hh. bare s hh .1;
       }))
       (λ _. record { host = refl; tells = told-so; aside = uncounted })
@@ -314,7 +336,7 @@ through (c ∷ cs) e past told-so uncounted s hh =
     (through cs (after e c) now (λ k hk. subst (λ (me : ℕ). Tells (eqb k me) (now k) (source-of (after e c) k)) (sym host) (one .tells k hk)) (one .aside) s hh)
 
 -- ---- from an opening
-opened-bare : (h : Host) (p : Params) (s : ℕ) → s < 8 → Bare (source-of (openingOf h p .end) s)
+pub opened-bare : (h : Host) (p : Params) (s : ℕ) → s < 8 → Bare (source-of (openingOf h p .end) s)
 unfolding openingOf
 opened-bare h p s hh = go (openRefusal h p)
   where
@@ -326,18 +348,21 @@ from-opening : (h : Host) (p : Params) (cs : List OneCall) (s : ℕ) → s < 8 �
     Through (e .host .0) s (sinceJoining (e .host .0) s (told e cs)) (afterAll e cs)
 from-opening h p cs s hh =
     let e = openingOf h p .end in
-    through cs e (λ _. nothingYet) (λ k hk. let q = opened-bare h p k hk in tells-none (eqb k (e .host .0)) (source-of e k) (q .0) (q .1))
+    through cs e (λ _. nothingYet) (λ k hk. let q = opened-bare h p k hk in tells-none (eqb k (e .host .0)) (source-of e k) (q .0) (q .1) (q .2))
     (λ _ k hk. opened-bare h p k hk .1) s hh
 
 -- what is told, in the statement's words
 as-told : (own : Bool) (x : Since) (p : Source) → Tells own x p → (p .missed ≡ counted x) × (own ≡ true → p .missed ≡ 0)
-    × (own ≡ false → p .span ≡ spanSince x) × (own ≡ false → (n : ℕ) → holdsCue p n ≡ (within (spanSince x) n && among n (x .handed)))
+    × (own ≡ false → p .span ≡ spanSince x) × (own ≡ false → p .origin ≡ originOver (x .handed)) × (own ≡ true → p .origin ≡ NoOrigin)
+    × (own ≡ false → (n : ℕ) → holdsCue p n ≡ (within (spanSince x) n && among n (x .handed)))
 unfolding Tells countOver
-as-told true x p q = (q .1 ∙ sym (ap counted (q .0)), (λ _. q .1), (λ c. clash c), λ c n. clash c)
+as-told true x p q = (q .1 ∙ sym (ap counted (q .0)), (λ _. q .1), (λ c. clash c), (λ c. clash c), (λ _. q .2), λ c n. clash c)
 as-told false x p q = (
   others-count (x .handed) (x .highest) p q,
   (λ c. clash′ c),
   (λ _. others-span (x .handed) (x .highest) p q),
+  (λ _. others-origin (x .handed) (x .highest) p q),
+  (λ c. clash′ c),
   λ _. others-held (x .handed) (x .highest) p q,
 )
 
@@ -345,7 +370,20 @@ pub count-over-history : CountOverHistory
 count-over-history h p cs s hh =
     let e = openingOf h p .end in
     let q = as-told (eqb s (e .host .0)) _ _ (from-opening h p cs s hh .tells) in
-    record { count = q .0; own = q .1; span = q .2; held = q .3 }
+    record { count = q .0; own = q .1; span = q .2; origin = q .3; own-origin = q .4; held = q .5 }
+
+-- what is handed out is not below the first one
+pub handed-least : (h : Host) (p : Params) (cs : List OneCall) (s : ℕ) → s < 8 → let e = openingOf h p .end in
+    let x = sinceJoining (e .host .0) s (told e cs) in eqb s (e .host .0) ≡ false
+    → (first : ℕ) (more : List ℕ) → x .handed ≡ first ∷ more → (n : ℕ) → n < first → among n (x .handed) ≡ false
+unfolding Tells
+handed-least h p cs s hh other first more is n l =
+    let e = openingOf h p .end in
+    let x = sinceJoining (e .host .0) s (told e cs) in
+    let q : Tells false x (source-of (afterAll e cs) s) =
+    subst (λ (own : Bool). Tells own x (source-of (afterAll e cs) s)) other (from-opening h p cs s hh .tells) in
+    subst (λ (hs : List ℕ). among n hs ≡ false) (sym is)
+    (others-least first more (x .highest) _ (subst (λ (hs : List ℕ). Others hs (x .highest) (source-of (afterAll e cs) s)) is q) n l)
 
 pub non-members-count-none : NonMembersCountNone
 non-members-count-none h p cs s hh = from-opening h p cs s hh .aside

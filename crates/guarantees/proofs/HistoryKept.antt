@@ -15,8 +15,10 @@ use Rattle.end.specs.declared.Record.{Record}
 use Rattle.end.specs.declared.Heard.{Heard}
 use Rattle.end.specs.declared.Span.{Span}
 use Rattle.end.specs.declared.Span.the-variants.{Closed, Open}
+use Rattle.end.specs.declared.Origin.the-variants.{NoOrigin, From}
+use Rattle.end.specs.declared.Attempt.{Attempt}
 use Rattle.end.specs.declared.Source.{Source}
-use Rattle.end.specs.State.{withPair, withDistance, withHeard}
+use Rattle.end.specs.State.{withPair, withDistance, withHeard, withOrigin, withAttempts}
 use Rattle.end.specs.Records.{within, isAbove, isHeld, recordAt, withRecord}
 use Rattle.end.specs.Names.{holding, hold, lacking, holdsCue, firstAfter, riseWith, openAt}
 use Rattle.end.specs.Book.{raisedTo, higher, among}
@@ -24,7 +26,7 @@ use Rattle.end.proofs.Tools.{byTest, clash, clash′}
 use Rattle.end.proofs.RecordLaws.{Narrow, inside, within-in, within-above, at-outside, read-same, read-other, stored-length}
 use Rattle.end.proofs.Lacking.{lacking-same, in-turn}
 use Rattle.end.proofs.RiseLaws.{rise-length, rise-elim, rise-span, rise-reaches, missed-plain}
-use Rattle.guarantees.specs.History.{countOver, spanOver}
+use Rattle.guarantees.specs.History.{countOver, spanOver, originOver}
 
 -- a source whose first number handed out was f0, with what was handed out and the highest number brought
 pub record Kept (f0 : ℕ) (s : Source) (handed : ℕ → Bool) (top : ℕ) : Type 0 where
@@ -33,6 +35,14 @@ pub record Kept (f0 : ℕ) (s : Source) (handed : ℕ → Bool) (top : ℕ) : Ty
   pub least : f0 ≤ top
   pub count : s .missed ≡ lacking handed (firstAfter f0 top - f0) f0
   pub held : (m : ℕ) → firstAfter f0 top ≤ m → holdsCue s m ≡ handed m
+  pub origin : s .origin ≡ From (asNumber f0)
+  pub least-handed : (m : ℕ) → m < f0 → handed m ≡ false
+
+-- a rise leaves the first original
+pub rise-origin : (new : ℕ → Record) (n : ℕ) (s : Source) (x : Span) → riseWith new n s x .origin ≡ s .origin
+unfolding riseWith
+rise-origin new n s Closed = refl
+rise-origin new n s (Open first last) = refl
 
 -- above last nothing is held
 above-none : (s : Source) (first last : ℕ) → s .span ≡ Open (asNumber first) (asNumber last) → (m : ℕ) → last < m → holdsCue s m ≡ false
@@ -86,6 +96,8 @@ module _ (f0 : ℕ) (s : Source) (handed : ℕ → Bool) (top : ℕ) (h : Kept f
       least = omega (arith, h .least);
       count = missed-plain new n s (asNumber low) (asNumber top) (h .is) up ∙ risen-count;
       held = λ m l. risen-holds m l ∙ h .held m (omega arith);
+      origin = rise-origin new n s spanned ∙ h .origin;
+      least-handed = h .least-handed;
     })
 
     -- a number not below first lies in first..last then
@@ -113,14 +125,19 @@ module _ (f0 : ℕ) (s : Source) (handed : ℕ → Bool) (top : ℕ) (h : Kept f
             (λ e. subst (λ (k : ℕ). holdsCue (withRecord s n r) k ≡ handed′ k) (sym (eqb-true m n e))
             (ap (λ (y : Record). isHeld (y .slot)) (read-same s n r w (h .sized)) ∙ now))
             (λ e. ap (λ (y : Record). isHeld (y .slot)) (read-other s n r m kept-narrow w e) ∙ h .held m l ∙ sym (same m e));
+        origin = h .origin;
+        least-handed = λ m l. same m (ne-eqb m n (λ e. omega (arith, i .0))) ∙ h .least-handed m l;
       }
 
--- ---- the first cue
+-- ---- the first cue: a source that begins at a number has it as its first original
+abbrev pub begun : ℕ → Source → Source
+begun n s = withOrigin (openAt n s) (From (asNumber n))
+
 begun-kept : (n : ℕ) (cue : List ℕ) (handed : ℕ → Bool) (s : Source) → s .missed ≡ 0 → length (s .names) ≡ 64 → handed n ≡ true
-    → ((m : ℕ) → n < m → handed m ≡ false) → Kept n (hold n cue (openAt n s)) handed n
+    → ((m : ℕ) → eqb m n ≡ false → handed m ≡ false) → Kept n (hold n cue (begun n s)) handed n
 unfolding lacking
 begun-kept n cue handed s missed sized it others =
-    let x = openAt n s in
+    let x = begun n s in
     let r = holding (recordAt x n) cue in
     let none : firstAfter n n - n ≡ 0 = omega arith in
     let first : firstAfter n n ≡ n = omega arith in
@@ -131,10 +148,12 @@ begun-kept n cue handed s missed sized it others =
       least = omega arith;
       count = missed ∙ ap (λ (k : ℕ). lacking handed k n) (sym none);
       held = λ m l. by-order n m
-          (λ over. above-none (withRecord x n r) n n refl m over ∙ sym (others m over))
+          (λ over. above-none (withRecord x n r) n n refl m over ∙ sym (others m (ne-eqb m n (λ e. omega arith))))
           (λ le.
           let same : n ≡ m = omega arith in
           subst (λ (k : ℕ). holdsCue (withRecord x n r) k ≡ handed k) same (ap (λ (y : Record). isHeld (y .slot)) (read-same x n r here sized) ∙ sym it));
+      origin = refl;
+      least-handed = λ m l. others m (ne-eqb m n (λ e. omega arith));
     }
 
 -- ---- with the numbers handed out as a list, and the highest brought
@@ -153,14 +172,14 @@ among-last m n (x ∷ l) = ap (λ (b : Bool). eqb m x || b) (among-last m n l) �
     in-turns true b c = refl
     in-turns false b c = refl
 
-among-it : (m n : ℕ) (l : List ℕ) → eqb m n ≡ true → among m (l ++ (n ∷ [])) ≡ true
+pub among-it : (m n : ℕ) (l : List ℕ) → eqb m n ≡ true → among m (l ++ (n ∷ [])) ≡ true
 among-it m n l e = among-last m n l ∙ ap (λ (b : Bool). among m l || b) e ∙ or-all (among m l)
   where
     or-all : (b : Bool) → (b || true) ≡ true
     or-all true = refl
     or-all false = refl
 
-among-other : (m n : ℕ) (l : List ℕ) → eqb m n ≡ false → among m (l ++ (n ∷ [])) ≡ among m l
+pub among-other : (m n : ℕ) (l : List ℕ) → eqb m n ≡ false → among m (l ++ (n ∷ [])) ≡ among m l
 among-other m n l e = among-last m n l ∙ ap (λ (b : Bool). among m l || b) e ∙ or-none (among m l)
   where
     or-none : (b : Bool) → (b || false) ≡ b
@@ -169,7 +188,7 @@ among-other m n l e = among-last m n l ∙ ap (λ (b : Bool). among m l || b) e 
 
 -- another's source: nothing was handed out and it has no first; or it is kept as above
 unfoldable pub Others : List ℕ → Option ℕ → Source → Type 0
-Others [] top s = (top ≡ none) × (s .span ≡ Closed) × (s .missed ≡ 0)
+Others [] top s = (top ≡ none) × (s .span ≡ Closed) × (s .missed ≡ 0) × (s .origin ≡ NoOrigin)
 Others (f0 ∷ more) none s = ⊥
 Others (f0 ∷ more) (some top) s = Kept f0 s (λ m. among m (f0 ∷ more)) top
 
@@ -182,13 +201,14 @@ module _ (s : Source) where
     ap (raisedTo n) (q .0),
     ap (λ (x : Span). riseWith new n s x .span) (q .1) ∙ q .1,
     ap (λ (x : Span). riseWith new n s x .missed) (q .1) ∙ q .2,
+    rise-origin new n s (s .span) ∙ q .3,
   )
   others-risen new fresh n (f0 ∷ more) none q = absurd q
   others-risen new fresh n (f0 ∷ more) (some top) q = risen-kept f0 s (λ m. among m (f0 ∷ more)) top q new fresh n
 
   pub others-still : (n : ℕ) (hs : List ℕ) (top : Option ℕ) → isAbove (s .span) n ≡ false → Others hs top s → Others hs (raisedTo n top) s
   unfolding Others raisedTo
-  others-still n [] top a q = (ap (raisedTo n) (q .0), q .1, q .2)
+  others-still n [] top a q = (ap (raisedTo n) (q .0), q .1, q .2, q .3)
   others-still n (f0 ∷ more) none a q = absurd q
   others-still n (f0 ∷ more) (some top) a q = still-kept f0 s (λ m. among m (f0 ∷ more)) top q n a
 
@@ -214,11 +234,11 @@ module _ (s : Source) where
 
   -- the first one
   pub others-begun : (n : ℕ) (cue : List ℕ) (hs : List ℕ) (top : Option ℕ) → s .span ≡ Closed → length (s .names) ≡ 64 → Others hs top s
-      → Others (hs ++ (n ∷ [])) (some (higher top n)) (hold n cue (openAt n s))
+      → Others (hs ++ (n ∷ [])) (some (higher top n)) (hold n cue (begun n s))
   unfolding Others among higher
   others-begun n cue [] top shut sized q =
       rw (q .0) (begun-kept n cue (λ m. among m (n ∷ [])) s (q .2) sized (among-it n n [] (eq-eqb n n refl))
-      (λ m l. among-other m n [] (ne-eqb m n (λ e. omega arith))))
+      (λ m e. among-other m n [] e))
   others-begun n cue (f0 ∷ more) none shut sized q = absurd q
   others-begun n cue (f0 ∷ more) (some top) shut sized q = absurd (let z : Closed ≡ _ = sym shut ∙ q .is in let y : _≡_ {A = ℕ} 0 1 = cc in omega arith)
 
@@ -227,13 +247,44 @@ module _ (s : Source) where
   unfolding Others recordAt
   others-paired pair [] top q = q
   others-paired pair (f0 ∷ more) none q = q
-  others-paired pair (f0 ∷ more) (some top) q = record { is = q .is; sized = q .sized; least = q .least; count = q .count; held = q .held }
+  others-paired pair (f0 ∷ more) (some top) q = record {
+    is = q .is;
+    sized = q .sized;
+    least = q .least;
+    count = q .count;
+    held = q .held;
+    origin = q .origin;
+    least-handed = q .least-handed;
+  }
 
   pub others-measured : (d : ℕ) (heard : Heard) (hs : List ℕ) (top : Option ℕ) → Others hs top s → Others hs top (withHeard (withDistance s d) heard)
   unfolding Others recordAt
   others-measured d heard [] top q = q
   others-measured d heard (f0 ∷ more) none q = q
-  others-measured d heard (f0 ∷ more) (some top) q = record { is = q .is; sized = q .sized; least = q .least; count = q .count; held = q .held }
+  others-measured d heard (f0 ∷ more) (some top) q = record {
+    is = q .is;
+    sized = q .sized;
+    least = q .least;
+    count = q .count;
+    held = q .held;
+    origin = q .origin;
+    least-handed = q .least-handed;
+  }
+
+  -- and so are the marks of numbers below the first original
+  pub others-marked : (l : List Attempt) (hs : List ℕ) (top : Option ℕ) → Others hs top s → Others hs top (withAttempts s l)
+  unfolding Others recordAt
+  others-marked l [] top q = q
+  others-marked l (f0 ∷ more) none q = q
+  others-marked l (f0 ∷ more) (some top) q = record {
+    is = q .is;
+    sized = q .sized;
+    least = q .least;
+    count = q .count;
+    held = q .held;
+    origin = q .origin;
+    least-handed = q .least-handed;
+  }
 
 -- ---- what it says
 
@@ -261,6 +312,19 @@ unfolding Others spanOver
 others-span [] top s q = q .1
 others-span (f0 ∷ more) none s q = absurd q
 others-span (f0 ∷ more) (some top) s q = q .is
+
+pub others-origin : (hs : List ℕ) (top : Option ℕ) (s : Source) → Others hs top s → s .origin ≡ originOver hs
+unfolding Others originOver
+others-origin [] top s q = q .3
+others-origin (f0 ∷ more) none s q = absurd q
+others-origin (f0 ∷ more) (some top) s q = q .origin
+
+-- what is handed out is not below the first one
+pub others-least : (first : ℕ) (more : List ℕ) (top : Option ℕ) (s : Source) → Others (first ∷ more) top s
+    → (n : ℕ) → n < first → among n (first ∷ more) ≡ false
+unfolding Others
+others-least first more none s q n l = absurd q
+others-least first more (some top) s q n l = q .least-handed n l
 
 pub others-held : (hs : List ℕ) (top : Option ℕ) (s : Source) → Others hs top s → (n : ℕ) → holdsCue s n ≡ (within (spanOver hs top) n && among n hs)
 unfolding Others spanOver

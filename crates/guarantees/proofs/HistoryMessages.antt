@@ -7,14 +7,16 @@ use Prim.Native.Nat.{ℕ, _<_}
 use native.Mathlib.Omega.{arith}
 use lib.ListN.{length, length-set}
 use lib.Dec.{eqb}
-use borrow.Author.Tests.{eq-eqb}
+use borrow.Author.Tests.{eqb-true, eq-eqb, ne-eqb}
 use Rattle.message.specs.declared.Name.{Name}
 use Rattle.message.specs.declared.Report.{Report}
 use Rattle.message.specs.Kind.{rowOf}
-use Rattle.message.specs.Message.{DATA, RQST, REPL, SESS, XPRS, Meaning, meaningFrom}
+use Rattle.message.specs.Message.{DATA, RQST, REPL, SESS, XPRS, FTCH, LATE, Meaning, meaningFrom}
 use Rattle.message.specs.Question.{sameHost}
 use Rattle.end.specs.declared.Record.{Record}
 use Rattle.end.specs.declared.Span.the-variants.{Closed}
+use Rattle.end.specs.declared.Origin.the-variants.{NoOrigin}
+use Rattle.end.specs.declared.Attempt.{Attempt}
 use Rattle.end.specs.declared.Source.{Source}
 use Rattle.end.specs.declared.End.{End}
 use Rattle.end.specs.declared.Moment.{Moment}
@@ -23,10 +25,10 @@ use Rattle.end.specs.declared.Says.the-variants.{Data, Rqst, Repl, Xprs}
 use Rattle.end.specs.declared.Word.{Word}
 use Rattle.end.specs.declared.Decision.{Decision}
 use Rattle.end.specs.declared.Decision.the-variants.{Ignores, Opens, Takes, Repairs, Hushes, Replies, Learns, BacksOff, Clashes, Expresses}
-use Rattle.end.specs.State.{sourceAt, momentOf, onSource}
+use Rattle.end.specs.State.{sourceAt, momentOf, withAttempts, onSource}
 use Rattle.end.specs.Records.{within, isAbove, isHeld, withRecord}
 use Rattle.end.specs.Names.{asked, holdsCue}
-use Rattle.end.specs.Answer.{Step, Class, PutsOut, HandsOut, Untouched, classOf, handsOut}
+use Rattle.end.specs.Answer.{Step, Class, PutsOut, HandsOut, HandsLate, Untouched, classOf, handsOut}
 use Rattle.end.specs.Decide.{decide, apply, effectOf, stepAt, number, known}
 use Rattle.end.specs.Session.{reportedSource, allReported, heardFrom, sessionOf}
 use Rattle.end.specs.Arrival.{messageName, wordOf, wordStep, messageStep, arrivalOf}
@@ -38,13 +40,14 @@ use Rattle.invariants.proofs.Facts.{SoundState}
 use Rattle.guarantees.specs.History.{told, Since, nothingYet, handing, bringing, sinceMessage, sinceRead}
 use Rattle.guarantees.proofs.Calls.{changed-at}
 use Rattle.guarantees.proofs.Names.{source-of}
+use Rattle.guarantees.proofs.Fetches.{fetched-cases, late-cases, marked-at}
 use Rattle.guarantees.proofs.Messages.{kindOf, has-name}
-use Rattle.guarantees.proofs.HistoryKept.{Others, others-risen, others-still, others-stored, others-measured, others-closed}
+use Rattle.guarantees.proofs.HistoryKept.{Others, others-risen, others-still, others-stored, others-measured, others-marked, others-closed}
 use Rattle.guarantees.proofs.HistoryWords.{Next, word-others, word-own}
 
--- what the history says of a source: of the own one nothing, and its count is 0
+-- what the history says of a source: of the own one nothing, its count is 0, and it has no first original
 unfoldable pub Tells : Bool → Since → Source → Type 0
-Tells true x s = (x ≡ nothingYet) × (s .missed ≡ 0)
+Tells true x s = (x ≡ nothingYet) × (s .missed ≡ 0) × (s .origin ≡ NoOrigin)
 Tells false x s = Others (x .handed) (x .highest) s
 
 -- ---- a history in which nothing was handed out stays so, whatever is brought
@@ -69,6 +72,7 @@ nothing-handed : (me s : ℕ) (m : Meaning) (c : Class) → handsOut c ≡ false
 unfolding sinceMessage
 nothing-handed me s m (HandsOut name cue) h = clash h
 nothing-handed me s m (PutsOut bytes) h = bringing-none me m s
+nothing-handed me s m (HandsLate name cue) h = bringing-none me m s
 nothing-handed me s m Untouched h = bringing-none me m s
 
 pub read-none : (me s : ℕ) (o : Option Meaning) → sinceRead me s nothingYet o Untouched ≡ nothingYet
@@ -82,10 +86,10 @@ unfolding Tells
 closed-none true x s shut q = q .0
 closed-none false x s shut q = let z = others-closed (x .handed) (x .highest) s shut q in λ i. record { handed = z .0 i; highest = z .1 i }
 
-pub tells-none : (own : Bool) (s : Source) → s .span ≡ Closed → s .missed ≡ 0 → Tells own nothingYet s
+pub tells-none : (own : Bool) (s : Source) → s .span ≡ Closed → s .missed ≡ 0 → s .origin ≡ NoOrigin → Tells own nothingYet s
 unfolding Tells Others
-tells-none true s shut free = (refl, free)
-tells-none false s shut free = (refl, shut, free)
+tells-none true s shut free no-origin = (refl, free, no-origin)
+tells-none false s shut free no-origin = (refl, shut, free, no-origin)
 
 -- ---- one record in first..last is changed, and stays held or not
 pub tells-stored : (own : Bool) (x : Since) (s : Source) (n : ℕ) (r : Record) → within (s .span) n ≡ true → isHeld (r .slot) ≡ holdsCue s n
@@ -93,6 +97,12 @@ pub tells-stored : (own : Bool) (x : Since) (s : Source) (n : ℕ) (r : Record) 
 unfolding Tells
 tells-stored true x s n r w same q = q
 tells-stored false x s n r w same q = others-stored s n r (x .handed) (x .highest) w same q
+
+-- the marks of numbers below the first original are another matter
+pub tells-marked : (own : Bool) (x : Since) (s : Source) (l : List Attempt) → Tells own x s → Tells own x (withAttempts s l)
+unfolding Tells
+tells-marked true x s l q = q
+tells-marked false x s l q = others-marked s l (x .handed) (x .highest) q
 
 -- ---- DATA, RQST, REPL and XPRS
 module _ (us : List ℕ) (m : Meaning) (e : End) (f : SoundState e) (unlooped : eqb (m .sender .0) (e .host .0) ≡ false)
@@ -133,6 +143,7 @@ module _ (us : List ℕ) (m : Meaning) (e : End) (f : SoundState e) (unlooped : 
   apart s x off (HandsOut name cue) is =
       ap (λ (b : Bool). cond b (handing (name .number .0) x) x) (ap (λ (z : Name). eqb (z .source .0) s) (is name cue refl) ∙ off)
   apart s x off (PutsOut bytes) is = brings-none s x off
+  apart s x off (HandsLate name cue) is = brings-none s x off
   apart s x off Untouched is = brings-none s x off
 
   -- what is handed out has the message's name
@@ -160,6 +171,8 @@ module _ (us : List ℕ) (m : Meaning) (e : End) (f : SoundState e) (unlooped : 
       subst (λ (y : Since). Others (y .handed) (y .highest) p) (sym it) q
   next-told x p (PutsOut bytes) is q =
       subst (λ (y : Since). Others (y .handed) (y .highest) p) (sym (brings (source m) x (eq-eqb (source m) (source m) refl))) q
+  next-told x p (HandsLate name cue) is q =
+      subst (λ (y : Since). Others (y .handed) (y .highest) p) (sym (brings (source m) x (eq-eqb (source m) (source m) refl))) q
   next-told x p Untouched is q = subst (λ (y : Since). Others (y .handed) (y .highest) p) (sym (brings (source m) x (eq-eqb (source m) (source m) refl))) q
 
   here : (own : Bool) → sameHost (messageName m .source) (e .host) ≡ own → (x : Since) → Tells own x s₀ → (d : Decision)
@@ -171,6 +184,7 @@ module _ (us : List ℕ) (m : Meaning) (e : End) (f : SoundState e) (unlooped : 
       let c = classOf (effectOf t₀ w₀ (known w₀ s₀) d) in (
         ap (λ (y : Since). sinceMessage me (source m) y m c) (q .0) ∙ nothing-handed me (source m) m c (z .class),
         z .missed ∙ q .1,
+        z .origin ∙ q .2,
       )
   here false own x q d g =
       next-told x (apply t₀ us w₀ d s₀) (classOf (effectOf t₀ w₀ (known w₀ s₀) d)) (handed-name d)
@@ -190,9 +204,9 @@ module _ (us : List ℕ) (m : Meaning) (e : End) (f : SoundState e) (unlooped : 
 -- ---- SESS
 
 -- a message that was read and is about no name is a SESS
-known-session : (kind : ℕ) → rowOf kind .known ≡ true → eqb kind DATA ≡ false → eqb kind RQST ≡ false → eqb kind REPL ≡ false
-    → eqb kind XPRS ≡ false → eqb kind SESS ≡ true
-known-session kind h d r p x = byTest (eqb kind SESS) (λ t. t) (λ t. clash′ ((rw (d, r, p, t, x) refl) ∙ h))
+pub known-session : (kind : ℕ) → rowOf kind .known ≡ true → eqb kind DATA ≡ false → eqb kind RQST ≡ false → eqb kind REPL ≡ false
+    → eqb kind XPRS ≡ false → eqb kind FTCH ≡ false → eqb kind LATE ≡ false → eqb kind SESS ≡ true
+known-session kind h d r p x f l = byTest (eqb kind SESS) (λ t. t) (λ t. clash′ ((rw (d, r, p, t, x, f, l) refl) ∙ h))
 
 module _ (us : List ℕ) (e : End) where
   abbrev t₁ : Moment
@@ -207,7 +221,7 @@ module _ (us : List ℕ) (e : End) where
       (λ _. others-risen p (asked t₁ us (p .distance)) (λ m. refl) (r .last .0) hs top q)
       (λ c. others-still p (r .last .0) hs top (sym (ap (λ (b : Bool). not b && isAbove (p .span) (r .last .0)) another) ∙ c) q)
 
-  report-own : (s : ℕ) → eqb s (e .host .0) ≡ true → (r : Report) → r .source .0 ≡ s → (p : Source) → reportedSource t₁ us r p .missed ≡ p .missed
+  report-own : (s : ℕ) → eqb s (e .host .0) ≡ true → (r : Report) → r .source .0 ≡ s → (p : Source) → reportedSource t₁ us r p ≡ p
   report-own s own r it p =
       let mine : sameHost (r .source) (e .host) ≡ true = ap (λ (k : ℕ). eqb k (e .host .0)) it ∙ own in
       rw mine
@@ -217,7 +231,8 @@ module _ (us : List ℕ) (e : End) where
   unfolding Tells raisedTo
   report-tells s true is r it hs top p q = (
     ap (λ (y : Since). record { handed = y .handed; highest = raisedTo (r .last .0) (y .highest) }) (q .0),
-    report-own s is r it p ∙ q .1,
+    ap (λ (y : Source). y .missed) (report-own s is r it p) ∙ q .1,
+    ap (λ (y : Source). y .origin) (report-own s is r it p) ∙ q .2,
   )
   report-tells s false is r it hs top p q = report-others s is r it hs top p q
 
@@ -242,7 +257,7 @@ module _ (us : List ℕ) (e : End) where
   measured-tells true x m p q = q
   measured-tells false x m p q = others-measured p _ _ (x .handed) (x .highest) q
 
-reported-long : (t : Moment) (us : List ℕ) (rs : List Report) (e : End) → length (allReported t us rs e .sources) ≡ length (e .sources)
+pub reported-long : (t : Moment) (us : List ℕ) (rs : List Report) (e : End) → length (allReported t us rs e .sources) ≡ length (e .sources)
 unfolding allReported
 reported-long t us [] e = refl
 reported-long t us (r ∷ rs) e =
@@ -272,8 +287,15 @@ module _ (us : List ℕ) (m : Meaning) (e : End) (f : SoundState e) (unlooped : 
   abbrev Went : Step → Type 0
   Went r = Tells (eqb s (e .host .0)) (sinceMessage (e .host .0) s (past s) m (classOf (r .effect))) (source-of (r .left) s)
 
+  -- kinds 22 and 23 bring no number
+  unbrought : (kind : ℕ) → eqb (m .kind) kind ≡ true → eqb kind SESS ≡ false → isAboutName m ≡ false → bringing (e .host .0) m s (past s) ≡ past s
+  unfolding broughtTo
+  unbrought kind k other unnamed =
+      let no-session : eqb (m .kind) SESS ≡ false = ap (λ (i : ℕ). eqb i SESS) (eqb-true (m .kind) kind k) ∙ other in
+      rw (unlooped, unnamed, no-session)
+
   message-tells : Went (messageStep us m e)
-  unfolding messageStep
+  unfolding messageStep sinceMessage
   message-tells =
       byCond Went (eqb (m .kind) DATA) (λ k. word-tells us m e f unlooped Data k hs (λ _. original k) past told-so s hh)
       (λ d. byCond Went (eqb (m .kind) RQST)
@@ -282,8 +304,15 @@ module _ (us : List ℕ) (m : Meaning) (e : End) (f : SoundState e) (unlooped : 
       (λ k. word-tells us m e f unlooped Repl k hs (λ p. absurd (let z : _≡_ {A = ℕ} 0 1 = cc in omega arith)) past told-so s hh)
       (λ p. byCond Went (eqb (m .kind) XPRS)
       (λ k. word-tells us m e f unlooped Xprs k hs (λ p. absurd (let z : _≡_ {A = ℕ} 0 1 = cc in omega arith)) past told-so s hh)
-      (λ x. session-tells us m e (f .sources) unlooped (λ i. d i || (r i || (p i || x i)))
-      (known-session (m .kind) kinds d r p x) (past s) s hh (told-so s hh)))))
+      (λ x. byCond Went (eqb (m .kind) FTCH)
+      (λ k. let quiet = unbrought FTCH k (ne-eqb FTCH SESS (λ i. omega (arith, i))) (λ i. d i || (r i || (p i || x i))) in
+      fetched-cases Went m e (rw quiet (told-so s hh)) (λ bytes. rw quiet (told-so s hh)))
+      (λ q. byCond Went (eqb (m .kind) LATE)
+      (λ k. let quiet = unbrought LATE k (ne-eqb LATE SESS (λ i. omega (arith, i))) (λ i. d i || (r i || (p i || x i))) in
+      late-cases Went m e (rw quiet (told-so s hh)) (λ l. rw quiet (marked-at (Tells (eqb s (e .host .0)) (past s)) e (messageName m .source) l s (told-so s hh)
+      (tells-marked (eqb s (e .host .0)) (past s) (source-of e s) l (told-so s hh)))))
+      (λ l. session-tells us m e (f .sources) unlooped (λ i. d i || (r i || (p i || x i)))
+      (known-session (m .kind) kinds d r p x q l) (past s) s hh (told-so s hh)))))))
 
 -- looped or not
 pub arrival-tells : (us : List ℕ) (b : ℕ) (bytes : List ℕ) (e : End) → SoundState e → readAs (b ∷ bytes) ≡ some (meaningFrom (b ∷ bytes))

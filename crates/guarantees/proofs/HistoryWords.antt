@@ -19,13 +19,13 @@ use Rattle.end.specs.declared.Moment.{Moment}
 use Rattle.end.specs.declared.Says.the-variants.{Data}
 use Rattle.end.specs.declared.Word.{Word}
 use Rattle.end.specs.declared.Reason.{Reason}
-use Rattle.end.specs.declared.Reason.the-variants.{Crashed, WrongStatus, OwnMessage, NotOpen, BelowFirst, OwnAboveLast, AlreadyHeld, ReplyWaiting, ReplyQuiet, RequestQuiet}
+use Rattle.end.specs.declared.Reason.the-variants.{Crashed, WrongStatus, OwnMessage, NotOpen, BelowFirst, OwnAboveLast, AlreadyHeld, ReplyWaiting, ReplyQuiet, RequestQuiet, NoFetch}
 use Rattle.end.specs.declared.Decision.{Decision}
 use Rattle.end.specs.declared.Decision.the-variants.{Ignores, Opens, Takes, Repairs, Hushes, Replies, Learns, BacksOff, Clashes, Expresses}
 use Rattle.end.specs.Records.{isClosed, within, isBelow, isAbove, recordAt, isHeld, withRecord, withReply}
 use Rattle.end.specs.Names.{asked, askedByData, hold, holdsCue, riseWith}
 use Rattle.end.specs.Sound.{insideSound}
-use Rattle.end.specs.Answer.{Class, PutsOut, HandsOut, Untouched, classOf, handsOut}
+use Rattle.end.specs.Answer.{Class, PutsOut, HandsOut, HandsLate, Untouched, classOf, handsOut}
 use Rattle.end.specs.Decide.{number, known, apply, effectOf}
 use Rattle.end.specs.Book.{raisedTo, higher}
 use Rattle.end.proofs.Tools.{clash, clash′}
@@ -71,11 +71,13 @@ ignored-low t w s other o RequestQuiet h =
     let a = and-both (isRequest (w .says)) _ h .1 in
     let b = and-both (not (isHeld (known w s .slot))) _ a .1 in
     not-true _ (and-both (not (isAbove (s .span) (number w))) _ b .0)
+ignored-low t w s other o NoFetch h = clash′ h
 
 -- ---- what the history says next of the named source, by what is written to the output
 abbrev pub Next : Class → ℕ → List ℕ → Option ℕ → Source → Type 0
 Next (HandsOut name cue) n hs top s = Others (hs ++ (n ∷ [])) (some (higher top n)) s
 Next (PutsOut bytes) n hs top s = Others hs (raisedTo n top) s
+Next (HandsLate name cue) n hs top s = Others hs (raisedTo n top) s
 Next Untouched n hs top s = Others hs (raisedTo n top) s
 
 -- of a source that is open the highest is known
@@ -157,6 +159,7 @@ module _ (t : Moment) (us : List ℕ) (w : Word) (s : Source) (sized : length (s
 pub record Quiet (c : Class) (s p : Source) : Type 0 where
   pub class : handsOut c ≡ false
   pub missed : p .missed ≡ s .missed
+  pub origin : p .origin ≡ s .origin
 
 module _ (t : Moment) (us : List ℕ) (w : Word) (s : Source) (own : sameHost (w .name .source) (t .me) ≡ true)
     (original : w .says ≡ Data → sameHost (w .name .source) (t .me) ≡ false)
@@ -166,13 +169,13 @@ module _ (t : Moment) (us : List ℕ) (w : Word) (s : Source) (own : sameHost (w
 
   pub word-own : (d : Decision) → Grounds t w (known w s) (s .span) d → Quiet (classOf (effectOf t w (known w s) d)) s (apply t us w d s)
   unfolding Grounds apply effectOf
-  word-own (Ignores why) g = record { class = refl; missed = refl }
+  word-own (Ignores why) g = record { class = refl; missed = refl; origin = refl }
   word-own Opens g = clash (sym own ∙ original (g .0))
   word-own Takes g = clash (sym own ∙ original (g .0))
   word-own Repairs g = clash (sym own ∙ wanted (g .1))
-  word-own Hushes g = record { class = refl; missed = refl }
-  word-own Replies g = record { class = refl; missed = refl }
+  word-own Hushes g = record { class = refl; missed = refl; origin = refl }
+  word-own Replies g = record { class = refl; missed = refl; origin = refl }
   word-own Learns g = clash (sym own ∙ wanted (g .1))
-  word-own (BacksOff k) g = record { class = refl; missed = refl }
-  word-own Clashes g = record { class = refl; missed = refl }
-  word-own Expresses g = record { class = refl; missed = refl }
+  word-own (BacksOff k) g = record { class = refl; missed = refl; origin = refl }
+  word-own Clashes g = record { class = refl; missed = refl; origin = refl }
+  word-own Expresses g = record { class = refl; missed = refl; origin = refl }

@@ -1,5 +1,6 @@
 pub mod Calls
 pub mod Names
+pub mod Fetches
 pub mod Retired
 pub mod Heard
 pub mod Messages
@@ -19,3 +20,8 @@ pub mod HistoryMessages
 pub mod History
 pub mod HistoryRows
 pub mod Rises
+pub mod FetchAnswers
+pub mod FetchBook
+pub mod FetchMarks
+pub mod FetchHistory
+pub mod FetchReports

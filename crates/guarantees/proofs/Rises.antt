@@ -79,6 +79,8 @@ rise-as-before t us n s a b = go (s .span) b
           distance = s .distance;
           heard = s .heard;
           names = filled-same t us (s .distance) (n - k) (k + 1) (s .names) (omega (arith, u .1)) i;
+          origin = s .origin;
+          attempts = s .attempts;
         })
 
 pub data-rises-alike : DataRisesAlike

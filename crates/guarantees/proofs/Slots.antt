@@ -36,7 +36,7 @@ use Rattle.end.specs.Names.{asking, expressed, holding, quieted}
 use Rattle.end.specs.Answer.{Step, Result}
 use Rattle.end.specs.Sound.{soundOf}
 use Rattle.end.specs.Fire.{earliest, fireAt, fired}
-use Rattle.end.specs.Event.{Action, Moves, Send, Arrival, Else, Other, Fire, Report, moves, clears, movedEnd, moveOf, extended, sentSource, otherOf, actOf, eventOf}
+use Rattle.end.specs.Event.{Action, Moves, Send, Arrival, Else, Other, Fire, Report, Fetch, moves, clears, movedEnd, moveOf, extended, sentSource, otherOf, actOf, eventOf}
 use Rattle.end.proofs.Facts.{unheard-at, narrow}
 use Rattle.end.proofs.RecordLaws.{Narrow, at-outside, read-same, read-other, store-elim}
 use Rattle.end.proofs.RiseLaws.{rise-span}
@@ -53,6 +53,7 @@ use Rattle.guarantees.specs.BackOff.{causeOf, SpansMayBecome, RetiredAre
 use Rattle.guarantees.proofs.Names.{waits-as, waits-inside, held-inside, source-of, Ends, own-ends, next-outside, next-inside, extended-narrow, extended-length, extended-elim}
 use Rattle.guarantees.proofs.Retired.{span-stay, rise-moves, retired-outside, retired-below, outside-before, below-stays}
 use Rattle.guarantees.proofs.Heard.{carriedBy}
+use Rattle.guarantees.proofs.Fetches.{fetch-cases, marked-at}
 use Rattle.guarantees.proofs.Messages.{span-may, HeardEnd}
 use Rattle.guarantees.proofs.Calls.{call-cases}
 use Rattle.guarantees.proofs.Arrivals.{passed-heard}
@@ -286,8 +287,20 @@ fired-may us e f (First w) p = go (choice-is-earliest e w p .due)
         (record { slot = quiets c (momentOf e) us (s .distance) n (recordAt s n .slot); cue = λ _ _. refl }))
 
 other-may : (us : List ℕ) (o : Other) (e : End) → SoundState e → MayEnd (Else o) (momentOf e) us e (otherOf us o e .left)
+unfolding recordAt
 other-may us Fire e f = fired-may us e f (earliest e 8) refl
 other-may us Report e f = may-stay (Else Report) (momentOf e) us e
+other-may us (Fetch name) e f =
+    let t = momentOf e in
+    let stay = may-stay (Else (Fetch name)) t us e in
+    fetch-cases (λ (r : Step). MayEnd (Else (Fetch name)) t us e (r .left)) name e stay stay
+    (λ bytes l. (
+      (refl, refl),
+      λ h hh.
+          let q = stay .1 h hh in
+          marked-at (MaySource (causeOf t (Else (Fetch name)) h (source-of e h .pair)) t us (source-of e h)) e (name .source) l h q
+          (record { span = q .span; each = q .each }),
+    ))
 
 pub acts-may : (e : End) (a : Action) (clock : ℕ) (us : List ℕ) → Passed e a clock → MayEnd a (momentAt e clock) us e (actOf us a (withClock e clock) .left)
 unfolding actOf

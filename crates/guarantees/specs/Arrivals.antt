@@ -9,7 +9,7 @@ use lib.ListN.{length}
 use lib.Dec.{ltb, leb, eqb}
 use Rattle.message.specs.declared.Report.{Report}
 use Rattle.message.specs.Entry.{asHost}
-use Rattle.message.specs.Message.{DATA, RQST, REPL, XPRS, Meaning, meaningFrom, bytesOf}
+use Rattle.message.specs.Message.{DATA, RQST, REPL, XPRS, FTCH, LATE, Meaning, meaningFrom, bytesOf}
 use Rattle.message.specs.Question.{sameHost}
 use Rattle.end.specs.declared.Express.{Express}
 use Rattle.end.specs.declared.Express.the-variants.{Unset, Soon}
@@ -110,13 +110,13 @@ unfoldable pub reportedUp : List Report → ℕ → Span → ℕ → Bool
 reportedUp [] h span j = false
 reportedUp (r ∷ rs) h span j = (eqb (r .source .0) h && risen span (r .last .0) j) || reportedUp rs h span j
 
--- a message of one of the four kinds with a name
+-- a message of one of the four kinds that may change what is kept under their name
 abbrev pub hasName : Meaning → Bool
 hasName m = eqb (m .kind) DATA || (eqb (m .kind) RQST || (eqb (m .kind) REPL || eqb (m .kind) XPRS))
 
 -- Which names of a source h, whose first and last are `span`, a message may at most change. DATA, RQST, REPL and XPRS: of the source that they
 -- name, the named number, those from last + 1 up to it and those more than 63 below it. SESS: of each source that is reported, those from
--- last + 1 up to the reported and those more than 63 below it.
+-- last + 1 up to the reported and those more than 63 below it. FTCH and LATE report nothing, and change none.
 unfoldable pub touches : Meaning → ℕ → Span → ℕ → Bool
 touches m h span j =
     cond (hasName m)
@@ -186,9 +186,13 @@ abbrev pub SpansAsHeard : Type 0
 SpansAsHeard = (e : End) (bytes : List ℕ) (clock room : ℕ) (draws : List ℕ) (h : ℕ) → h < 8
     → SpanAs (isDataOf (meaningFrom bytes) h) (sourceAt e (asHost h) .span) (sourceAt (hear e bytes clock room draws .left) (asHost h) .span)
 
+-- the two kinds of document 02, P9, which have a name too and change nothing here: Fetch.antt
+abbrev pub isFetched : Meaning → Bool
+isFetched m = eqb (m .kind) FTCH || eqb (m .kind) LATE
+
 -- a message of host h with no name: a SESS, if it is accepted
 unfoldable pub isSessionOf : Meaning → ℕ → Bool
-isSessionOf m h = not (hasName m) && eqb (m .sender .0) h
+isSessionOf m h = not (hasName m || isFetched m) && eqb (m .sender .0) h
 
 -- .. and a probe, which has no sender, is none
 abbrev pub isSessionFrom : List ℕ → ℕ → Bool

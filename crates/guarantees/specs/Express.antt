@@ -25,7 +25,7 @@ use Rattle.end.specs.Records.{isAbove, isHeld, expressIn}
 use Rattle.end.specs.Round.{requestAt}
 use Rattle.end.specs.Names.{isRequester, latest, quietReply, dropExpress}
 use Rattle.end.specs.Messages.{repairMessage}
-use Rattle.end.specs.Answer.{Effect, Out, Got, Done, Ignored, Nothing, Clash, Outcome, Refused, Did}
+use Rattle.end.specs.Answer.{Effect, Out, Got, Done, Ignored, Nothing, Clash, Late, Exhausted, Outcome, Refused, Did}
 use Rattle.end.specs.Arrival.{messageName, messageHost}
 use Rattle.end.specs.Event.{Action, Moves, Send, Arrival, Else, clears, questionOf, eventOf}
 use Rattle.end.specs.Opening.{openingOf}
@@ -131,6 +131,8 @@ isGotOrDone Done = true
 isGotOrDone Ignored = false
 isGotOrDone Nothing = false
 isGotOrDone (Clash name) = false
+isGotOrDone (Late name cue) = false
+isGotOrDone Exhausted = false
 
 -- the pair of source s after a message that was so answered
 unfoldable pub pairMessage : ℕ → Pair → Meaning → Effect → Pair

@@ -13,12 +13,14 @@ use Rattle.message.specs.Message.{Meaning}
 use Rattle.end.specs.declared.Params.{Params}
 use Rattle.end.specs.declared.Span.{Span}
 use Rattle.end.specs.declared.Span.the-variants.{Closed, Open}
+use Rattle.end.specs.declared.Origin.{Origin}
+use Rattle.end.specs.declared.Origin.the-variants.{NoOrigin, From}
 use Rattle.end.specs.declared.Source.{Source}
 use Rattle.end.specs.declared.End.{End}
 use Rattle.end.specs.State.{sourceAt, isMember}
 use Rattle.end.specs.Records.{within}
 use Rattle.end.specs.Names.{holdsCue, lacking, firstAfter}
-use Rattle.end.specs.Answer.{Effect, Out, Got, Done, Ignored, Nothing, Clash, Class, PutsOut, HandsOut, Untouched, classOf, Outcome, Refused, Did}
+use Rattle.end.specs.Answer.{Effect, Out, Got, Done, Ignored, Nothing, Clash, Late, Exhausted, Class, PutsOut, HandsOut, HandsLate, Untouched, classOf, Outcome, Refused, Did}
 use Rattle.end.specs.Event.{Action, Moves, Send, Arrival, Else, eventOf}
 use Rattle.end.specs.Opening.{openingOf}
 use Rattle.end.specs.Book.{readAs, broughtTo, higher, among}
@@ -54,10 +56,12 @@ handing n x = record { handed = x .handed ++ (n ∷ []); highest = some (higher 
 abbrev pub bringing : ℕ → Meaning → ℕ → Since → Since
 bringing me m s x = cond (eqb (m .sender .0) me) x (record { handed = x .handed; highest = broughtTo m s (x .highest) })
 
--- a message and what was written to the output: a cue is handed out under the answer's name; if none is, the message brings its numbers
+-- a message and what was written to the output: a cue is handed out under the answer's name; if none is, the message brings its numbers. P9:
+-- "Late cues lie outside its record of receptions"
 unfoldable pub sinceMessage : ℕ → ℕ → Since → Meaning → Class → Since
 sinceMessage me s x m (HandsOut name cue) = cond (eqb (name .source .0) s) (handing (name .number .0) x) x
 sinceMessage me s x m (PutsOut bytes) = bringing me m s x
+sinceMessage me s x m (HandsLate name cue) = bringing me m s x
 sinceMessage me s x m Untouched = bringing me m s x
 
 unfoldable pub sinceRead : ℕ → ℕ → Since → Option Meaning → Class → Since
@@ -71,6 +75,8 @@ isDone Done = true
 isDone Ignored = false
 isDone Nothing = false
 isDone (Clash name) = false
+isDone (Late name cue) = false
+isDone Exhausted = false
 
 -- A move that is Done begins membership, ends it or lies outside it: after it nothing has happened since joining. Outside membership nothing
 -- is handed out, so nothing is kept there.
@@ -113,14 +119,21 @@ spanOver (first ∷ more) (some l) = Open (asNumber (firstAfter first l)) (asNum
 abbrev pub spanSince : Since → Span
 spanSince x = spanOver (x .handed) (x .highest)
 
+-- the first original, which is the first number handed out: document 02, P9, "the first original it had since joining from another host"
+unfoldable pub originOver : List ℕ → Origin
+originOver [] = NoOrigin
+originOver (first ∷ more) = From (asNumber first)
+
 -- ---- the end has counted what the history says
 
--- Of a source: the count; of another's source, first and last too, and which cues are held: those handed out and not retired. The own source
--- is never handed out, so its count is 0.
+-- Of a source: the count; of another's source, first and last too, the first original, and which cues are held: those handed out and not
+-- retired. The own source is never handed out, so its count is 0, and it has no first original of another host.
 pub record AsTold (me s : ℕ) (x : Since) (source : Source) : Type 0 where
   pub count : source .missed ≡ counted x
   pub own : eqb s me ≡ true → source .missed ≡ 0
   pub span : eqb s me ≡ false → source .span ≡ spanSince x
+  pub origin : eqb s me ≡ false → source .origin ≡ originOver (x .handed)
+  pub own-origin : eqb s me ≡ true → source .origin ≡ NoOrigin
   pub held : eqb s me ≡ false → (n : ℕ) → holdsCue source n ≡ (within (spanSince x) n && among n (x .handed))
 
 -- After any calls on an end that was opened, refused ones and bytes of any kind among them, every source is as the history of these calls

@@ -11,3 +11,4 @@ pub mod History
 pub mod Express
 pub mod Rises
 pub mod HistoryRows
+pub mod Fetch

@@ -8,7 +8,7 @@ use lib.Dec.{eqb}
 use borrow.Author.Tests.{eqb-true, leb-true}
 use Rattle.message.specs.declared.Name.{Name}
 use Rattle.message.specs.declared.Report.{Report as ReportEntry}
-use Rattle.message.specs.Message.{DATA, RQST, REPL, XPRS, Meaning, meaningFrom}
+use Rattle.message.specs.Message.{DATA, RQST, REPL, XPRS, FTCH, LATE, Meaning, meaningFrom}
 use Rattle.message.specs.Question.{sameHost}
 use Rattle.end.specs.declared.Slot.{Slot}
 use Rattle.end.specs.declared.Slot.the-variants.{Empty, Held, Waiting}
@@ -20,6 +20,8 @@ use Rattle.end.specs.declared.Move.{Move}
 use Rattle.end.specs.declared.End.{End}
 use Rattle.end.specs.declared.Earliest.{Earliest}
 use Rattle.end.specs.declared.Earliest.the-variants.{NoWait, First}
+use Rattle.end.specs.declared.Nearest.{Nearest}
+use Rattle.end.specs.declared.Nearest.the-variants.{Nobody, Found}
 use Rattle.end.specs.State.{isMember, isCrashed, sourceAt, momentOf, onSource, withClock}
 use Rattle.end.specs.Records.{recordAt}
 use Rattle.end.specs.Sound.{allOf, heardTests}
@@ -28,7 +30,9 @@ use Rattle.end.specs.Decide.{stepAt}
 use Rattle.end.specs.Session.{reportedSource, allReported, sessionOf}
 use Rattle.end.specs.Arrival.{messageStep, arrivalOf}
 use Rattle.end.specs.Fire.{expressRank, earliest, fireAt, fired}
-use Rattle.end.specs.Event.{Action, Moves, Send, Arrival, Else, Other, Fire, Report, moves, clears, movedEnd, moveOf, otherOf, actOf, stepOf, questionOf, eventOf}
+use Rattle.end.specs.Fetch.{mayFetch, nearest, tryOf, fetchOf, mayAnswer, fetchedOf, mayHand, lateOf}
+use Rattle.end.specs.Event.{Action, Moves, Send, Arrival, Else, Other, Fire, Report, Fetch, moves, clears, movedEnd, moveOf, otherOf, actOf, stepOf}
+use Rattle.end.specs.Event.{questionOf, eventOf}
 use Rattle.end.proofs.SoundLaws.{nth}
 use Rattle.end.proofs.Tools.{byCond}
 use Rattle.invariants.specs.Clocks.{ClockNeverFalls, HeardByNow}
@@ -51,13 +55,15 @@ reported-clock t us (r ∷ rs) e = reported-clock t us rs (onSource e (r .source
 module _ (us : List ℕ) (e : End) where
   -- a message about a name changes one source: there is no case
   message-clock : (m : Meaning) → Keeps e (messageStep us m e)
-  unfolding messageStep stepAt sessionOf
+  unfolding messageStep stepAt sessionOf fetchedOf lateOf
   message-clock m =
       byCond (Keeps e) (eqb (m .kind) DATA) (λ _. refl)
       (λ _. byCond (Keeps e) (eqb (m .kind) RQST) (λ _. refl)
       (λ _. byCond (Keeps e) (eqb (m .kind) REPL) (λ _. refl)
       (λ _. byCond (Keeps e) (eqb (m .kind) XPRS) (λ _. refl)
-      (λ _. reported-clock (momentOf e) us (m .reports) e))))
+      (λ _. byCond (Keeps e) (eqb (m .kind) FTCH) (λ _. byCond (Keeps e) (mayAnswer e m) (λ _. refl) (λ _. refl))
+      (λ _. byCond (Keeps e) (eqb (m .kind) LATE) (λ _. byCond (Keeps e) (mayHand e m) (λ _. refl) (λ _. refl))
+      (λ _. reported-clock (momentOf e) us (m .reports) e))))))
 
   fire-clock : (rank : ℕ) (name : Name) (x : Slot) → Keeps e (fireAt us rank name e x)
   unfolding fireAt
@@ -71,9 +77,16 @@ module _ (us : List ℕ) (e : End) where
   fired-clock NoWait = refl
   fired-clock (First w) = fire-clock (w .rank) (w .name) (recordAt (sourceAt e (w .name .source)) (w .name .number .0) .slot)
 
+  tried-clock : (name : Name) (x : Nearest) → Keeps e (tryOf name e x)
+  unfolding tryOf
+  tried-clock name Nobody = refl
+  tried-clock name (Found h d) = refl
+
   other-clock : (o : Other) → Keeps e (otherOf us o e)
+  unfolding fetchOf
   other-clock Fire = fired-clock (earliest e 8)
   other-clock Report = refl
+  other-clock (Fetch name) = byCond (Keeps e) (mayFetch e name) (λ _. tried-clock name (nearest e name 8)) (λ _. refl)
 
   pub act-clock : (a : Action) → Keeps e (actOf us a e)
   unfolding actOf arrivalOf
@@ -95,7 +108,7 @@ clock-never-falls e a clock room draws =
     (λ _. omega arith)
 
 pub heard-by-now : HeardByNow
-heard-by-now e t h hh stamp when p =
+heard-by-now e t h hh stamp when reported p =
     let own = sameHost h (e .host) in
-    let tests = heardTests own (e .clock) (At stamp when) in
+    let tests = heardTests own (e .clock) (At stamp when reported) in
     leb-true when (e .clock) (nth tests 2 (ap (λ (x : Heard). allOf (heardTests own (e .clock) x)) (sym p) ∙ facts e t .each (h .0) hh .heard))

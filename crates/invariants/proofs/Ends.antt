@@ -1,6 +1,6 @@
 -- From a source to its end: a source changed, the clock set, a move, and the state of which nothing is kept.
 use mathlib.Core.Path.{_≡_, refl, sym, ap, _∙_, subst}
-use Prim.Native.Nat.{ℕ, _≤_, _<_}
+use Prim.Native.Nat.{ℕ, _+_, _≤_, _<_}
 use native.Mathlib.Omega.{arith}
 use mathlib.Core.Bool.{Bool, true, false, _||_}
 use mathlib.Core.List.{List, [], _∷_}
@@ -21,15 +21,16 @@ use Rattle.end.specs.declared.Heard.{Heard}
 use Rattle.end.specs.declared.Heard.the-variants.{Never, At}
 use Rattle.end.specs.declared.Source.{Source}
 use Rattle.end.specs.declared.End.{End}
-use Rattle.end.specs.State.{noRecord, noSource, blankRecord, firstDistance, unheard, unheardSources, sourceAt, isMember, withSource, withStatus, withClock}
+use Rattle.end.specs.State.{noRecord, noSource, noAttempt, blankRecord, firstDistance, unheard, unheardSources, sourceAt, isMember}
+use Rattle.end.specs.State.{withSource, withStatus, withClock}
 use Rattle.end.specs.Records.{place, recordAt}
-use Rattle.end.specs.Sound.{allOf, insideSound, outsideSound, distanceSound, heardTests, nonMemberTests, paramsTests, delayIn}
+use Rattle.end.specs.Sound.{allOf, insideSound, outsideSound, distanceSound, heardTests, nonMemberTests, attemptSound, paramsTests, delayIn}
 use Rattle.end.proofs.SoundLaws.{nth}
 use Rattle.end.proofs.RecordLaws.{place-in}
 use Rattle.end.proofs.Facts.{within-small}
 use Rattle.end.proofs.Tools.{byTest, clash′, set-elim}
 use Rattle.invariants.specs.Outputs.{keptUnder, pairOf}
-use Rattle.invariants.proofs.Facts.{SoundSource, SoundState, span-in}
+use Rattle.invariants.proofs.Facts.{all-intro, SoundSource, SoundState, span-in}
 use Rattle.invariants.proofs.Sources.{stands}
 
 -- where a name stands under which there is something, and what soundness says of it
@@ -69,8 +70,8 @@ source-kept e h s f q =
 -- ---- the clock rises
 heard-kept : (own : Bool) (clock t : ℕ) (x : Heard) → clock ≤ t → allOf (heardTests own clock x) ≡ true → allOf (heardTests own t x) ≡ true
 heard-kept own clock t Never l h = refl
-heard-kept own clock t (At stamp when) l h =
-    let tests = heardTests own clock (At stamp when) in
+heard-kept own clock t (At stamp when reported) l h =
+    let tests = heardTests own clock (At stamp when reported) in
     let later = le-leb when t (omega (arith, l, leb-true when clock (nth tests 2 h))) in
     λ i. allOf (nth tests 0 h i ∷ nth tests 1 h i ∷ later i ∷ [])
 
@@ -102,6 +103,9 @@ unheard-sound me next clock member h d near first = record {
   pair = refl;
   inside = λ n w. clash′ w;
   outside = λ n a b w. ap (λ (r : Record). outsideSound r (r .slot)) (getD-replicate 64 (place n) blankRecord noRecord (place-in n));
+  attempts = length-replicate 64 noAttempt;
+  origin = refl;
+  marks = all-intro _ 64 (λ i l. ap (attemptSound me false) (getD-replicate 64 (place (0 + i)) noAttempt noAttempt (place-in (0 + i))));
 }
 
 -- a state of which nothing is kept, whatever its status

@@ -14,6 +14,7 @@ use Rattle.end.specs.declared.End.{End}
 use Rattle.end.specs.State.{noSource, isMember, distanceTo, momentOf}
 use Rattle.end.specs.Records.{within, start, rawAt, recordAt}
 use Rattle.end.specs.Sound.{allOf, allBelow, insideSound, outsideSound, recordSound, spanTests, pairTests, distanceSound, heardTests, nonMemberTests}
+use Rattle.end.specs.Sound.{originSound, attemptsSound}
 use Rattle.end.specs.Sound.{sourceTests, sourceSound, paramsTests, delayIn, soundTests, soundOf}
 use Rattle.end.specs.Ready.{SpanIn, Ranges}
 use Rattle.end.proofs.Tools.{byTest, or-alone}
@@ -23,7 +24,7 @@ use Rattle.end.proofs.Facts.{last-in, among-64}
 use Rattle.end.proofs.Ready.{ready, ranges}
 
 -- a test that holds of each number below n
-all-intro : (f : ℕ → Bool) (n : ℕ) → ((i : ℕ) → i < n → f i ≡ true) → allBelow f n ≡ true
+pub all-intro : (f : ℕ → Bool) (n : ℕ) → ((i : ℕ) → i < n → f i ≡ true) → allBelow f n ≡ true
 unfolding allBelow
 all-intro f zero h = refl
 all-intro f (suc n) h = λ i. all-intro f n (λ k l. h k (omega arith)) i && h n (omega arith) i
@@ -44,6 +45,9 @@ pub record SoundSource (me : Host) (next clock : ℕ) (member : Bool) (h : Host)
   pub inside : (n : ℕ) → within (s .span) n ≡ true → insideSound me h (s .pair) (recordAt s n) (recordAt s n .slot) ≡ true
   pub outside : (n : ℕ) → start (s .span) ≤ n → n < start (s .span) + 64 → within (s .span) n ≡ false
       → outsideSound (rawAt (s .names) n) (rawAt (s .names) n .slot) ≡ true
+  pub attempts : length (s .attempts) ≡ 64
+  pub origin : originSound (sameHost h me) (s .span) (s .origin) ≡ true
+  pub marks : attemptsSound me (s .origin) (s .attempts) 64 ≡ true
 
 module _ (me : Host) (next clock : ℕ) (member : Bool) (h : Host) (s : Source) where
   pub source-facts : sourceSound me next clock member h s ≡ true → SoundSource me next clock member h s
@@ -65,6 +69,9 @@ module _ (me : Host) (next clock : ℕ) (member : Bool) (h : Host) (s : Source) 
         pair = nth tests 6 t;
         inside = λ n w. let i = among-64 (s .span) n ends w in rw (at-inside s n w) (rw w at (records n (i .0) (i .1)));
         outside = λ n a b w. rw w at (records n a b);
+        attempts = eqb-true (length (s .attempts)) 64 (nth tests 7 t);
+        origin = nth tests 8 t;
+        marks = nth tests 9 t;
       }
 
   -- first..last of a sound source
@@ -74,12 +81,14 @@ module _ (me : Host) (next clock : ℕ) (member : Bool) (h : Host) (s : Source) 
   pub source-sound : SoundSource me next clock member h s → sourceSound me next clock member h s ≡ true
   source-sound q =
       let names = eq-eqb (length (s .names)) 64 (q .names) in
+      let attempts = eq-eqb (length (s .attempts)) 64 (q .attempts) in
       let aside = or-else member (allOf (nonMemberTests (sameHost h me) s)) (q .aside) in
       let low = start (s .span) in
       let records = all-intro (λ i. recordSound me h (s .pair) (s .span) (low + i) (rawAt (s .names) (low + i))) 64
       (λ i l. let n = low + i in
       byTest (within (s .span) n) (λ w. rw w (rw (at-inside s n w) at (q .inside n w))) (λ w. rw w (q .outside n (omega arith) (omega arith) w))) in
-      λ i. allOf (names i ∷ q .span i ∷ q .distance i ∷ q .heard i ∷ aside i ∷ records i ∷ q .pair i ∷ [])
+      λ i.
+      allOf (names i ∷ q .span i ∷ q .distance i ∷ q .heard i ∷ aside i ∷ records i ∷ q .pair i ∷ attempts i ∷ q .origin i ∷ q .marks i ∷ [])
 
 -- ---- the end
 pub record SoundState (e : End) : Type 0 where

@@ -1,11 +1,13 @@
 pub mod Questions
 pub mod Facts
 pub mod Records
+pub mod Attempts
 pub mod Sources
 pub mod Rises
 pub mod Ends
 pub mod Readings
 pub mod Members
+pub mod Fetches
 pub mod Moves
 pub mod Stays
 pub mod Clocks
@@ -14,3 +16,4 @@ pub mod Gathered
 pub mod Written
 pub mod Chosen
 pub mod Outputs
+pub mod Lates

@@ -2,7 +2,7 @@
 use mathlib.Core.Path.{_≡_, refl, ap, sym, _∙_}
 use Prim.Native.Nat.{ℕ, _+_, _≤_, _<_, _-_}
 use native.Mathlib.Omega.{arith}
-use mathlib.Core.Bool.{Bool, true, false, not, _||_, _&&_}
+use mathlib.Core.Bool.{Bool, true, false, not, _&&_}
 use mathlib.Core.List.{List, [], _∷_}
 use lib.ListN.{length}
 use lib.Dec.{eqb, leb}
@@ -47,7 +47,7 @@ use Rattle.end.proofs.Tools.{byCond, clash}
 use Rattle.invariants.specs.Outputs.{keptUnder, pairOf}
 use Rattle.invariants.proofs.Facts.{SoundSource, SoundState, ranges-of}
 use Rattle.invariants.proofs.Records.{held-in, reply-from}
-use Rattle.invariants.proofs.Rises.{open-kept, rise-kept, rise-by-data-kept, risen-within}
+use Rattle.invariants.proofs.Rises.{original-kept, rise-kept, rise-by-data-kept, risen-within}
 use Rattle.invariants.proofs.Sources.{stands, hold-kept, round-kept, next-round-kept, reply-kept, quiet-kept, dropped-kept, pair-kept}
 use Rattle.invariants.proofs.Ends.{stands-as, there, source-kept}
 
@@ -119,8 +119,7 @@ module _ (t : Moment) (us : List ℕ) (drawn : Drawn us) (w : Word) (v : WordIn 
   kept : (d : Decision) → Grounds t w (known w s) (s .span) d → SoundSource (t .me) next (t .clock) member (w .name .source) (apply t us w d s)
   unfolding Grounds apply Sounds
   kept (Ignores why) g = q
-  kept Opens g =
-      open-kept s q (g .1) (number w) (w .cue) (v .long) (v .cue) next joined (v .number) (λ i. not (v .original (g .0) i) || eqb (number w + 1) next)
+  kept Opens g = original-kept s q (g .1) (w .name .number) (w .cue) (v .long) (v .cue) joined (v .number) (v .original (g .0))
   kept Takes g = takes (v .original (g .0)) (g .1)
   kept Repairs g = repairs (wanted (g .1)) (g .1 .missing)
   kept Hushes g = paired-kept (quietReply t (number w) (w .distance) s) (quiet-kept s q joined (number w) t us drawn (w .distance) (v .distance) (g .1))
@@ -188,6 +187,9 @@ module _ (us : List ℕ) (drawn : Drawn us) (m : Meaning) (hs : m .sender .0 < 8
         pair = q .pair;
         inside = q .inside;
         outside = q .outside;
+        attempts = q .attempts;
+        origin = q .origin;
+        marks = q .marks;
       })
 
   -- the reports one by one, and then the sender's source

@@ -20,7 +20,7 @@ use Rattle.end.specs.declared.Span.{Span}
 use Rattle.end.specs.declared.Span.the-variants.{Closed, Open}
 use Rattle.end.specs.declared.Source.{Source}
 use Rattle.end.specs.declared.End.{End}
-use Rattle.end.specs.State.{noSource, isMember, sourceAt, momentOf}
+use Rattle.end.specs.State.{noSource, isMember, isCrashed, sourceAt, momentOf}
 use Rattle.end.specs.Sound.{allOf, spanTests}
 use Rattle.end.specs.Answer.{Step}
 use Rattle.end.specs.Event.{moves, movesTo, clears, cleared, movedEnd, moveOf, sentSource, sentEnd}
@@ -43,6 +43,13 @@ kept-from Joined Member c t = clash′ t
 kept-from Leave Member c t = clash c
 kept-from Left Member c t = clash′ t
 kept-from Crash Member c t = clash c
+
+pub member-not-crashed : (x : Status) → isMember x ≡ true → isCrashed x ≡ false
+member-not-crashed Idle m = refl
+member-not-crashed Joining m = refl
+member-not-crashed Member m = refl
+member-not-crashed Leaving m = refl
+member-not-crashed Crashed m = clash′ m
 
 pub move-kept : (m : Move) (e : End) → SoundState e → SoundState (moveOf m e .left)
 unfolding moveOf movedEnd

@@ -10,12 +10,15 @@ use borrow.Author.Tests.{eqb-true, ltb-true, not-true}
 use Rattle.numbers.specs.Number.{valueAfter}
 use Rattle.message.specs.declared.Host.{Host}
 use Rattle.message.specs.declared.NameEntry.{NameEntry}
+use Rattle.message.specs.declared.HostRule.{HostRule}
+use Rattle.message.specs.declared.HostRule.the-variants.{AnotherOfAnother}
 use Rattle.message.specs.Cue.{cueIn}
 use Rattle.message.specs.Section.{all}
 use Rattle.message.specs.Entry.{blankName, blankCue}
 use Rattle.message.specs.Kind.{rowOf}
-use Rattle.message.specs.Message.{DATA, RQST, XPRS, mostNumber, Meaning, meaningFrom, countsOf}
-use Rattle.message.specs.Question.{ask, firstNo, messageQuestions, kindHasCounts, inRange, hostsFit, hostIn, numberIn, ticksIn, nameIn, reportIn, hostFits, sameHost}
+use Rattle.message.specs.Message.{DATA, RQST, XPRS, FTCH, mostNumber, Meaning, meaningFrom, countsOf}
+use Rattle.message.specs.Question.{ask, firstNo, messageQuestions, kindHasCounts, inRange, hostsFit, hostIn, numberIn, ticksIn, nameIn, reportIn}
+use Rattle.message.specs.Question.{ruleHolds, hostFits, sameHost}
 use Rattle.message.proofs.QuestionLaws.{and-both, all-passed, counted}
 use Rattle.message.proofs.SectionLaws.{All, none, some}
 use Rattle.message.proofs.EntryLaws.{CueFits}
@@ -62,14 +65,16 @@ asker sender (a ∷ l) n h =
     let parts = and-both (sameHost (a .host) sender) (not (sameHost (a .host) (a .name .source))) both in
     ap (λ (k : ℕ). eqb k (a .name .source .0)) (sym (eqb-true (a .host .0) (sender .0) (parts .0))) ∙ not-true (sameHost (a .host) (a .name .source)) (parts .1)
 
--- an XPRS has one name, whose source is not its sender
-express-asker : (sender : Host) (l : List NameEntry) → length l ≡ 1 → all (hostFits XPRS sender) l ≡ true
-    → sameHost sender (getD l 0 blankName .name .source) ≡ false
+-- an XPRS and a kind 22 have one name, whose source is not the sender
+express-asker : (kind : ℕ) → rowOf kind .host ≡ AnotherOfAnother → (sender : Host) (l : List NameEntry) → length l ≡ 1
+    → all (hostFits kind sender) l ≡ true → sameHost sender (getD l 0 blankName .name .source) ≡ false
 unfolding all
-express-asker sender [] n h = absurd (omega arith)
-express-asker sender (a ∷ l) n h =
+express-asker kind rule sender [] n h = absurd (omega arith)
+express-asker kind rule sender (a ∷ l) n h =
     let source = a .name .source in
-    let both : not (sameHost (a .host) sender) && not (sameHost source sender) ≡ true = and-both (hostFits XPRS sender a) (all (hostFits XPRS sender) l) h .0 in
+    let both : not (sameHost (a .host) sender) && not (sameHost source sender) ≡ true =
+    ap (λ (r : HostRule). ruleHolds r (sameHost (a .host) source) (sameHost (a .host) sender) (sameHost source sender)) (sym rule)
+    ∙ and-both (hostFits kind sender a) (all (hostFits kind sender) l) h .0 in
     eqb-flip (source .0) (sender .0) (not-true (sameHost source sender) (and-both (not (sameHost (a .host) sender)) (not (sameHost source sender)) both .1))
 
 module _ (x : List ℕ) (h : firstNo (messageQuestions x) ≡ 0) where
@@ -116,6 +121,13 @@ module _ (x : List ℕ) (h : firstNo (messageQuestions x) ≡ 0) where
   pub asked-source : eqb (meaningFrom x .kind) RQST ≡ true → sameHost (meaningFrom x .sender) (messageName (meaningFrom x) .source) ≡ false
   asked-source k = let v = names-fit RQST k in asker (meaningFrom x .sender) (meaningFrom x .names) (v .0) (v .1)
 
-  -- nor is that of an XPRS
+  -- nor is that of an XPRS or of a kind 22
+  express-from : (k : ℕ) → rowOf k .host ≡ AnotherOfAnother → rowOf k .names ≡ 1 → eqb (meaningFrom x .kind) k ≡ true
+      → sameHost (meaningFrom x .sender) (messageName (meaningFrom x) .source) ≡ false
+  express-from k rule one same = let v = names-fit k same in express-asker k rule (meaningFrom x .sender) (meaningFrom x .names) (v .0 ∙ one) (v .1)
+
   pub express-source : eqb (meaningFrom x .kind) XPRS ≡ true → sameHost (meaningFrom x .sender) (messageName (meaningFrom x) .source) ≡ false
-  express-source k = let v = names-fit XPRS k in express-asker (meaningFrom x .sender) (meaningFrom x .names) (v .0) (v .1)
+  express-source = express-from XPRS refl refl
+
+  pub fetch-source : eqb (meaningFrom x .kind) FTCH ≡ true → sameHost (meaningFrom x .sender) (messageName (meaningFrom x) .source) ≡ false
+  fetch-source = express-from FTCH refl refl

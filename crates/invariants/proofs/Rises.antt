@@ -18,15 +18,17 @@ use Rattle.message.specs.Entry.{asNumber}
 use Rattle.end.specs.declared.Express.{Express}
 use Rattle.end.specs.declared.Express.the-variants.{Unset, Soon}
 use Rattle.end.specs.declared.Record.{Record}
+use Rattle.end.specs.declared.Origin.{Origin}
+use Rattle.end.specs.declared.Origin.the-variants.{NoOrigin, From}
 use Rattle.end.specs.declared.Source.{Source}
 use Rattle.end.specs.declared.Moment.{Moment}
 use Rattle.end.specs.declared.Span.{Span}
 use Rattle.end.specs.declared.Span.the-variants.{Closed, Open}
-use Rattle.end.specs.State.{noRecord, blankRecord}
+use Rattle.end.specs.State.{noRecord, blankRecord, withNames, withOrigin}
 use Rattle.end.specs.Records.{within, isAbove, start, place, rawAt, recordAt}
 use Rattle.end.specs.Round.{Drawn, requestAt}
 use Rattle.end.specs.Names.{expressed, isRequester, asked, askedByData, holding, hold, filled, holdsCue, riseWith, rise, riseByData, openAt}
-use Rattle.end.specs.Sound.{allOf, timeLimit, spanTests, expressSound, insideSound, outsideSound}
+use Rattle.end.specs.Sound.{allOf, timeLimit, spanTests, expressSound, insideSound, outsideSound, originSound, attemptsSound}
 use Rattle.end.specs.Event.{extended}
 use Rattle.end.specs.Ready.{SpanIn, Ranges}
 use Rattle.end.proofs.Tools.{byCond, clash}
@@ -37,6 +39,7 @@ use Rattle.end.proofs.RiseLaws.{firstNow, lastNow, raw-over, rise-length, rise-
 use Rattle.end.proofs.Facts.{narrow}
 use Rattle.invariants.proofs.Facts.{SoundSource, span-in}
 use Rattle.invariants.proofs.Records.{round-in, asking-sound, holding-sound, outside-hush, requester-kept}
+use Rattle.invariants.proofs.Attempts.{none-before, origin-up, marks-opened}
 
 -- the tests of first and last, by what these are
 tests-of : {me : Host} {next clock : ℕ} {member : Bool} {h : Host} (s : Source) → SoundSource me next clock member h s → (x : Span) → s .span ≡ x
@@ -57,42 +60,50 @@ module _ {me : Host} {next clock : ℕ} {member : Bool} {h : Host} (s : Source) 
   none-missed : s .missed ≡ 0
   none-missed = eqb-true (s .missed) 0 (tests-of s q Closed p)
 
-  module _ (n : ℕ) (cue : List ℕ) (long : length cue ≡ 24) (fits : cueIn cue ≡ true) where
+  -- there was no original
+  none-yet : s .origin ≡ NoOrigin
+  none-yet = none-before (sameHost h me) (s .origin) (ap (λ (x : Span). originSound (sameHost h me) x (s .origin)) (sym p) ∙ q .origin)
+
+  module _ (n : ℕ) (cue : List ℕ) (long : length cue ≡ 24) (fits : cueIn cue ≡ true) (x : Origin) where
+    abbrev fresh : Source
+    fresh = withOrigin (openAt n s) x
+
     opened : Record
-    opened = holding (recordAt (openAt n s) n) cue
+    opened = holding (recordAt fresh n) cue
 
     opened-sound : insideSound me h (s .pair) opened (opened .slot) ≡ true
     unfolding opened
     opened-sound =
         let now = within-in n n n (omega arith) (omega arith) in
-        holding-sound me h (s .pair) (recordAt (openAt n s) n) cue
-        (rw (at-inside (openAt n s) n now) (outside-hush me h (rawAt (s .names) n) (rawAt (s .names) n .slot) (closed-blank n))) long fits
+        holding-sound me h (s .pair) (recordAt fresh n) cue
+        (rw (at-inside fresh n now) (outside-hush me h (rawAt (s .names) n) (rawAt (s .names) n .slot) (closed-blank n))) long fits
 
     opened-inside : (j : ℕ) → within (Open (asNumber n) (asNumber n)) j ≡ true
-        → let r = recordAt (hold n cue (openAt n s)) j in insideSound me h (s .pair) r (r .slot) ≡ true
+        → let r = recordAt (hold n cue fresh) j in insideSound me h (s .pair) r (r .slot) ≡ true
     unfolding opened
     opened-inside j w =
         let i = inside n n j w in
         let same : n ≡ j = omega (arith, i .low, i .high) in
-        subst (λ (k : ℕ). let r = recordAt (hold n cue (openAt n s)) k in insideSound me h (s .pair) r (r .slot) ≡ true) same
-        (rw (read-same (openAt n s) n opened (within-in n n n (omega arith) (omega arith)) (q .names)) opened-sound)
+        subst (λ (k : ℕ). let r = recordAt (hold n cue fresh) k in insideSound me h (s .pair) r (r .slot) ≡ true) same
+        (rw (read-same fresh n opened (within-in n n n (omega arith) (omega arith)) (q .names)) opened-sound)
 
     opened-outside : (j : ℕ) → n ≤ j → j < n + 64 → within (Open (asNumber n) (asNumber n)) j ≡ false
-        → let r = rawAt (hold n cue (openAt n s) .names) j in outsideSound r (r .slot) ≡ true
+        → let r = rawAt (hold n cue fresh .names) j in outsideSound r (r .slot) ≡ true
     unfolding opened
     opened-outside j a b w = by-order n j
         (λ l. rw (raw-other (s .names) n j opened (λ e. omega arith)) (closed-blank j))
         (λ l. clash (sym (within-in n n j (omega arith) (omega arith)) ∙ w))
 
-    pub open-kept : (next′ : ℕ) → member ≡ true → n < 65536 → (not (sameHost h me) || eqb (n + 1) next′) ≡ true
-        → SoundSource me next′ clock member h (hold n cue (openAt n s))
-    open-kept next′ joined hn own =
+    open-kept : (next′ : ℕ) → member ≡ true → n < 65536 → (not (sameHost h me) || eqb (n + 1) next′) ≡ true
+        → originSound (sameHost h me) (Open (asNumber n) (asNumber n)) x ≡ true → attemptsSound me x (s .attempts) 64 ≡ true
+        → SoundSource me next′ clock member h (hold n cue fresh)
+    open-kept next′ joined hn own from marks =
         let up = le-leb n n (omega arith) in
         let top = lt-ltb n 65536 hn in
         let near = le-leb n (n + 63) (omega arith) in
         let counted = le-leb (s .missed) n (omega (arith, none-missed)) in
         record {
-          names = stored-length (openAt n s) n _ ∙ q .names;
+          names = stored-length fresh n _ ∙ q .names;
           span = λ i. allOf (up i ∷ top i ∷ own i ∷ near i ∷ counted i ∷ []);
           distance = q .distance;
           heard = q .heard;
@@ -100,7 +111,24 @@ module _ {me : Host} {next clock : ℕ} {member : Bool} {h : Host} (s : Source) 
           pair = q .pair;
           inside = opened-inside;
           outside = opened-outside;
+          attempts = q .attempts;
+          origin = from;
+          marks = marks;
         }
+
+  -- by an original of another, whose number is kept
+  pub original-kept : (n : CueNumber) (cue : List ℕ) → length cue ≡ 24 → cueIn cue ≡ true → member ≡ true → n .0 < 65536 → sameHost h me ≡ false
+      → SoundSource me next clock member h (hold (n .0) cue (withOrigin (openAt (n .0) s) (From n)))
+  original-kept n cue long fits joined hn other =
+      let top = le-leb (n .0) (n .0) (omega arith) in
+      open-kept (n .0) cue long fits (From n) next joined hn (λ i. not (other i) || eqb (n .0 + 1) next) (λ i. not (other i) && top i)
+      (marks-opened me (s .attempts) n (subst (λ (x : Origin). attemptsSound me x (s .attempts) 64 ≡ true) none-yet (q .marks)))
+
+  -- by the first cue that the end sends itself
+  own-kept : (n : ℕ) (cue : List ℕ) → length cue ≡ 24 → cueIn cue ≡ true → (next′ : ℕ) → member ≡ true → n < 65536
+      → (not (sameHost h me) || eqb (n + 1) next′) ≡ true → sameHost h me ≡ true → SoundSource me next′ clock member h (hold n cue (openAt n s))
+  own-kept n cue long fits next′ joined hn own same =
+      open-kept n cue long fits (s .origin) next′ joined hn own (ap (originSound (sameHost h me) (Open (asNumber n) (asNumber n))) none-yet ∙ same) (q .marks)
 
 -- ---- last of an open source rises, where the records of new numbers are sound
 module _ {me : Host} {next clock : ℕ} {member : Bool} {h : Host} (s : Source) (q : SoundSource me next clock member h s) (new : ℕ → Record) (n : ℕ)
@@ -155,6 +183,12 @@ module _ {me : Host} {next clock : ℕ} {member : Bool} {h : Host} (s : Source) 
       (q .outside j (omega arith) (omega arith) (ap (λ (x : Span). within x j) p ∙ within-above (first .0) (last .0) j (omega arith))))
       (λ l. clash (sym (within-in low high j a l) ∙ w))
 
+  risen-origin : originSound (sameHost h me) (risen .span) (s .origin) ≡ true
+  unfolding riseWith
+  risen-origin =
+      origin-up (sameHost h me) (s .origin) first last (asNumber low) (asNumber high)
+      (ap (λ (x : Span). originSound (sameHost h me) x (s .origin)) (sym p) ∙ q .origin) (omega arith)
+
   rise-open : (next′ : ℕ) → member ≡ true → n < 65536 → (not (sameHost h me) || eqb (high + 1) next′) ≡ true
       → ((j : ℕ) → insideSound me h (s .pair) (new j) (new j .slot) ≡ true) → SoundSource me next′ clock member h risen
   unfolding riseWith
@@ -167,6 +201,9 @@ module _ {me : Host} {next clock : ℕ} {member : Bool} {h : Host} (s : Source) 
     pair = q .pair;
     inside = risen-inside good;
     outside = risen-outside;
+    attempts = q .attempts;
+    origin = risen-origin;
+    marks = q .marks;
   }
 
 -- ---- last of another's source rises: the new numbers are asked for
@@ -232,7 +269,7 @@ sent-rises t us cue n s first last p ends long up =
     let r : recordAt x n ≡ new n = rw (rise-at new n s (Open first last) p long n, w, lt-ltb k n (omega arith)) in
     let names : hold n cue x .names ≡ riseWith (λ _. holding blankRecord cue) n s (Open first last) .names =
     rw (r, l, from, one) (set-set (s .names) (place n) (new n) (holding blankRecord cue)) in
-    λ i. record { span = x .span; missed = x .missed; pair = s .pair; distance = s .distance; heard = s .heard; names = names i }
+    λ i. withNames x (names i)
 
 module _ (t : Moment) (us cue : List ℕ) (long : length cue ≡ 24) (fits : cueIn cue ≡ true) (me : Host) (next clock : ℕ) (hn : next < 65536) (member : Bool)
     (joined : member ≡ true) (s : Source) (q : SoundSource me next clock member me s) where
@@ -240,7 +277,7 @@ module _ (t : Moment) (us cue : List ℕ) (long : length cue ≡ 24) (fits : cue
   own-next m e = ap (λ (b : Bool). not (sameHost me me) || b) (eq-eqb (m + 1) (next + 1) (omega arith)) ∙ or-true (not (sameHost me me))
 
   pub sent-kept : (x : Span) → s .span ≡ x → SoundSource me (next + 1) clock member me (hold next cue (extended t us next s x))
-  sent-kept Closed p = open-kept s q p next cue long fits (next + 1) joined hn (own-next next refl)
+  sent-kept Closed p = own-kept s q p next cue long fits (next + 1) joined hn (own-next next refl) (eq-eqb (me .0) (me .0) refl)
   sent-kept (Open first last) p =
       let tests = spanTests (sameHost me me) next (s .missed) (Open first last) in
       let own : (not (sameHost me me) || eqb (last .0 + 1) next) ≡ true = nth tests 2 (tests-of s q (Open first last) p) in

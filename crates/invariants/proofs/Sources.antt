@@ -71,6 +71,9 @@ module _ {me : Host} {next clock : ℕ} {member : Bool} {h : Host} (s : Source) 
       inside = λ j v. store-elim (λ (y : Record). insideSound me h (s .pair) y (y .slot) ≡ true) s n r j
           (narrow (s .span) (span-in me next clock member h s q)) w (q .names) (λ _. p) (q .inside j v);
       outside = λ j a b v. rw (raw-other (s .names) n j r (apart-outside j w a b v)) (q .outside j a b v);
+      attempts = q .attempts;
+      origin = q .origin;
+      marks = q .marks;
     }
 
     -- a cue is held under a name inside first..last
@@ -150,4 +153,7 @@ module _ (me requester sender : Host) (n : CueNumber) (hr : requester .0 < 8) (h
         paired-sound me h (s .pair) (latest (s .pair) requester sender n) (recordAt s j) (recordAt s j .slot)
         (latest-kept (s .pair) requester sender n) (q .inside j w);
     outside = q .outside;
+    attempts = q .attempts;
+    origin = q .origin;
+    marks = q .marks;
   }

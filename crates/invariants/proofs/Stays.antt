@@ -9,7 +9,7 @@ use lib.Dec.{eqb}
 use borrow.Author.Tests.{eqb-true, ltb-true}
 use Rattle.message.specs.declared.Host.{Host}
 use Rattle.message.specs.Entry.{asHost}
-use Rattle.message.specs.Message.{DATA, RQST, REPL, XPRS, meaningFrom}
+use Rattle.message.specs.Message.{DATA, RQST, REPL, XPRS, FTCH, LATE, meaningFrom}
 use Rattle.message.specs.Question.{ask, firstNo, hostIn, messageQuestions, sameHost}
 use Rattle.message.proofs.QuestionLaws.{and-both, all-passed}
 use Rattle.end.specs.declared.Params.{Params}
@@ -23,7 +23,7 @@ use Rattle.end.specs.Sound.{allOf, paramsTests, delayIn, soundOf}
 use Rattle.end.specs.Answer.{Step, Result}
 use Rattle.end.specs.Arrival.{messageName, requesterIn, wordOf, wordStep, messageStep, arrivalOf}
 use Rattle.end.specs.Fire.{earliest}
-use Rattle.end.specs.Event.{Action, Moves, Send, Arrival, Else, Other, Fire, Report, otherOf, actOf, stepOf, ownQuestions, questionOf, eventOf}
+use Rattle.end.specs.Event.{Action, Moves, Send, Arrival, Else, Other, Fire, Report, Fetch, otherOf, actOf, stepOf, ownQuestions, questionOf, eventOf}
 use Rattle.end.specs.Opening.{constrainedTests, openRefusal, houseParams, endFor, openingOf}
 use Rattle.end.specs.Run.{CueArray}
 use Rattle.end.proofs.Tools.{byCond, clash′}
@@ -34,6 +34,7 @@ use Rattle.invariants.proofs.Readings.{message-in, data-source, asked-s
 use Rattle.invariants.proofs.Ends.{clock-kept, unheard-kept}
 use Rattle.invariants.proofs.Moves.{move-kept, send-kept}
 use Rattle.invariants.proofs.Members.{step-kept, session-kept, fired-kept}
+use Rattle.invariants.proofs.Fetches.{fetch-kept, fetched-kept, handed-kept}
 use Rattle.invariants.proofs.Questions.{passes, send-asked}
 
 -- ---- an opening
@@ -118,7 +119,9 @@ module _ (e : End) (f : SoundState e) (us : List ℕ) (drawn : Drawn us) (member
         (λ _. byCond Leaves (eqb (m .kind) RQST) (word-kept Rqst)
         (λ _. byCond Leaves (eqb (m .kind) REPL) (word-kept Repl)
         (λ _. byCond Leaves (eqb (m .kind) XPRS) (word-kept Xprs)
-        (λ _. session-kept us drawn m (v .sender) (v .stamp) e f member other (v .reports)))))
+        (λ _. byCond Leaves (eqb (m .kind) FTCH) (λ _. fetched-kept e f m)
+        (λ _. byCond Leaves (eqb (m .kind) LATE) (λ _. handed-kept e f m (v .source))
+        (λ _. session-kept us drawn m (v .sender) (v .stamp) e f member other (v .reports)))))))
 
   arrival-kept : (x : List ℕ) → firstNo (messageQuestions x) ≡ 0 → Leaves (arrivalOf us (meaningFrom x) e)
   unfolding arrivalOf
@@ -127,6 +130,7 @@ module _ (e : End) (f : SoundState e) (us : List ℕ) (drawn : Drawn us) (member
   other-kept : (o : Other) → Leaves (otherOf us o e)
   other-kept Fire = fired-kept e f member us drawn (earliest e 8)
   other-kept Report = f
+  other-kept (Fetch name) = fetch-kept e f name
 
 -- ---- every event
 act-kept : (us : List ℕ) → Drawn us → (a : Action) (e : End) (t : ℕ) → SoundState (withClock e t) → CueArray a → firstNo (ownQuestions a e) ≡ 0

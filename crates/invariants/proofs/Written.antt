@@ -3,7 +3,7 @@ use mathlib.Core.Path.{_≡_, refl, sym, ap, _∙_}
 use Prim.Native.Nat.{ℕ, zero, suc, _-_, _≤_, _<_}
 use native.Mathlib.Omega.{arith}
 use mathlib.Core.Bool.{Bool, true, false, not, _&&_}
-use mathlib.Core.List.{List, []}
+use mathlib.Core.List.{List, [], _∷_}
 use lib.ListN.{length, getD, length-append}
 use borrow.Author.Tests.{eq-eqb, lt-ltb, le-leb, ltb-true}
 use Rattle.numbers.proofs.Cases.{by-order}
@@ -13,7 +13,9 @@ use Rattle.message.specs.declared.Echo.{Echo}
 use Rattle.message.specs.Cue.{cueIn}
 use Rattle.message.specs.Section.{all, rises}
 use Rattle.message.specs.Entry.{asHost}
-use Rattle.message.specs.Message.{DATA, RQST, REPL, SESS, XPRS, countsOf}
+use Rattle.message.specs.declared.HostRule.the-variants.{NeitherSenderNorSource, AnotherOfAnother}
+use Rattle.message.specs.Kind.{rowOf, mostNumber}
+use Rattle.message.specs.Message.{DATA, RQST, SESS, countsOf}
 use Rattle.message.specs.Question.{firstNo, meaningQuestions, kindHasCounts, inRange, hostsFit, hostIn, reportIn, echoIn, notFrom, reportSource, echoHost, sameHost, ticksIn}
 use Rattle.message.proofs.QuestionLaws.{and-both}
 use Rattle.end.specs.declared.Span.{Span}
@@ -23,14 +25,14 @@ use Rattle.end.specs.declared.Heard.the-variants.{Never, At}
 use Rattle.end.specs.declared.End.{End}
 use Rattle.end.specs.State.{noSource, momentOf}
 use Rattle.end.specs.Sound.{allOf, spanTests, heardTests}
-use Rattle.end.specs.Messages.{dataMessage, requestMessage, expressMessage, repairMessage, sessionMessage, reportOn, echoOn, reportsBelow, echoesBelow}
+use Rattle.end.specs.Messages.{aboutName, dataMessage, requestMessage, sessionMessage, reportOn, echoOn, reportsBelow, echoesBelow}
 use Rattle.end.specs.Event.{ownName}
 use Rattle.end.proofs.SoundLaws.{nth}
 use Rattle.end.proofs.Tools.{clash′}
 use Rattle.invariants.proofs.Facts.{SoundState}
 use Rattle.invariants.proofs.Gathered.{One, nothing, single, one-most, all-weaken, Gathered, gathered-none, gathered-more}
 
--- ---- DATA, RQST, XPRS and REPL
+-- ---- the messages about a name
 module _ (e : End) (f : SoundState e) where
   host-in : hostIn (e .host) ≡ true
   host-in = lt-ltb (e .host .0) 8 (f .host)
@@ -48,17 +50,21 @@ module _ (e : End) (f : SoundState e) where
   request-passes name hs hn other =
       rw (host-in, clock-in, lt-ltb (name .source .0) 8 hs, le-leb (name .number .0) 65535 (omega arith), eq-eqb (e .host .0) (e .host .0) refl, other)
 
-  pub express-passes : (name : Name) (k : Host) → name .source .0 < 8 → name .number .0 < 65536 → k .0 < 8 → sameHost k (e .host) ≡ false
-      → sameHost (name .source) (e .host) ≡ false → firstNo (meaningQuestions XPRS (expressMessage (momentOf e) name k)) ≡ 0
+  -- of a kind whose host is another than the sender, as is the source: XPRS and 22
+  pub asking-passes : (kind : ℕ) → mostNumber kind ≡ 65535 → rowOf kind .host ≡ AnotherOfAnother → (name : Name) (k : Host) → name .source .0 < 8
+      → name .number .0 < 65536 → k .0 < 8 → sameHost k (e .host) ≡ false → sameHost (name .source) (e .host) ≡ false
+      → firstNo (meaningQuestions kind (aboutName kind (momentOf e) name k [])) ≡ 0
   unfolding inRange hostsFit all rises
-  express-passes name k hs hn hk a b =
-      rw (host-in, clock-in, lt-ltb (name .source .0) 8 hs, le-leb (name .number .0) 65535 (omega arith), lt-ltb (k .0) 8 hk, a, b)
+  asking-passes kind most rule name k hs hn hk a b =
+      rw (most, rule, host-in, clock-in, lt-ltb (name .source .0) 8 hs, le-leb (name .number .0) 65535 (omega arith), lt-ltb (k .0) 8 hk, a, b)
 
-  pub repair-passes : (name : Name) (k : Host) (cue : List ℕ) → name .source .0 < 8 → name .number .0 < 65536 → k .0 < 8 → cueIn cue ≡ true
-      → sameHost k (e .host) ≡ false → sameHost k (name .source) ≡ false → firstNo (meaningQuestions REPL (repairMessage (momentOf e) name k cue)) ≡ 0
+  -- of a kind that carries a cue, and whose host is neither the sender nor the source: REPL and 23
+  pub carrying-passes : (kind : ℕ) → mostNumber kind ≡ 65535 → rowOf kind .host ≡ NeitherSenderNorSource → (name : Name) (k : Host) (cue : List ℕ)
+      → name .source .0 < 8 → name .number .0 < 65536 → k .0 < 8 → cueIn cue ≡ true → sameHost k (e .host) ≡ false → sameHost k (name .source) ≡ false
+      → firstNo (meaningQuestions kind (aboutName kind (momentOf e) name k (cue ∷ []))) ≡ 0
   unfolding inRange hostsFit all rises
-  repair-passes name k cue hs hn hk fits a b =
-      rw (host-in, clock-in, lt-ltb (name .source .0) 8 hs, le-leb (name .number .0) 65535 (omega arith), lt-ltb (k .0) 8 hk, fits, a, b)
+  carrying-passes kind most rule name k cue hs hn hk fits a b =
+      rw (most, rule, host-in, clock-in, lt-ltb (name .source .0) 8 hs, le-leb (name .number .0) 65535 (omega arith), lt-ltb (k .0) 8 hk, fits, a, b)
 
   -- ---- SESS: the reports
   report-one : (k : ℕ) → k < 8 → (own : Bool) (next missed : ℕ) (x : Span) → allOf (spanTests own next missed x) ≡ true
@@ -85,8 +91,8 @@ module _ (e : End) (f : SoundState e) where
   echo-one : (k : ℕ) → k < 8 → (x : Heard) → allOf (heardTests (sameHost (asHost k) (e .host)) (e .clock) x) ≡ true → One isEcho echoHost k (echoOn (asHost k) (e .clock) x)
   unfolding isEcho
   echo-one k hk Never h = nothing
-  echo-one k hk (At stamp when) h =
-      let tests = heardTests (sameHost (asHost k) (e .host)) (e .clock) (At stamp when) in
+  echo-one k hk (At stamp when reported) h =
+      let tests = heardTests (sameHost (asHost k) (e .host)) (e .clock) (At stamp when reported) in
       let held = lt-ltb (e .clock - when) 281474976710656 (omega (arith, f .clock)) in
       single refl (λ i. (lt-ltb k 8 hk i && (nth tests 1 h i && held i)) && nth tests 0 h i)
 
@@ -101,8 +107,8 @@ module _ (e : End) (f : SoundState e) where
 
   own-none : (x : Heard) → allOf (heardTests (sameHost (e .host) (e .host)) (e .clock) x) ≡ true → echoOn (e .host) (e .clock) x ≡ []
   own-none Never h = refl
-  own-none (At stamp when) h =
-      clash′ (ap not (sym (eq-eqb (e .host .0) (e .host .0) refl)) ∙ nth (heardTests (sameHost (e .host) (e .host)) (e .clock) (At stamp when)) 0 h)
+  own-none (At stamp when reported) h =
+      clash′ (ap not (sym (eq-eqb (e .host .0) (e .host .0) refl)) ∙ nth (heardTests (sameHost (e .host) (e .host)) (e .clock) (At stamp when reported)) 0 h)
 
   -- so they are fewer
   echoes-less : (k : ℕ) → k ≤ 8 → e .host .0 < k → length (echoesBelow e k) < k

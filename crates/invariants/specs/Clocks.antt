@@ -22,10 +22,10 @@ ClocksNeverFall = (w : World) (cs : List Call) (h : ℕ) → w .ends h .clock �
 
 -- In a sound state no stamp was heard later than the clock, whichever of the eight hosts it was heard from.
 abbrev pub HeardByNow : Type 0
-HeardByNow = (e : End) → soundOf e ≡ true → (h : Host) → h .0 < 8 → (stamp when : ℕ) → sourceAt e h .heard ≡ At stamp when → when ≤ e .clock
+HeardByNow = (e : End) → soundOf e ≡ true → (h : Host) → h .0 < 8 → (stamp when reported : ℕ) → sourceAt e h .heard ≡ At stamp when reported → when ≤ e .clock
 
 -- So heard times never exceed the clock: after every list of calls on eight ends from openings that were not refused, for each of these
 -- and each host that it may have heard.
 abbrev pub NeverHeardLater : Type 0
-NeverHeardLater = (w : World) → Fresh w → (cs : List Call) → Declared cs → (k : ℕ) → k < 8 → (h : Host) → h .0 < 8 → (stamp when : ℕ)
-    → sourceAt (through w cs .ends k) h .heard ≡ At stamp when → when ≤ through w cs .ends k .clock
+NeverHeardLater = (w : World) → Fresh w → (cs : List Call) → Declared cs → (k : ℕ) → k < 8 → (h : Host) → h .0 < 8 → (stamp when reported : ℕ)
+    → sourceAt (through w cs .ends k) h .heard ≡ At stamp when reported → when ≤ through w cs .ends k .clock

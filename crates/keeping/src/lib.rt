@@ -54,6 +54,7 @@ fn moved_line(host: Host, what: Event) -> Line
         Event::Arrival => none(),
         Event::Fire => none(),
         Event::Report => none(),
+        Event::Fetch(_) => none(),
     }
 }
 
@@ -95,6 +96,7 @@ fn out_line(host: Host, what: Event, cue: [u8; 24], bytes: &[u8]) -> Line
         Event::Arrival => none(),
         Event::Fire => none(),
         Event::Report => none(),
+        Event::Fetch(_) => none(),
     }
 }
 
@@ -127,6 +129,8 @@ fn line_of(host: Host, what: Event, cue: [u8; 24], a: Answer, out: &[u8]) -> Lin
         Answer::Ignored => none(),
         Answer::Nothing => none(),
         Answer::Clash(_) => none(),
+        Answer::Late(_) => none(),
+        Answer::Exhausted => none(),
     }
 }
 

@@ -15,7 +15,7 @@ use Rattle.end.specs.declared.Event.{Event}
 use Rattle.end.specs.declared.Stepped.{Stepped}
 use Rattle.end.specs.declared.End.{End}
 use Rattle.end.specs.State.{isCrashed, withClock}
-use Rattle.end.specs.Answer.{Effect, Out, Got, Done, Ignored, Nothing, Clash, Step, give, Outcome, Refused, Did, Result, done, answerOf, calledOf, bufferOf, answerNumber, answerValues}
+use Rattle.end.specs.Answer.{Effect, Out, Got, Done, Ignored, Nothing, Clash, Late, Exhausted, Step, give, Outcome, Refused, Did, Result, done, answerOf, calledOf, bufferOf, answerNumber, answerValues}
 use Rattle.end.specs.Event.{Action, actionOf, moves, movedEnd, moveOf, actOf, stepOf, questionOf, eventOf, gives}
 use Rattle.end.proofs.Tools.{clash, clash′}
 use Rattle.link.specs.Promise.{outcomeValues, Promised}
@@ -40,6 +40,8 @@ did-number Done = refl
 did-number Ignored = refl
 did-number Nothing = refl
 did-number (Clash name) = refl
+did-number (Late name cue) = refl
+did-number Exhausted = refl
 
 values : (o : Outcome) → answerValues (answerOf o) ≡ outcomeValues o
 unfolding answerOf
@@ -50,6 +52,8 @@ values (Did Done) = refl
 values (Did Ignored) = refl
 values (Did Nothing) = refl
 values (Did (Clash name)) = refl
+values (Did (Late name cue)) = refl
+values (Did Exhausted) = refl
 
 -- ---- a call
 module _ (e : End) (what : Event) (cue bytes : List ℕ) (clock : ℕ) (draws out : List ℕ) where

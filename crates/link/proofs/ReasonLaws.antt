@@ -2,7 +2,7 @@
 use mathlib.Core.Path.{_≡_, refl, sym, ap, subst, _∙_}
 use Prim.Native.Nat.{ℕ}
 use mathlib.Core.Bool.{Bool, true, false, cond, not}
-use mathlib.Core.List.{List, [], _∷_}
+use mathlib.Core.List.{List, [], _∷_, _++_}
 use mathlib.Core.Option.{Option, none, some}
 use lib.Dec.{eqb, leb}
 use native.Mathlib.Omega.{arith}
@@ -12,22 +12,23 @@ use Rattle.message.specs.Message.{Meaning, meaningOf, meaningFrom}
 use Rattle.message.specs.Question.{ask, firstNo, sameHost, ticksIn, readQuestions, readOf}
 use Rattle.message.proofs.QuestionLaws.{all-passed}
 use Rattle.end.specs.declared.Reason.{Reason}
-use Rattle.end.specs.declared.Reason.the-variants.{Crashed, WrongStatus, OwnMessage}
+use Rattle.end.specs.declared.Reason.the-variants.{Crashed, WrongStatus, OwnMessage, NoFetch}
 use Rattle.end.specs.declared.Why.{Why}
 use Rattle.end.specs.declared.Why.the-variants as why
 use Rattle.end.specs.declared.Event.{Event}
-use Rattle.end.specs.declared.Event.the-variants.{Moves, Send, Arrival, Fire, Report}
+use Rattle.end.specs.declared.Event.the-variants.{Moves, Send, Arrival, Fire, Report, Fetch}
 use Rattle.end.specs.declared.End.{End}
 use Rattle.end.specs.State.{isMember, isCrashed, withClock}
-use Rattle.end.specs.Reasons.{reasons, firstThat}
+use Rattle.end.specs.Reasons.{nameReasons, reasons, firstThat}
 use Rattle.end.specs.Sound.{soundOf}
 use Rattle.end.specs.Event.{Action, moves, actionOf, ownQuestions, stateQuestions}
-use Rattle.end.specs.Why.{reasonHolds, refusedAs, because, whyOf, whyRefusal}
+use Rattle.end.specs.Fetch.{mayFetch}
+use Rattle.end.specs.Why.{noFetchIn, reasonHolds, refusedAs, because, whyOf, whyRefusal}
 use Rattle.end.proofs.Tools.{byTest, byCond}
 use Rattle.end.specs.Arrival.{namedIn}
-use Rattle.end.proofs.ReasonLaws.{later}
+use Rattle.end.proofs.ReasonLaws.{later, orElse, ifNoFetch}
 use Rattle.receive.specs.Reason.{reasonFor}
-use Rattle.receive.proofs.Reasons.{named-later}
+use Rattle.receive.proofs.Reasons.{first-later}
 use Rattle.link.specs.Frame.{readingFor}
 use Rattle.link.specs.Reason.{Heard, firstReason}
 use Rattle.link.proofs.GivenLaws.{heard, countsAs, message-arrives}
@@ -53,6 +54,12 @@ module _ (e : End) (cue : List ℕ) {message : Message} where
   given bytes Arrival p h = arrival-given bytes p h
   given bytes Fire p h = tt
   given bytes Report p h = tt
+  given bytes (Fetch name) p h = tt
+
+-- the first of two lists' reasons
+both : (f : Reason → Bool) (l k : List Reason) → orElse (firstThat f l) (firstThat f k) ≡ firstThat f (l ++ k)
+both f [] k = refl
+both f (x ∷ l) k = byTest (f x) (λ t. rw t) (λ t. rw t (both f l k))
 
 by-member : (b : Bool) (x y : Option Reason) → x ≡ y → cond b x (some WrongStatus) ≡ cond (not b) (some WrongStatus) y
 by-member true x y p = p
@@ -66,11 +73,21 @@ module _ (e : End) (clock : ℕ) (cue : List ℕ) (message : Message) where
   abbrev First : Event → List ℕ → Type 0
   First what bytes = firstReason (countsAs what bytes) (meaningOf message) (withClock e clock) ≡ firstThat (reasonHolds e clock (actionOf what cue bytes)) reasons
 
+  abbrev Later : Meaning → Option Reason
+  Later m = let at = withClock e clock in orElse (later at (namedIn m at)) (ifNoFetch (noFetchIn m at))
+
+  -- of a message, before its own reasons
+  abbrev Heeded : Meaning → Option Reason → Option Reason
+  Heeded m o = Crash (cond (not (isMember (e .status))) (some WrongStatus) (cond (sameHost (m .sender) (e .host)) (some OwnMessage) o))
+
+  abbrev Arrived : List ℕ → Action
+  Arrived bytes = actionOf Arrival cue bytes
+
   message-first : (m : Meaning) → firstReason Arrival m (withClock e clock)
-      ≡ Crash (cond (not (isMember (e .status))) (some WrongStatus) (cond (sameHost (m .sender) (e .host)) (some OwnMessage) (later (withClock e clock) (namedIn m (withClock e clock)))))
+      ≡ Heeded m (Later m)
   message-first m =
       ap Crash (by-member (isMember (e .status)) (reasonFor m (withClock e clock)) _
-      (ap (λ (o : Option Reason). cond (sameHost (m .sender) (e .host)) (some OwnMessage) o) (named-later m (withClock e clock))))
+      (ap (λ (o : Option Reason). cond (sameHost (m .sender) (e .host)) (some OwnMessage) o) (first-later m (withClock e clock))))
 
   arrival-first : (bytes : List ℕ) → message ≡ readOf bytes .message → firstNo (readQuestions bytes) ≡ 0 → First Arrival bytes
   unfolding readOf
@@ -79,6 +96,8 @@ module _ (e : End) (clock : ℕ) (cue : List ℕ) (message : Message) where
       ap (λ (what : Event). firstReason what (meaningOf message) (withClock e clock)) (message-arrives b s)
       ∙ ap (λ (m : Meaning). firstReason Arrival m (withClock e clock)) (heard b s message p h .means)
       ∙ message-first (meaningFrom (b ∷ s))
+      ∙ ap (λ (o : Option Reason). Heeded (meaningFrom (b ∷ s)) o)
+      (both (reasonHolds e clock (Arrived (b ∷ s))) nameReasons (NoFetch ∷ []))
 
   pub first-is : (what : Event) (bytes : List ℕ) → message ≡ readingFor what bytes .message → firstNo (ownQuestions (actionOf what cue bytes) e) ≡ 0 → First what bytes
   first-is (Moves m) bytes p h = ap Crash (by-member (moves m (e .status)) none none refl)
@@ -86,6 +105,8 @@ module _ (e : End) (clock : ℕ) (cue : List ℕ) (message : Message) where
   first-is Arrival bytes p h = arrival-first bytes p h
   first-is Fire bytes p h = ap Crash (by-member (isMember (e .status)) none none refl)
   first-is Report bytes p h = ap Crash (by-member (isMember (e .status)) none none refl)
+  first-is (Fetch name) bytes p h =
+      ap Crash (by-member (isMember (e .status)) _ _ (byTest (mayFetch (withClock e clock) name) (λ t. rw t) (λ t. rw t)))
 
 -- ---- what the call promises
 abbrev pub Reasoned : End → ℕ → Action → Why → Type 0

@@ -13,13 +13,14 @@ use Rattle.message.specs.Message.{Meaning, meaningOf}
 use Rattle.message.specs.Question.{blankMessage, readOf, kindHasCounts, inRange}
 use Rattle.end.specs.declared.Status.{Status}
 use Rattle.end.specs.declared.Event.{Event}
-use Rattle.end.specs.declared.Event.the-variants.{Moves, Send, Arrival, Fire, Report}
+use Rattle.end.specs.declared.Event.the-variants.{Moves, Send, Arrival, Fire, Report, Fetch}
 use Rattle.end.specs.declared.End.{End}
 use Rattle.end.specs.State.{isMember}
 use Rattle.end.specs.Round.{drawCount}
 use Rattle.end.specs.Answer.{Ignored, Step, Outcome, Refused, Did}
 use Rattle.end.specs.Arrival.{arrivalOf}
 use Rattle.end.specs.Fire.{fireOf}
+use Rattle.end.specs.Fetch.{fetchOf}
 use Rattle.end.specs.Event.{moveOf, sendOf, otherOf}
 use Rattle.end.specs.Event as rules
 use Rattle.state.specs.Settled.{Settled}
@@ -35,6 +36,7 @@ readingFor Send bytes = nothingRead
 readingFor Arrival bytes = readOf bytes
 readingFor Fire bytes = nothingRead
 readingFor Report bytes = nothingRead
+readingFor (Fetch name) bytes = nothingRead
 
 -- a reading that some bytes have
 abbrev pub Brought : Event → Reading → Type 0
@@ -56,6 +58,7 @@ takes Send status = isMember status
 takes Arrival status = isMember status
 takes Fire status = isMember status
 takes Report status = isMember status
+takes (Fetch name) status = isMember status
 
 -- what an event that is taken does, with the meaning of an arrival's bytes
 abbrev pub acted : List ℕ → Event → List ℕ → Meaning → End → Step
@@ -64,6 +67,7 @@ acted us Send cue M e = sendOf us cue e
 acted us Arrival cue M e = arrivalOf us M e
 acted us Fire cue M e = fireOf us e
 acted us Report cue M e = otherOf us rules.Report e
+acted us (Fetch name) cue M e = fetchOf name e
 
 -- the outcome of a call with the first no q that is not taken
 abbrev pub untakenFor : ℕ → Outcome
@@ -83,6 +87,7 @@ OwnGiven Send e message = e .next < numberLimit
 OwnGiven Arrival e message = Passing message
 OwnGiven Fire e message = Unit {0}
 OwnGiven Report e message = Unit {0}
+OwnGiven (Fetch name) e message = Unit {0}
 
 pub record Acting (what : Event) (e : End) (message : Message) (drawn bytes : ℕ) : Type 0 where
   pub settled : Settled e

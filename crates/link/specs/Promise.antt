@@ -6,10 +6,11 @@ use lib.ListN.{length}
 use Rattle.end.specs.declared.Answer.{Answer}
 use Rattle.end.specs.declared.End.{End}
 use Rattle.end.specs.declared.Stepped.{Stepped}
-use Rattle.end.specs.Answer.{Out, Got, Done, Ignored, Nothing, Clash, Outcome, Refused, Did, answerNumber, answerValues}
+use Rattle.end.specs.Answer.{Out, Got, Done, Ignored, Nothing, Clash, Late, Exhausted, Outcome, Refused, Did, answerNumber, answerValues}
 use Rattle.end.specs.Event.{Action, questionOf, eventOf, gives, leaves}
 
--- "Out (length ..), Got (name ..), Done, Ignored, Nothing"; "A refusal gives only its number"; document 02, P4: "Clash, with the name"
+-- "Out (length ..), Got (name ..), Done, Ignored, Nothing"; "A refusal gives only its number"; document 02, P4: "Clash, with the name";
+-- P9: Late, "written as Got is", and "exhausted"
 abbrev pub outcomeValues : Outcome → List ℕ
 outcomeValues (Refused k) = []
 outcomeValues (Did (Out bytes)) = length bytes ∷ []
@@ -18,6 +19,8 @@ outcomeValues (Did Done) = []
 outcomeValues (Did Ignored) = []
 outcomeValues (Did Nothing) = []
 outcomeValues (Did (Clash name)) = name .source .0 ∷ name .number .0 ∷ []
+outcomeValues (Did (Late name cue)) = name .source .0 ∷ name .number .0 ∷ []
+outcomeValues (Did Exhausted) = []
 
 -- the answer of a call: the number of its first no, 0 where every answer was yes, and the outcome's values
 abbrev pub AnswerIs : End → Action → ℕ → List ℕ → List ℕ → Answer → Type 0

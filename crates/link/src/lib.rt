@@ -1,4 +1,4 @@
-// The calls of the product: opening an end, its nine events, and why one would be ignored. No call asks anything of its caller: what is
+// The calls of the product: opening an end, its ten events, and why one would be ignored. No call asks anything of its caller: what is
 // bad is refused by its number, and a refusal changes no byte. All events are one call, `event`, and have one `frame`: the questions, the
 // crashed end, the clock, membership. Each contract gives the answer and the end by `gives` and the output by `leaves`:
 // the crate end, specs/Event.antt. The last says document 01's number of the answer, 0 where the call was not refused, and its values:
@@ -16,6 +16,7 @@ use end::Stepped;
 use end::Why;
 use message::Host;
 use message::Message;
+use message::Name;
 use message::Reading;
 use message::Verdict;
 ghost use mathlib.Core.Path.{_≡_};
@@ -28,11 +29,11 @@ ghost use Rattle.message.specs.Question.{refusalOf};
 ghost use Rattle.end.specs.declared.Move.the-variants.{Join, Joined, Leave, Left, Crash};
 ghost use Rattle.end.specs.Answer.{Did, done, answerOf, calledOf, bufferOf};
 ghost use Rattle.end.specs.Opening.{openRefusal, openingOf};
-ghost use Rattle.end.specs.Event.{Moves, Send, Arrival, Else, Fire, Report, actionOf, gives, leaves};
+ghost use Rattle.end.specs.Event.{Moves, Send, Arrival, Else, Fire, Report, Fetch, actionOf, gives, leaves};
 ghost use Rattle.end.specs.State.{withClock};
 ghost use Rattle.end.specs.Why.{refusedAs, because, whyOf, whyRefusal};
 ghost use Rattle.link.specs.Promise.{AnswerIs, Promised};
-ghost use Rattle.link.specs.Reason.{suits, Heard, memberReason, firstReason};
+ghost use Rattle.link.specs.Reason.{suits, Heard, fetchReason, memberReason, firstReason};
 ghost use Rattle.link.specs.Frame.{nothingRead, readingFor, Brought, isProbe, takenAs, takes, acted, untakenFor, Acting};
 
 // Opens an end: questions 12, 13 and 14. Refused, it gives host 0's crashed end beside the number.
@@ -64,6 +65,7 @@ fn reading_for(what: Event, bytes: &[u8]) -> Reading
         Event::Arrival => reader::read(bytes),
         Event::Fire => unread(),
         Event::Report => unread(),
+        Event::Fetch(_) => unread(),
     }
 }
 
@@ -96,6 +98,7 @@ fn takes(what: Event, status: Status) -> bool
         Event::Arrival => member,
         Event::Fire => member,
         Event::Report => member,
+        Event::Fetch(_) => member,
     }
 }
 
@@ -136,6 +139,7 @@ fn act(
         Event::Arrival => receive::arrival(end, draws, message, out),
         Event::Fire => transmit::fire(end, draws, out),
         Event::Report => transmit::report(end, out),
+        Event::Fetch(name) => fetch::fetch(end, name, out),
     }
 }
 
@@ -202,10 +206,22 @@ fn suits(what: Event, status: Status) -> bool
         Event::Arrival => taken,
         Event::Fire => taken,
         Event::Report => taken,
+        Event::Fetch(_) => taken,
     }
 }
 
-// Of a member's events only an arrival may be ignored.
+// Why a member's fetch is ignored, if it is.
+fn fetch_reason(end: End, name: Name) -> Why
+    ensures { λ r. ⌜ r ≡ because (fetchReason name end) ⌝ }
+{
+    if fetch::may_fetch(end, name) {
+        Why::NoReason
+    } else {
+        Why::Because(Reason::NoFetch)
+    }
+}
+
+// A fetch that a member may not make is ignored; of its other events only an arrival may be.
 fn member_reason(end: End, what: Event, message: Message) -> Why
     requires { ⌜ Heard what message ⌝ }
     ensures { λ r. ⌜ r ≡ because (memberReason what (meaningOf message) end) ⌝ }
@@ -216,6 +232,7 @@ fn member_reason(end: End, what: Event, message: Message) -> Why
         Event::Arrival => receive::reason(end, message),
         Event::Fire => Why::NoReason,
         Event::Report => Why::NoReason,
+        Event::Fetch(name) => fetch_reason(end, name),
     }
 }
 
@@ -350,4 +367,14 @@ pub fn report(e: End, clock: u64, draws: &[Draw], out: &mut [u8]) -> Stepped
 {
     let reading = unread();
     frame(e, clock, draws, Event::Report, [0; 24], reading, out)
+}
+
+// Fetch: the nearest host that was not tried yet is asked for a cue from before the first original of its source.
+pub fn fetch(e: End, clock: u64, draws: &[Draw], name: Name, out: &mut [u8]) -> Stepped
+    ensures { λ r. ⌜ r ≡ gives e (Else (Fetch name)) clock (now (draws .entry)) (now (out .entry)) ⌝ }
+    ensures { λ _. ⌜ now (out .exit) ≡ leaves e (Else (Fetch name)) clock (now (draws .entry)) (now (out .entry)) ⌝ }
+    ensures { λ r. ⌜ AnswerIs e (Else (Fetch name)) clock (now (draws .entry)) (now (out .entry)) (r .answer) ⌝ }
+{
+    let reading = unread();
+    frame(e, clock, draws, Event::Fetch(name), [0; 24], reading, out)
 }

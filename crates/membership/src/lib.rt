@@ -6,6 +6,7 @@ use end::End;
 use end::Heard;
 use end::Move;
 use end::Opened;
+use end::Origin;
 use end::Pair;
 use end::Params;
 use end::Record;
@@ -39,6 +40,7 @@ fn unheard_source(distance: u64) -> Source
         cue: [0; 24],
         hush: 0,
     };
+    let untried = state::no_attempt();
     Source {
         span: Span::Closed,
         missed: 0,
@@ -46,6 +48,8 @@ fn unheard_source(distance: u64) -> Source
         distance,
         heard: Heard::Never,
         names: [blank; 64],
+        origin: Origin::NoOrigin,
+        attempts: [untried; 64],
     }
 }
 

@@ -6,6 +6,9 @@
 --   | 20 SESS | 0,0,0..8,0..7 | none                                     |
 -- and P8: "kind 21, laid out as kind 18 ..; host and source differ from its own sender":
 --   | 21 XPRS | 1,0,0,0       | not the sender; nor is the source        |
+-- and P9: "Fetch, kind 22, is shaped as kind 21 with the host tried as host; its cue, kind 23, as REPL":
+--   | 22 FTCH | 1,0,0,0       | not the sender; nor is the source        |
+--   | 23 LATE | 1,1,0,0       | the requester, neither sender nor source |
 -- Questions 9 (the counts) and 11 (the host) go by a kind's row. A kind that comes later is a line of `table`, and one of
 -- `message::row_of`.
 use Prim.Native.Nat.{ℕ, _+_, _-_}
@@ -32,6 +35,12 @@ SESS = 20
 abbrev pub XPRS : ℕ
 XPRS = 21
 
+abbrev pub FTCH : ℕ
+FTCH = 22
+
+abbrev pub LATE : ℕ
+LATE = 23
+
 -- a kind's row: so many names and cues, at most so many reports and echoes, the rule of the host
 abbrev pub row : ℕ → ℕ → ℕ → ℕ → HostRule → Row
 row names cues reports echoes host = record { known = true; names = names; cues = cues; reports = reports; echoes = echoes; host = host }
@@ -43,6 +52,8 @@ table =
     ∷ (REPL, row 1 1 0 0 NeitherSenderNorSource)
     ∷ (SESS, row 0 0 8 7 NoHost)
     ∷ (XPRS, row 1 0 0 0 AnotherOfAnother)
+    ∷ (FTCH, row 1 0 0 0 AnotherOfAnother)
+    ∷ (LATE, row 1 1 0 0 NeitherSenderNorSource)
     ∷ []
 
 -- what a byte has that is no kind

@@ -52,7 +52,8 @@ refusalOf verdict.Accepted = 0
 refusalOf verdict.Probe = 0
 refusalOf (verdict.Refused k) = k
 
--- ---- 9: "Is the kind 1..4 with its counts?": the table's second column, of the kinds 17 to 20 that P7 has for 1 to 4, and of P8's 21
+-- ---- 9: "Is the kind 1..4 with its counts?": the table's second column, of the kinds 17 to 20 that P7 has for 1 to 4, of P8's 21 and of
+-- P9's 22 and 23
 
 abbrev pub hasCounts : Row → Counts → Bool
 hasCounts r c =
@@ -94,7 +95,7 @@ sameHost a b = eqb (a .0) (b .0)
 
 -- the host beside a name, by its rule, whether it is the source, whether it is the sender, and whether the source is the sender. DATA: "the
 -- source, also the sender"; RQST: "the sender, not the source"; REPL: "the requester, neither sender nor source"; document 02, P8, kind 21:
--- "host and source differ from its own sender"; a kind with the host "none" has no names
+-- "host and source differ from its own sender"; P9: kind 22 "is shaped as kind 21", kind 23 "as REPL"; a kind with the host "none" has no names
 abbrev pub ruleHolds : HostRule → Bool → Bool → Bool → Bool
 ruleHolds SourceAndSender source sender own = source && sender
 ruleHolds SenderNotSource source sender own = sender && not source

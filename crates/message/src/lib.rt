@@ -139,6 +139,10 @@ pub const SESS: u8 = 20;
 
 pub const XPRS: u8 = 21;
 
+pub const FTCH: u8 = 22;
+
+pub const LATE: u8 = 23;
+
 // The old kinds, which are still read: from the first to the last, each so much below the kind that it stands for.
 const OLD_FIRST: u8 = 1;
 
@@ -183,6 +187,8 @@ pub fn row_of(kind: u8) -> Row
         REPL => known(1, 1, 0, 0, HostRule::NeitherSenderNorSource),
         SESS => known(0, 0, 8, 7, HostRule::NoHost),
         XPRS => known(1, 0, 0, 0, HostRule::AnotherOfAnother),
+        FTCH => known(1, 0, 0, 0, HostRule::AnotherOfAnother),
+        LATE => known(1, 1, 0, 0, HostRule::NeitherSenderNorSource),
         _ => Row {
             known: false,
             names: 0,

@@ -1,3 +1,4 @@
+pub mod BitLaws
 pub mod Cases
 pub mod NumberLaws
 pub mod SignedLaws

@@ -1,3 +1,4 @@
+pub mod Bits
 pub mod Number
 pub mod Reads
 pub mod Signed

@@ -1,5 +1,7 @@
 // Big-endian numbers in a byte slice, and two bytes as an i16. The functions here are helpers of the crates above and no calls
 // of the product: each asks in its `requires` that the bytes are there, which its callers have counted already.
+pub mod bits;
+
 ghost use mathlib.Core.Path.{_≡_};
 ghost use Prim.Native.Nat.{_+_, _^_, _≤_, _<_};
 ghost use mathlib.Core.List.{_∷_, []};

@@ -3,6 +3,8 @@ use crate::flat;
 use crate::flat::Flat;
 use crate::flat::Head;
 use crate::flat::Held;
+use crate::flat::Marks;
+use end::Attempt;
 use end::End;
 use end::Params;
 use end::Record;
@@ -88,15 +90,39 @@ fn heard(d: u64, h: Head) -> u64 {
     if h.heard == 0 {
         mix(d, 0)
     } else {
-        mix3(d, 1, h.stamp, h.when)
+        mix3(mix(d, 1), h.stamp, h.when, h.reported)
     }
+}
+
+fn origin(d: u64, h: Head) -> u64 {
+    if h.known == 0 {
+        mix(d, 0)
+    } else {
+        mix(mix(d, 1), h.origin)
+    }
+}
+
+fn marks(d: u64, m: Marks) -> u64 {
+    mix(mix(d, m.tried), m.late)
+}
+
+fn attempts(start: u64, all: [Attempt; 64]) -> u64 {
+    let mut d = start;
+    let mut i: usize = 0;
+    while i < 64 {
+        let a = all[i];
+        d = marks(d, flat::marks_of(a));
+        i += 1;
+    }
+    d
 }
 
 fn source(d: u64, s: Source) -> u64 {
     let h = flat::head_of(s);
     let records = s.names;
+    let tries = s.attempts;
     let known = mix(pair(mix(span(d, h), h.missed), h), h.distance);
-    names(heard(known, h), records)
+    attempts(names(origin(heard(known, h), h), records), tries)
 }
 
 fn params(d: u64, p: Params) -> u64 {

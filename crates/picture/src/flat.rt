@@ -1,6 +1,8 @@
 // The parts of an end as plain numbers, from which the digest, the comparison and the words are all made.
+use end::Attempt;
 use end::Express;
 use end::Heard;
+use end::Origin;
 use end::Pair;
 use end::Record;
 use end::Reply;
@@ -38,7 +40,8 @@ pub struct Flat {
     pub hush: u64,
 }
 
-// A source without its records. `open`, `paired` and `heard` are 0 or 1, and what counts only with 1 is else 0.
+// A source without its records and attempts. `open`, `paired`, `heard` and `known` are 0 or 1, and what counts only with 1 is else 0.
+// `reported` has a bit for each source that the heard message reported; `known` says whether there is a first original, `origin`.
 pub struct Head {
     pub open: u64,
     pub first: u64,
@@ -52,6 +55,15 @@ pub struct Head {
     pub heard: u64,
     pub stamp: u64,
     pub when: u64,
+    pub reported: u64,
+    pub known: u64,
+    pub origin: u64,
+}
+
+// What was done to fetch a number: a bit for each host that was tried, and 0 or 1 for Late.
+pub struct Marks {
+    pub tried: u64,
+    pub late: u64,
 }
 
 fn holding(kind: u64, a: u64, b: u64, c: u64) -> Held {
@@ -163,10 +175,23 @@ fn with_heard(h: Head, heard: Heard) -> Head {
     let mut t = h;
     match heard {
         Heard::Never => t.heard = 0,
-        Heard::At(stamp, when) => {
+        Heard::At(stamp, when, reported) => {
             t.heard = 1;
             t.stamp = stamp;
             t.when = when;
+            t.reported = reported as u64;
+        }
+    }
+    t
+}
+
+fn with_origin(h: Head, origin: Origin) -> Head {
+    let mut t = h;
+    match origin {
+        Origin::NoOrigin => t.known = 0,
+        Origin::From(number) => {
+            t.known = 1;
+            t.origin = number.0 as u64;
         }
     }
     t
@@ -176,6 +201,7 @@ pub fn head_of(s: Source) -> Head {
     let span = s.span;
     let pair = s.pair;
     let heard = s.heard;
+    let origin = s.origin;
     let blank = Head {
         open: 0,
         first: 0,
@@ -189,8 +215,24 @@ pub fn head_of(s: Source) -> Head {
         heard: 0,
         stamp: 0,
         when: 0,
+        reported: 0,
+        known: 0,
+        origin: 0,
     };
-    with_heard(with_pair(with_span(blank, span), pair), heard)
+    let paired = with_pair(with_span(blank, span), pair);
+    with_origin(with_heard(paired, heard), origin)
+}
+
+pub fn marks_of(a: Attempt) -> Marks {
+    Marks {
+        tried: a.tried as u64,
+        late: if a.late { 1 } else { 0 },
+    }
+}
+
+// Whether nothing was done.
+pub fn is_unmarked(m: Marks) -> bool {
+    (m.tried == 0) & (m.late == 0)
 }
 
 pub fn status(s: Status) -> u64 {

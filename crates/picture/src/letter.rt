@@ -14,6 +14,8 @@ pub fn kind_word(kind: u8) -> u64 {
         message::REPL => words::REPL,
         message::SESS => words::SESS,
         message::XPRS => words::XPRS,
+        message::FTCH => words::FTCH,
+        message::LATE => words::LATE,
         _ => 0,
     }
 }

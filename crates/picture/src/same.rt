@@ -2,6 +2,8 @@
 use crate::flat;
 use crate::flat::Flat;
 use crate::flat::Head;
+use crate::flat::Marks;
+use end::Attempt;
 use end::End;
 use end::Params;
 use end::Record;
@@ -47,12 +49,33 @@ fn heads(a: Head, b: Head) -> bool {
         & (a.heard == b.heard)
         & (a.stamp == b.stamp)
         & (a.when == b.when)
+        & (a.reported == b.reported)
+        & (a.known == b.known)
+        & (a.origin == b.origin)
+}
+
+fn marks(a: Marks, b: Marks) -> bool {
+    (a.tried == b.tried) & (a.late == b.late)
+}
+
+fn attempts(a: [Attempt; 64], b: [Attempt; 64]) -> bool {
+    let mut ok = true;
+    let mut i: usize = 0;
+    while i < 64 {
+        let m = a[i];
+        let n = b[i];
+        ok = ok & marks(flat::marks_of(m), flat::marks_of(n));
+        i += 1;
+    }
+    ok
 }
 
 fn sources(a: Source, b: Source) -> bool {
     let m = a.names;
     let n = b.names;
-    heads(flat::head_of(a), flat::head_of(b)) & names(m, n)
+    let p = a.attempts;
+    let q = b.attempts;
+    heads(flat::head_of(a), flat::head_of(b)) & names(m, n) & attempts(p, q)
 }
 
 fn params(a: Params, b: Params) -> bool {

@@ -3,7 +3,9 @@ use crate::flat;
 use crate::flat::Flat;
 use crate::flat::Head;
 use crate::flat::Held;
+use crate::flat::Marks;
 use crate::text;
+use end::Attempt;
 use end::End;
 use end::Params;
 use end::Record;
@@ -32,35 +34,53 @@ pub fn status(out: &mut [u8; 65536], n: &mut [usize; 20], s: Status) {
     text::word(out, n, status_word(s));
 }
 
-// Two numbers, or the word for that there are none.
-fn two(out: &mut [u8; 65536], n: &mut [usize; 20], known: u64, first: u64, second: u64, none: u64) {
-    if known == 0 {
-        text::word(out, n, none);
+// `FIRST LAST` or `closed`.
+pub fn span(out: &mut [u8; 65536], n: &mut [usize; 20], h: Head) {
+    if h.open == 0 {
+        text::word(out, n, words::CLOSED);
     } else {
-        text::number(out, n, first);
-        text::then(out, n, second);
+        text::number(out, n, h.first);
+        text::then(out, n, h.last);
     }
 }
 
-// `FIRST LAST` or `closed`.
-pub fn span(out: &mut [u8; 65536], n: &mut [usize; 20], h: Head) {
-    two(out, n, h.open, h.first, h.last, words::CLOSED);
+// Three numbers, or the word for that there are none.
+fn three(out: &mut [u8; 65536], n: &mut [usize; 20], known: u64, all: [u64; 3], none: u64) {
+    if known == 0 {
+        text::word(out, n, none);
+    } else {
+        text::number(out, n, all[0]);
+        text::then(out, n, all[1]);
+        text::then(out, n, all[2]);
+    }
 }
 
-// `STAMP WHEN` or `unheard`.
+// `STAMP WHEN SOURCES` or `unheard`.
 pub fn heard(out: &mut [u8; 65536], n: &mut [usize; 20], h: Head) {
-    two(out, n, h.heard, h.stamp, h.when, words::UNHEARD);
+    let all = [h.stamp, h.when, h.reported];
+    three(out, n, h.heard, all, words::UNHEARD);
 }
 
 // `REQUESTER SENDER NUMBER` or `none`.
 pub fn pair(out: &mut [u8; 65536], n: &mut [usize; 20], h: Head) {
-    if h.paired == 0 {
+    let all = [h.requester, h.sender, h.number];
+    three(out, n, h.paired, all, words::NONE);
+}
+
+// `NUMBER` or `none`.
+pub fn origin(out: &mut [u8; 65536], n: &mut [usize; 20], h: Head) {
+    if h.known == 0 {
         text::word(out, n, words::NONE);
     } else {
-        text::number(out, n, h.requester);
-        text::then(out, n, h.sender);
-        text::then(out, n, h.number);
+        text::number(out, n, h.origin);
     }
+}
+
+// `TRIED LATE`.
+pub fn attempt(out: &mut [u8; 65536], n: &mut [usize; 20], a: Attempt) {
+    let m = flat::marks_of(a);
+    text::number(out, n, m.tried);
+    text::then(out, n, m.late);
 }
 
 fn held(out: &mut [u8; 65536], n: &mut [usize; 20], h: Held) {
@@ -135,53 +155,68 @@ fn names(out: &mut [u8; 65536], n: &mut [usize; 20], source: u64, records: [Reco
     }
 }
 
-// A word with two numbers, or the word for that there are none, behind a space.
-fn part(
-    out: &mut [u8; 65536],
-    n: &mut [usize; 20],
-    known: u64,
-    key: u64,
-    first: u64,
-    second: u64,
-    none: u64,
-) {
-    if known == 0 {
-        text::then_word(out, n, none);
+fn attempt_line(out: &mut [u8; 65536], n: &mut [usize; 20], source: u64, place: u64, m: Marks) {
+    let all = [source, place, m.tried, m.late, 0, 0];
+    line(out, n, words::ATTEMPT, all, 4);
+    text::flush_much(out, n);
+}
+
+// The places at which something was done.
+fn attempts(out: &mut [u8; 65536], n: &mut [usize; 20], source: u64, all: [Attempt; 64]) {
+    let mut i: usize = 0;
+    while i < 64 {
+        let a = all[i];
+        let m = flat::marks_of(a);
+        if !flat::is_unmarked(m) {
+            attempt_line(out, n, source, i as u64, m);
+        }
+        i += 1;
+    }
+}
+
+fn span_part(out: &mut [u8; 65536], n: &mut [usize; 20], h: Head) {
+    if h.open == 0 {
+        text::then_word(out, n, words::CLOSED);
     } else {
-        text::then_row(out, n, key, [first, second, 0, 0, 0, 0], 2);
+        text::then_row(out, n, words::SPAN, [h.first, h.last, 0, 0, 0, 0], 2);
     }
 }
 
 fn pair_part(out: &mut [u8; 65536], n: &mut [usize; 20], h: Head) {
+    let all = [h.requester, h.sender, h.number, 0, 0, 0];
     if h.paired == 0 {
         text::then_word(out, n, words::NOPAIR);
     } else {
-        text::then_row(
-            out,
-            n,
-            words::PAIR,
-            [h.requester, h.sender, h.number, 0, 0, 0],
-            3,
-        );
+        text::then_row(out, n, words::PAIR, all, 3);
+    }
+}
+
+fn heard_part(out: &mut [u8; 65536], n: &mut [usize; 20], h: Head) {
+    let all = [h.stamp, h.when, h.reported, 0, 0, 0];
+    if h.heard == 0 {
+        text::then_word(out, n, words::UNHEARD);
+    } else {
+        text::then_row(out, n, words::HEARD, all, 3);
+    }
+}
+
+fn origin_part(out: &mut [u8; 65536], n: &mut [usize; 20], h: Head) {
+    if h.known == 0 {
+        text::then_word(out, n, words::NOORIGIN);
+    } else {
+        text::then_row(out, n, words::ORIGIN, [h.origin, 0, 0, 0, 0, 0], 1);
     }
 }
 
 fn head_line(out: &mut [u8; 65536], n: &mut [usize; 20], source: u64, h: Head) {
     text::put(out, n, b' ');
     text::then_row(out, n, words::SOURCE, [source, 0, 0, 0, 0, 0], 1);
-    part(out, n, h.open, words::SPAN, h.first, h.last, words::CLOSED);
+    span_part(out, n, h);
     text::then_row(out, n, words::MISSED, [h.missed, 0, 0, 0, 0, 0], 1);
     pair_part(out, n, h);
     text::then_row(out, n, words::DISTANCE, [h.distance, 0, 0, 0, 0, 0], 1);
-    part(
-        out,
-        n,
-        h.heard,
-        words::HEARD,
-        h.stamp,
-        h.when,
-        words::UNHEARD,
-    );
+    heard_part(out, n, h);
+    origin_part(out, n, h);
     text::put(out, n, b'\n');
 }
 
@@ -190,8 +225,10 @@ fn sources(out: &mut [u8; 65536], n: &mut [usize; 20], all: [Source; 8]) {
     while i < 8 {
         let s = all[i];
         let records = s.names;
+        let tries = s.attempts;
         head_line(out, n, i as u64, flat::head_of(s));
         names(out, n, i as u64, records);
+        attempts(out, n, i as u64, tries);
         i += 1;
     }
 }

@@ -9,7 +9,7 @@ use lib.Dec.{eqb, lit≤}
 use borrow.Author.Tests.{eqb-true}
 use Rattle.message.specs.Section.{entries, sectionFrom}
 use Rattle.message.specs.Entry.{cueOf, blankCue}
-use Rattle.message.specs.Message.{DATA, RQST, REPL, XPRS, numberWidth, kindByte, Meaning, meaningWith, meaningFrom, sizeFrom, fromCues}
+use Rattle.message.specs.Message.{DATA, RQST, REPL, XPRS, FTCH, LATE, numberWidth, kindByte, Meaning, meaningWith, meaningFrom, sizeFrom, fromCues}
 use Rattle.message.specs.Question.{messageQuestions, sameHost, firstNo}
 use Rattle.message.specs.declared.Name.{Name}
 use Rattle.message.proofs.LayoutLaws.{cues-at, cues-count, atCues, countsWith}
@@ -20,6 +20,8 @@ use Rattle.end.specs.declared.Slot.the-variants.{Empty, Held, Waiting}
 use Rattle.end.specs.declared.Reply.the-variants.{No, Due}
 use Rattle.end.specs.declared.Earliest.{Earliest}
 use Rattle.end.specs.declared.Earliest.the-variants.{NoWait, First}
+use Rattle.end.specs.declared.Nearest.{Nearest}
+use Rattle.end.specs.declared.Nearest.the-variants.{Nobody, Found}
 use Rattle.end.specs.declared.Says.{Says}
 use Rattle.end.specs.declared.Says.the-variants.{Data, Rqst, Repl, Xprs}
 use Rattle.end.specs.declared.Moment.{Moment}
@@ -28,12 +30,13 @@ use Rattle.end.specs.declared.Word.{Word}
 use Rattle.end.specs.declared.Decision.{Decision}
 use Rattle.end.specs.declared.Decision.the-variants.{Ignores, Opens, Takes, Repairs, Hushes, Replies, Learns, BacksOff, Clashes, Expresses}
 use Rattle.end.specs.State.{sourceAt, isMember, isCrashed, momentOf, withClock}
-use Rattle.end.specs.Answer.{Class, PutsOut, HandsOut, Untouched, classOf, classIn, Step, Result}
+use Rattle.end.specs.Answer.{Class, PutsOut, HandsOut, HandsLate, Untouched, classOf, classIn, Step, Result}
 use Rattle.end.specs.Decide.{decide, effectOf, stepAt}
 use Rattle.end.specs.Session.{sessionOf}
+use Rattle.end.specs.Fetch.{mayFetch, nearest, tryOf, fetchOf, mayAnswer, fetchedOf, mayHand, lateOf}
 use Rattle.end.specs.Arrival.{messageCue, wordOf, wordStep, messageStep, arrivalOf}
 use Rattle.end.specs.Fire.{expressRank, earliest, fireAt, fired}
-use Rattle.end.specs.Event.{Action, Moves, Send, Arrival, Else, Fire, Report, moves, moveOf, actOf, stepOf, questionOf, ownQuestions, eventOf}
+use Rattle.end.specs.Event.{Action, Moves, Send, Arrival, Else, Fire, Report, Fetch, moves, moveOf, actOf, stepOf, questionOf, ownQuestions, eventOf}
 use Rattle.end.proofs.Tools.{byCond}
 use Rattle.end.proofs.Service.Frame.{passes}
 
@@ -60,6 +63,7 @@ cue-read s h =
 abbrev pub Wide : Class → Type 0
 Wide (PutsOut bytes) = Unit {0}
 Wide (HandsOut name cue) = 24 ≤ length cue
+Wide (HandsLate name cue) = 24 ≤ length cue
 Wide Untouched = Unit {0}
 
 abbrev WideStep : Step → Type 0
@@ -79,14 +83,16 @@ wide-word t w r h Clashes = tt
 wide-word t w r h Expresses = tt
 
 wide-message : (us : List ℕ) (m : Meaning) (e : End) → 24 ≤ length (messageCue m) → WideStep (messageStep us m e)
-unfolding messageStep stepAt sessionOf
+unfolding messageStep stepAt fetchedOf lateOf sessionOf
 wide-message us m e h =
     let word : (says : Says) → WideStep (wordStep us says m e) =
     λ says. let w = wordOf says m e in wide-word (momentOf e) w _ h (decide (momentOf e) w (sourceAt e (w .name .source))) in
     byCond WideStep (eqb (m .kind) DATA) (λ _. word Data)
     (λ _. byCond WideStep (eqb (m .kind) RQST) (λ _. word Rqst)
     (λ _. byCond WideStep (eqb (m .kind) REPL) (λ _. word Repl)
-    (λ _. byCond WideStep (eqb (m .kind) XPRS) (λ _. word Xprs) (λ _. tt))))
+    (λ _. byCond WideStep (eqb (m .kind) XPRS) (λ _. word Xprs)
+    (λ _. byCond WideStep (eqb (m .kind) FTCH) (λ _. byCond WideStep (mayAnswer e m) (λ _. tt) (λ _. tt))
+    (λ _. byCond WideStep (eqb (m .kind) LATE) (λ _. byCond WideStep (mayHand e m) (λ _. h) (λ _. tt)) (λ _. tt))))))
 
 wide-fire : (us : List ℕ) (rank : ℕ) (name : Name) (e : End) (slot : Slot) → WideStep (fireAt us rank name e slot)
 unfolding fireAt
@@ -100,8 +106,13 @@ unfolding fired
 wide-fired us e NoWait = tt
 wide-fired us e (First w) = wide-fire us (w .rank) (w .name) e _
 
+wide-try : (name : Name) (e : End) (found : Nearest) → WideStep (tryOf name e found)
+unfolding tryOf
+wide-try name e Nobody = tt
+wide-try name e (Found h d) = tt
+
 wide-act : (us : List ℕ) (a : Action) (was e : End) → firstNo (ownQuestions a was) ≡ 0 → WideStep (actOf us a e)
-unfolding actOf moveOf arrivalOf
+unfolding actOf moveOf arrivalOf fetchOf
 wide-act us (Moves m) was e h = byCond WideStep (moves m (e .status)) (λ _. tt) (λ _. tt)
 wide-act us (Send cue) was e h = byCond WideStep (isMember (e .status)) (λ _. tt) (λ _. tt)
 wide-act us (Arrival []) was e h = byCond WideStep (isMember (e .status)) (λ _. tt) (λ _. tt)
@@ -112,6 +123,10 @@ wide-act us (Arrival (b ∷ s)) was e h =
     (λ _. tt)
 wide-act us (Else Fire) was e h = byCond WideStep (isMember (e .status)) (λ _. wide-fired us e (earliest e 8)) (λ _. tt)
 wide-act us (Else Report) was e h = byCond WideStep (isMember (e .status)) (λ _. tt) (λ _. tt)
+wide-act us (Else (Fetch name)) was e h =
+    byCond WideStep (isMember (e .status))
+    (λ _. byCond WideStep (mayFetch e name) (λ _. wide-try name e (nearest e name 8)) (λ _. tt))
+    (λ _. tt)
 
 pub wide : (e : End) (a : Action) (clock room : ℕ) (draws : List ℕ) → Wide (classIn (eventOf e a clock room draws .outcome))
 unfolding eventOf stepOf

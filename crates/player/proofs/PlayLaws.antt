@@ -19,7 +19,7 @@ use Rattle.end.specs.declared.Stepped.{Stepped}
 use Rattle.end.specs.declared.Why.{Why}
 use Rattle.end.specs.declared.Why.the-variants as why
 use Rattle.end.specs.Why.{whyOf}
-use Rattle.end.specs.Answer.{Out, Got, Done, Ignored, Nothing, Clash}
+use Rattle.end.specs.Answer.{Out, Got, Done, Ignored, Nothing, Clash, Late, Exhausted}
 use Rattle.end.specs.Event.{Action, Arrival, eventOf}
 use Rattle.end.specs.Answer.{Outcome, Refused, Did, Result}
 use Rattle.end.specs.Answer.{classIn, answerOf, calledOf, bufferOf}
@@ -83,6 +83,8 @@ in-buffer (Did Done) output = tt
 in-buffer (Did Ignored) output = tt
 in-buffer (Did Nothing) output = tt
 in-buffer (Did (Clash name)) output = tt
+in-buffer (Did (Late name cue)) output = tt
+in-buffer (Did Exhausted) output = tt
 
 -- an answer that puts nothing out
 pub tells : {w : Why} {a b : Answer} {s : Shown} {r : Told} (places lengths : List ℕ) {output : List ℕ} {count : ℕ} → a ≡ b → count ≤ most
@@ -151,6 +153,10 @@ out-turn : (b : Bool) (e : End) (ms : List (List ℕ)) (bytes output : List ℕ)
 out-turn true e ms bytes output = (refl, (ap (λ (x : List ℕ). ms ++ (x ∷ [])) (take-at bytes output (length bytes) refl), refl))
 out-turn false e ms bytes output = (refl, (refl, refl))
 
+-- the focus stands in the first two bytes of a cue that was handed out
+focus-read : (cue output : List ℕ) → 24 ≤ length cue → take 2 (cue ++ drop (length cue) output) ≡ take 2 cue
+focus-read cue output w = take-append-le 2 cue (drop (length cue) output) (omega (arith, w))
+
 turn-for : (o : Outcome) (e : End) (output : List ℕ) (ms : List (List ℕ)) → Wide (classIn o) → TurnFor o e output ms
 unfolding printedFor messagesFor answerOf bufferOf turnOf
 turn-for (Refused k) e output ms w = record { printed = refl; messages = refl; left = refl }
@@ -158,12 +164,16 @@ turn-for (Did (Out bytes)) e output ms w =
     let t = out-turn (ltb (length ms) most) e ms bytes (drop (length bytes) output) in
     record { printed = t .0; messages = t .1 .0; left = t .1 .1 }
 turn-for (Did (Got name cue)) e output ms w =
-    let two : take 2 (cue ++ drop (length cue) output) ≡ take 2 cue = take-append-le 2 cue (drop (length cue) output) (omega (arith, w)) in
-    record { printed = ap (λ (x : List ℕ). Shows (shown.Got (name .source) (name .number) (signed (value x)))) two; messages = refl; left = refl }
+    let says : List ℕ → Printed = λ x. Shows (shown.Got (name .source) (name .number) (signed (value x))) in
+    record { printed = ap says (focus-read cue output w); messages = refl; left = refl }
 turn-for (Did Done) e output ms w = record { printed = refl; messages = refl; left = refl }
 turn-for (Did Ignored) e output ms w = record { printed = refl; messages = refl; left = refl }
 turn-for (Did Nothing) e output ms w = record { printed = refl; messages = refl; left = refl }
 turn-for (Did (Clash name)) e output ms w = record { printed = refl; messages = refl; left = refl }
+turn-for (Did (Late name cue)) e output ms w =
+    let says : List ℕ → Printed = λ x. Shows (shown.Late (name .source) (name .number) (signed (value x))) in
+    record { printed = ap says (focus-read cue output w); messages = refl; left = refl }
+turn-for (Did Exhausted) e output ms w = record { printed = refl; messages = refl; left = refl }
 
 -- ---- the reason
 
@@ -177,6 +187,8 @@ shown-as-is (shown.IgnoredFor reason) = refl
 shown-as-is shown.Nothing = refl
 shown-as-is (shown.Refused question) = refl
 shown-as-is (shown.Clash source number) = refl
+shown-as-is (shown.Late source number focus) = refl
+shown-as-is shown.Exhausted = refl
 
 -- asked for, or not
 explained-by : (explains : Bool) (w : Why) (p : Printed) → explained (cond explains w why.NoReason) p ≡ cond explains (explained w p) p

@@ -9,7 +9,7 @@ use lib.Dec.{ltb}
 use Rattle.end.specs.declared.End.{End}
 use Rattle.end.specs.declared.Why.{Why}
 use Rattle.end.specs.declared.Why.the-variants as why
-use Rattle.end.specs.Answer.{Effect, Out, Got, Done, Ignored, Nothing, Clash, Outcome, Refused, Did}
+use Rattle.end.specs.Answer.{Effect, Out, Got, Done, Ignored, Nothing, Clash, Late, Exhausted, Outcome, Refused, Did}
 use Rattle.end.specs.Round.{drawCount}
 use Rattle.end.specs.Event.{Action, eventOf}
 use Rattle.end.specs.Why.{isIgnored, whyOf}
@@ -34,6 +34,8 @@ bare (shown.IgnoredFor reason) = false
 bare shown.Nothing = false
 bare (shown.Refused question) = false
 bare (shown.Clash source number) = false
+bare (shown.Late source number focus) = false
+bare shown.Exhausted = false
 
 abbrev isBare : Printed → Bool
 isBare Bad = false
@@ -61,6 +63,8 @@ module _ (e : End) (messages : List (List ℕ)) where
   answered Ignored h = absurd (true≢false h)
   answered Nothing h = refl
   answered (Clash name) h = refl
+  answered (Late name cue) h = refl
+  answered Exhausted h = refl
 
   foretold : (w : Why) (o : Outcome) → Foretells w o → isBare (explained w (turnOf o e messages .printed)) ≡ false
   unfolding turnOf

@@ -32,6 +32,8 @@ withReason w (shown.IgnoredFor reason) = shown.IgnoredFor reason
 withReason w shown.Nothing = shown.Nothing
 withReason w (shown.Refused question) = shown.Refused question
 withReason w (shown.Clash source number) = shown.Clash source number
+withReason w (shown.Late source number focus) = shown.Late source number focus
+withReason w shown.Exhausted = shown.Exhausted
 
 abbrev pub explained : Why → Printed → Printed
 explained w Bad = Bad

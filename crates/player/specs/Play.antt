@@ -7,7 +7,7 @@ use lib.IntN.{ℤ, pos}
 use lib.Dec.{ltb}
 use Rattle.message.specs.Cue.{cueWith, fieldsOf}
 use Rattle.end.specs.declared.End.{End}
-use Rattle.end.specs.Answer.{Out, Got, Done, Ignored, Nothing, Clash}
+use Rattle.end.specs.Answer.{Out, Got, Done, Ignored, Nothing, Clash, Late, Exhausted}
 use Rattle.end.specs.Event.{Action, Moves, Send, Arrival, Else, Fire, Report, eventOf}
 use Rattle.end.specs.declared.Move.the-variants.{Join, Joined, Leave, Left, Crash}
 use Rattle.end.specs.Answer.{Outcome, Refused, Did, Result}
@@ -76,7 +76,7 @@ abbrev pub stops : End → List (List ℕ) → Turn
 stops e messages = record { printed = Bad; left = e; messages = messages }
 
 -- "after out the message number, after got source, cue number and focus, after "refused" the number"; messages are "numbered from 0
--- as put out", and at a 65th it "prints "bad" and stops"; a clash (document 02, P4) has its name
+-- as put out", and at a 65th it "prints "bad" and stops"; a clash (document 02, P4) has its name, and a late cue (P9) what got has
 unfoldable pub turnOf : Outcome → End → List (List ℕ) → Turn
 turnOf (Refused question) e messages = shows (shown.Refused question) e messages
 turnOf (Did (Out bytes)) e messages =
@@ -86,6 +86,8 @@ turnOf (Did Done) e messages = shows shown.Done e messages
 turnOf (Did Ignored) e messages = shows shown.Ignored e messages
 turnOf (Did Nothing) e messages = shows shown.Nothing e messages
 turnOf (Did (Clash name)) e messages = shows (shown.Clash (name .source) (name .number)) e messages
+turnOf (Did (Late name cue)) e messages = shows (shown.Late (name .source) (name .number) (fieldsOf cue .focus)) e messages
+turnOf (Did Exhausted) e messages = shows shown.Exhausted e messages
 
 -- the call that a line makes, with an output of 128 bytes
 abbrev pub resultOf : End → Verb → ℕ → List (List ℕ) → Result

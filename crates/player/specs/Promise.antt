@@ -41,6 +41,8 @@ printedFor answer.Done output count = Shows shown.Done
 printedFor answer.Ignored output count = Shows shown.Ignored
 printedFor answer.Nothing output count = Shows shown.Nothing
 printedFor (answer.Clash name) output count = Shows (shown.Clash (name .source) (name .number))
+printedFor (answer.Late name) output count = Shows (shown.Late (name .source) (name .number) (stepsAt output 0))
+printedFor answer.Exhausted output count = Shows shown.Exhausted
 
 -- the messages then
 unfoldable pub messagesFor : Answer → List ℕ → List (List ℕ) → List (List ℕ)
@@ -51,6 +53,8 @@ messagesFor answer.Done output messages = messages
 messagesFor answer.Ignored output messages = messages
 messagesFor answer.Nothing output messages = messages
 messagesFor (answer.Clash name) output messages = messages
+messagesFor (answer.Late name) output messages = messages
+messagesFor answer.Exhausted output messages = messages
 
 -- a message that was put out is in the output
 unfoldable pub InOutput : Answer → List ℕ → Type 0
@@ -61,6 +65,8 @@ InOutput answer.Done output = Unit {0}
 InOutput answer.Ignored output = Unit {0}
 InOutput answer.Nothing output = Unit {0}
 InOutput (answer.Clash name) output = Unit {0}
+InOutput (answer.Late name) output = Unit {0}
+InOutput answer.Exhausted output = Unit {0}
 
 -- what is told of an answer: what is printed for it, with the reason that was asked for, and the messages that are kept after it
 pub record Tells (w : Why) (a : Answer) (output : List ℕ) (messages : List (List ℕ)) (count : ℕ) (r : Told) (after : List (List ℕ)) : Type 0 where

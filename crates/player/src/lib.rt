@@ -16,6 +16,7 @@ ghost use mathlib.Core.Path.{_≡_};
 ghost use mathlib.Core.Bool.{true, cond};
 ghost use Prim.Native.Nat.{_+_, _*_, _≤_, _<_};
 ghost use lib.ListN.{length};
+ghost use Rattle.message.specs.Cue.{stepsAt};
 ghost use Rattle.store.specs.Store.{most, room, messageIn, firstMessages, messagesIn};
 ghost use Rattle.answers.specs.Put.{Put};
 ghost use Rattle.end.specs.Event.{eventOf};
@@ -206,6 +207,14 @@ fn ignored_for(why: Why) -> Shown
     }
 }
 
+// The focus of the cue that an answer hands out.
+fn focus_in(out: &[u8]) -> i16
+    requires { ⌜ length (now out) ≡ room ⌝ }
+    ensures { λ r. ⌜ r ≡ stepsAt (now (out .entry)) 0 ⌝ }
+{
+    numbers::read_i16(out, 0)
+}
+
 // What an answer tells, with the output that the call left, and with the reason where it was asked for.
 fn tell(
     why: Why,
@@ -225,7 +234,7 @@ fn tell(
         Answer::Got(name) => {
             let source = name.source;
             let number = name.number;
-            let focus = numbers::read_i16(out, 0);
+            let focus = focus_in(out);
             shows(Shown::Got(source, number, focus), count)
         }
         Answer::Done => shows(Shown::Done, count),
@@ -236,6 +245,13 @@ fn tell(
             let number = name.number;
             shows(Shown::Clash(source, number), count)
         }
+        Answer::Late(name) => {
+            let source = name.source;
+            let number = name.number;
+            let focus = focus_in(out);
+            shows(Shown::Late(source, number, focus), count)
+        }
+        Answer::Exhausted => shows(Shown::Exhausted, count),
     }
 }
 

@@ -5,6 +5,7 @@ use Rattle.invariants.proofs.Stays.{opens-sound, stays-sound}
 use Rattle.invariants.proofs.Lists.{ends-stay-sound, never-refused-as-3, clocks-never-fall, never-heard-later}
 use Rattle.invariants.proofs.Clocks.{clock-never-falls, heard-by-now}
 use Rattle.invariants.proofs.Outputs.{goes-out-right}
+use Rattle.invariants.proofs.Lates.{fetch-answered, late-answered, late-is-right}
 use Rattle.guarantees.proofs.Choice.{choice-is-earliest, no-choice-none-due}
 use Rattle.guarantees.proofs.Fires.{out-is-earliest, nothing-means-none, none-means-nothing, due-means-out, one-less-due, firing-ends}
 use Rattle.guarantees.proofs.BackOff.{opened-c3-below-c1, opened-firing-ends, rounds-rise, set-or-kept, quiet-ignores, once-per-quiet, always-due, rounds-through, always-set, quiet-before-due, one-round-per-quiet}
@@ -18,6 +19,11 @@ use Rattle.guarantees.proofs.Clashes.{other-bytes-clash, clash-means}
 use Rattle.guarantees.proofs.Reasons.{request-quiet-waits}
 use Rattle.guarantees.proofs.Express.{express-set-by-gap, express-stays-or-goes, express-goes-out, express-answered, express-else-request}
 use Rattle.guarantees.proofs.Pairs.{pairs-may-become, pair-over-history}
+use Rattle.guarantees.proofs.FetchAnswers.{exhausted-exactly, exhausted-means, ignored-fetch-stays, fetch-may-be-made, fetch-otherwise-ignored}
+use Rattle.guarantees.proofs.FetchAnswers.{fetch-moves-nothing, fetched-moves-nothing}
+use Rattle.guarantees.proofs.FetchBook.{fetch-outside-book, fetched-outside-book, brings-nothing}
+use Rattle.guarantees.proofs.FetchHistory.{attempts-over-history, late-at-most-once, tried-once, fetchable-never-got, late-never-got}
+use Rattle.guarantees.proofs.FetchReports.{reported-over-history}
 use Rattle.record.proofs.LinesBack.{lines-back}
 use Rattle.judgement.proofs.Pieces.{judged-in-pieces, too-many-stays}
 use Rattle.fairness.proofs.Judged.{judged-right, judged-only-so}
@@ -33,10 +39,11 @@ use Rattle.end.proofs.Bounds.{share-none, share-whole, share-most, share-rises,
 use Rattle.end.proofs.Clashes.{same-cue-is-same-bytes}
 use Rattle.end.proofs.Service.Ends.{service}
 use Rattle.end.proofs.Service.Unclashed.{never-clashes}
+use Rattle.end.proofs.Service.Lates.{late-has-the-sources-bytes}
 use Rattle.end.proofs.Reasons.{ignored-for-the-first-reason}
 use Rattle.end.proofs.ReasonLaws.{reason-is-first, none-holds, number-exactly, reason-exactly, none-exactly}
 use Rattle.cases.proofs.Shown.{service-shown, never-returns-clash}
-use Rattle.cases.proofs.Cases.{cases-hold, answers-hold, moves-hold, wire-holds, timed-hold, half-trips-hold, factors-hold, reasons-hold, stage-holds, quiet-holds, clashes-hold, probe-holds, season-holds, express-holds}
+use Rattle.cases.proofs.Cases.{cases-hold, answers-hold, moves-hold, wire-holds, timed-hold, half-trips-hold, factors-hold, reasons-hold, stage-holds, quiet-holds, clashes-hold, probe-holds, season-holds, express-holds, fetch-holds}
 use Rattle.cases.proofs.Turn.{four-rounds, each-is-needed}
 use Rattle.promises.specs.Promises.{Promises}
 
@@ -64,7 +71,13 @@ promises = record {
     probe-is-empty = probe-is-empty;
     only-probe-is-empty = only-probe-is-empty;
   };
-  service = record { runs = service; shown = service-shown; never-clashes = never-clashes; never-returns-clash = never-returns-clash };
+  service = record {
+    runs = service;
+    shown = service-shown;
+    never-clashes = never-clashes;
+    never-returns-clash = never-returns-clash;
+    late-has-the-sources-bytes = late-has-the-sources-bytes;
+  };
   states = record {
     opens-sound = opens-sound;
     stays-sound = stays-sound;
@@ -155,6 +168,27 @@ promises = record {
     pairs-may-become = pairs-may-become;
     pair-over-history = pair-over-history;
   };
+  fetch = record {
+    exhausted-exactly = exhausted-exactly;
+    exhausted-means = exhausted-means;
+    ignored-fetch-stays = ignored-fetch-stays;
+    fetch-may-be-made = fetch-may-be-made;
+    fetch-otherwise-ignored = fetch-otherwise-ignored;
+    fetch-answered = fetch-answered;
+    late-answered = late-answered;
+    late-is-right = late-is-right;
+    fetch-moves-nothing = fetch-moves-nothing;
+    fetched-moves-nothing = fetched-moves-nothing;
+    fetch-outside-book = fetch-outside-book;
+    fetched-outside-book = fetched-outside-book;
+    brings-nothing = brings-nothing;
+    attempts-over-history = attempts-over-history;
+    late-at-most-once = late-at-most-once;
+    tried-once = tried-once;
+    fetchable-never-got = fetchable-never-got;
+    late-never-got = late-never-got;
+    reported-over-history = reported-over-history;
+  };
   judge = record {
     judged-right = judged-right;
     judged-only-so = judged-only-so;
@@ -185,5 +219,6 @@ promises = record {
     probe = probe-holds;
     season = season-holds;
     express = express-holds;
+    fetch = fetch-holds;
   };
 }

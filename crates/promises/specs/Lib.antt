@@ -9,4 +9,5 @@ pub mod Reasons
 pub mod Promises
 pub mod Season
 pub mod Express
+pub mod Fetch
 pub mod Judge

@@ -24,6 +24,7 @@ use Rattle.cases.specs.Clashes.{clashRows}
 use Rattle.cases.specs.Probe.{probeRows}
 use Rattle.cases.specs.Season.{seasonRows}
 use Rattle.cases.specs.Express.{expressRows}
+use Rattle.cases.specs.Fetch.{fetchRows}
 use Rattle.promises.specs.Wire.{WireKept}
 use Rattle.promises.specs.Service.{ServiceKept}
 use Rattle.promises.specs.States.{StatesKept}
@@ -34,10 +35,11 @@ use Rattle.promises.specs.Turn.{TurnKept}
 use Rattle.promises.specs.Reasons.{ReasonsKept}
 use Rattle.promises.specs.Season.{SeasonKept}
 use Rattle.promises.specs.Express.{ExpressKept}
+use Rattle.promises.specs.Fetch.{FetchKept}
 use Rattle.promises.specs.Judge.{JudgeKept}
 
 -- document 01's cases and what else is pinned by computed rows: the answers one by one, the 25 moves by status, messages as bytes, times, a run by answers and
--- buffers, reply-quiet times, clashes, the probe, a season's rises, express repair
+-- buffers, reply-quiet times, clashes, the probe, a season's rises, express repair, fetching
 pub record CasesKept : Type 0 where
   pub starred : Hold rows
   pub answers : Hold answerRows
@@ -53,6 +55,7 @@ pub record CasesKept : Type 0 where
   pub probe : Hold probeRows
   pub season : Hold seasonRows
   pub express : Hold expressRows
+  pub fetch : Hold fetchRows
 
 pub record Promises : Type 0 where
   -- demand 2, the wire: "Each message written reads back as itself, and each accepted message is the very bytes .."
@@ -79,6 +82,8 @@ pub record Promises : Type 0 where
   pub season : SeasonKept
   -- a lost cue is asked for of the host that answered last, and repaired at once: document 02, P8
   pub express : ExpressKept
+  -- a controller that joined late fetches what came before: document 02, P9
+  pub fetch : FetchKept
   -- a run's record is judged by the book, and an honest link is never accused: document 02, P13
   pub judge : JudgeKept
   -- "Cases (* is proved)"

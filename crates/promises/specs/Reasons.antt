@@ -22,7 +22,7 @@ pub record ReasonsKept : Type 0 where
   -- "The reason named is shown true and those before it false"
   pub reason-is-first : (e : End) (clock : ℕ) (a : Action) (reason : Reason) → whyOf e clock a ≡ why.Because reason
       → (reasonHolds e clock a reason ≡ true) × ((other : Reason) → reasonNumber other < reasonNumber reason → reasonHolds e clock a other ≡ false)
-  -- And where "none" is given, none of the ten holds.
+  -- And where "none" is given, none of the eleven holds.
   pub none-holds : (e : End) (clock : ℕ) (a : Action) → whyOf e clock a ≡ why.NoReason → (reason : Reason) → reasonHolds e clock a reason ≡ false
   -- Where "request quiet" is named, a request for the name waits, and the clock is at most its quiet-until.
   pub request-quiet-waits : (e : End) (clock : ℕ) (a : Action) → whyOf e clock a ≡ why.Because RequestQuiet
@@ -32,7 +32,7 @@ pub record ReasonsKept : Type 0 where
   pub number-exactly : (e : End) (clock : ℕ) (a : Action) (k room : ℕ) (draws : List ℕ) → 128 ≤ room → length draws ≡ 64
       → (whyOf e clock a ≡ why.Refused k → eventOf e a clock room draws .outcome ≡ Refused k)
       × (eventOf e a clock room draws .outcome ≡ Refused k → whyOf e clock a ≡ why.Refused k)
-  -- .. one of the ten reasons exactly where it is Ignored ..
+  -- .. one of the eleven reasons exactly where it is Ignored ..
   pub reason-exactly : (e : End) (clock : ℕ) (a : Action) (room : ℕ) (draws : List ℕ) → 128 ≤ room → length draws ≡ 64
       → ((reason : Reason) → whyOf e clock a ≡ why.Because reason → eventOf e a clock room draws .outcome ≡ Did Ignored)
       × (eventOf e a clock room draws .outcome ≡ Did Ignored → (reason : Reason) × (whyOf e clock a ≡ why.Because reason))

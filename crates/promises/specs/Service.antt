@@ -7,6 +7,7 @@ use Rattle.message.specs.declared.Name.{Name}
 use Rattle.end.specs.declared.Answer.the-variants as answer
 use Rattle.end.specs.Answer.{Clash, Did}
 use Rattle.end.specs.Book.{Entry, RunFrom, emptyBook}
+use Rattle.end.specs.Lates.{LatesAsFiled}
 use Rattle.end.specs.Run.{World, Call, Fresh, Allowed, seen}
 use Rattle.cases.specs.Shown.{Returned, returned, onlooked}
 
@@ -20,3 +21,5 @@ pub record ServiceKept : Type 0 where
   -- and none returns it
   pub never-returns-clash : (w : World) → Fresh w → (cs : List Call) → Allowed w cs
       → (x : Returned) → List·Memᴰ x (returned w cs) → (name : Name) → x .answer ≡ answer.Clash name → ⊥
+  -- P9: a cue that is handed out as Late is "in the service's runs with the source's bytes"
+  pub late-has-the-sources-bytes : (w : World) → Fresh w → (cs : List Call) → Allowed w cs → LatesAsFiled emptyBook (seen w cs)

@@ -39,11 +39,12 @@ pub record StatesKept : Type 0 where
   -- And so over any list of calls on any ends, for each of them.
   pub clocks-never-fall : (w : World) (cs : List Call) (h : ℕ) → w .ends h .clock ≤ through w cs .ends h .clock
   -- In a sound state no stamp was heard later than the clock, whichever of the eight hosts it was heard from.
-  pub heard-by-now : (e : End) → soundOf e ≡ true → (h : Host) → h .0 < 8 → (stamp when : ℕ) → sourceAt e h .heard ≡ At stamp when → when ≤ e .clock
+  pub heard-by-now : (e : End) → soundOf e ≡ true → (h : Host) → h .0 < 8 → (stamp when reported : ℕ)
+      → sourceAt e h .heard ≡ At stamp when reported → when ≤ e .clock
   -- So heard times never exceed the clock: after every list of calls on eight ends from openings that were not refused, for each of these
   -- and each host that it may have heard.
-  pub never-heard-later : (w : World) → Fresh w → (cs : List Call) → Declared cs → (k : ℕ) → k < 8 → (h : Host) → h .0 < 8 → (stamp when : ℕ)
-      → sourceAt (through w cs .ends k) h .heard ≡ At stamp when → when ≤ through w cs .ends k .clock
+  pub never-heard-later : (w : World) → Fresh w → (cs : List Call) → Declared cs → (k : ℕ) → k < 8 → (h : Host) → h .0 < 8
+      → (stamp when reported : ℕ) → sourceAt (through w cs .ends k) h .heard ≡ At stamp when reported → when ≤ through w cs .ends k .clock
   -- Every Out of every call is right, on any state: one that is not sound is refused and puts nothing out. A cue that is sent has the 24
   -- bytes of its declared type.
   pub goes-out-right : (e : End) (a : Action) (clock room : ℕ) (draws bytes : List ℕ) → CueArray a

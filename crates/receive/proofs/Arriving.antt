@@ -25,7 +25,7 @@ use Rattle.end.proofs.Ready.{ranges}
 use Rattle.state.specs.declared.Change.{Change}
 use Rattle.state.specs.Change.{changed}
 use Rattle.receive.specs.Hearing.{AllCounted, Hearing, HearingOn}
-use Rattle.receive.specs.Steps.{isNamed, askerIn, reportsFor, subjectOf, effectOn, leftOn}
+use Rattle.receive.specs.Steps.{isAbout, askerIn, reportsFor, subjectOf, effectOn, leftOn}
 use Rattle.receive.proofs.Lists.{used-at, none-taken, none-most, none-all}
 use Rattle.receive.proofs.Passes.{report-in, in-range, asker-in}
 use Rattle.receive.proofs.Reports.{reports-ranges}
@@ -41,11 +41,12 @@ pub record Known (e : End) (m : Message) (draws room : ℕ) (t : Moment) (d coun
 
 -- it follows from what the functions before the loop promise
 pub known : (e : End) (m : Message) (draws room : ℕ) (t : Moment) (asker : Host) (d count : ℕ) → Hearing e m draws room → t ≡ momentOf e
-    → asker ≡ askerIn (meaningOf m) → d ≡ distanceTo e asker → count ≡ cond (sameHost (m .sender) (t .me) || isNamed (m .kind)) 0 (m .counts .reports)
+    → asker ≡ askerIn (meaningOf m) → d ≡ distanceTo e asker → count ≡ cond (sameHost (m .sender) (t .me) || isAbout (m .kind)) 0 (m .counts .reports)
     → Known e m draws room t d count
 known e m draws room t asker d count h p q r k =
-    let none = sameHost (m .sender) (e .host) || isNamed (m .kind) in
-    let same : count ≡ cond none 0 (m .counts .reports) = k ∙ ap (λ (x : Moment). cond (sameHost (m .sender) (x .me) || isNamed (m .kind)) 0 (m .counts .reports)) p in
+    let none = sameHost (m .sender) (e .host) || isAbout (m .kind) in
+    let same : count ≡ cond none 0 (m .counts .reports) =
+    k ∙ ap (λ (x : Moment). cond (sameHost (m .sender) (x .me) || isAbout (m .kind)) 0 (m .counts .reports)) p in
     record {
       hearing = h;
       moment = p;

@@ -23,7 +23,7 @@ use Rattle.end.specs.declared.Word.{Word}
 use Rattle.end.specs.Arrival.{requesterIn}
 use Rattle.decide.specs.Step.{Heeded}
 use Rattle.receive.specs.Hearing.{HearingOn}
-use Rattle.receive.specs.Steps.{isNamed, saysIn, askerIn, wordIn, subjectOf}
+use Rattle.receive.specs.Steps.{isAbout, saysIn, askerIn, wordIn, subjectOf}
 use Rattle.receive.proofs.Lists.{all-first}
 
 -- a report and an echo that pass their tests
@@ -78,7 +78,7 @@ module _ (m : Meaning) (h : inRange 65535 m ≡ true) where
       go Xprs = in-range m h .sender
 
   pub subject-in : subjectOf m .0 < 8
-  subject-in = go (isNamed (m .kind))
+  subject-in = go (isAbout (m .kind))
     where
       go : (b : Bool) → cond b (getD (m .names) 0 blankName .name .source) (m .sender) .0 < 8
       go true = in-range m h .source

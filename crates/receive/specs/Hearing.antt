@@ -4,7 +4,7 @@ use mathlib.Core.Bool.{true}
 use Prim.Native.Nat.{ℕ, _-_, _≤_, _<_}
 use Rattle.message.specs.declared.Host.{Host}
 use Rattle.message.specs.declared.Message.{Message}
-use Rattle.message.specs.Limit.{numberLimit, roomNeeded}
+use Rattle.message.specs.Limit.{numberLimit, roomNeeded, ticksLimit}
 use Rattle.message.specs.Message.{meaningOf}
 use Rattle.message.specs.Question.{kindHasCounts, inRange}
 use Rattle.end.specs.declared.Moment.{Moment}
@@ -31,6 +31,13 @@ pub record Hearing (e : End) (m : Message) (draws room : ℕ) : Type 0 where
   pub ready : Ready e
   pub counts : AllCounted e
   pub passed : Passed m draws room
+
+-- a step on one source of a message that has no word
+pub record HeardOn (t : Moment) (m : Message) (room : ℕ) : Type 0 where
+  pub clock : t .clock < ticksLimit
+  pub room-in : roomNeeded ≤ room
+  pub counts-in : kindHasCounts (m .kind) (m .counts) ≡ true
+  pub ranges-in : inRange (numberLimit - 1) (meaningOf m) ≡ true
 
 -- a step of it on one source, with the requester d away
 pub record HearingOn (t : Moment) (s : Source) (d : ℕ) (m : Message) (draws room : ℕ) : Type 0 where

@@ -8,6 +8,7 @@ use end::Answer;
 use end::Draw;
 use end::End;
 use end::Heard;
+use end::Hosts;
 use end::Moment;
 use end::Reason;
 use end::Says;
@@ -18,7 +19,9 @@ use end::Word;
 use message::CueNumber;
 use message::DATA;
 use message::Echo;
+use message::FTCH;
 use message::Host;
+use message::LATE;
 use message::Message;
 use message::Name;
 use message::NameEntry;
@@ -34,27 +37,35 @@ ghost use lib.ListN.{length, getD, take};
 ghost use lib.Dec.{leb};
 ghost use Rattle.message.specs.Limit.{numberLimit, ticksLimit};
 ghost use Rattle.message.specs.Section.{all};
-ghost use Rattle.message.specs.Entry.{blankName, blankReport};
+ghost use Rattle.message.specs.Entry.{blankReport};
 ghost use Rattle.message.specs.Message.{reportPlaces, echoPlaces, meaningOf};
-ghost use Rattle.message.specs.Question.{echoIn, inRange, sameHost};
+ghost use Rattle.message.specs.Question.{echoIn, reportIn, inRange, sameHost};
 ghost use Rattle.end.specs.Round.{halfTrip};
 ghost use Rattle.end.specs.Answer.{Did, answerOf, done, calledOf, bufferOf};
 ghost use Rattle.end.specs.Ready.{Ranges, Numbered};
-ghost use Rattle.end.specs.Session.{reportedSource, measured, heardFrom};
+ghost use Rattle.end.specs.Session.{reportedSource, measured, reportedIn, heardFrom};
 ghost use Rattle.end.specs.Why.{because};
 ghost use Rattle.end.specs.Arrival.{messageCue, requesterIn, arrivalOf};
 ghost use Rattle.state.specs.Counted.{Counted};
-ghost use Rattle.receive.specs.Steps.{isNamed, saysIn, askerIn, wordIn, subjectOf, effectOn, leftOn};
-ghost use Rattle.receive.specs.Reason.{namedReason, reasonFor};
-ghost use Rattle.receive.specs.Hearing.{Hearing, HearingOn};
+ghost use Rattle.receive.specs.Steps.{isNamed, isAbout, saysIn, entryIn, askerIn, wordIn, subjectOf};
+ghost use Rattle.receive.specs.Steps.{unnamedEffect, unnamedSource, effectOn, leftOn};
+ghost use Rattle.receive.specs.Reason.{namedReason, fetchReason, reasonFor};
+ghost use Rattle.receive.specs.Hearing.{Hearing, HeardOn, HearingOn};
 
 // ---- what a message says
 
-// Whether a message of this kind is about a name.
+// Whether a message of this kind is decided on by its word.
 fn is_named(kind: u8) -> bool
     ensures { λ r. ⌜ r ≡ isNamed kind ⌝ }
 {
     (kind == DATA) | ((kind == RQST) | ((kind == REPL) | (kind == XPRS)))
+}
+
+// Whether a message of this kind is about a name.
+fn is_about(kind: u8) -> bool
+    ensures { λ r. ⌜ r ≡ isAbout kind ⌝ }
+{
+    is_named(kind) | ((kind == FTCH) | (kind == LATE))
 }
 
 fn says_in(kind: u8) -> Says
@@ -71,7 +82,7 @@ fn says_in(kind: u8) -> Says
 
 // The first name of a message, or a blank where it has none.
 fn entry_of(m: Message) -> NameEntry
-    ensures { λ r. ⌜ r ≡ getD (meaningOf m .names) 0 blankName ⌝ }
+    ensures { λ r. ⌜ r ≡ entryIn (meaningOf m) ⌝ }
 {
     let count = m.counts.names;
     if count == 0 {
@@ -146,7 +157,7 @@ fn subject_of(m: Message) -> Host
     ensures { λ r. ⌜ r ≡ subjectOf (meaningOf m) ⌝ }
 {
     let entry = entry_of(m);
-    if is_named(m.kind) {
+    if is_about(m.kind) {
         entry.name.source
     } else {
         m.sender
@@ -155,10 +166,10 @@ fn subject_of(m: Message) -> Host
 
 // How many reports of a message are heard.
 fn report_count(me: Host, m: Message) -> usize
-    ensures { λ r. ⌜ r ≡ cond (sameHost (m .sender) me || isNamed (m .kind)) 0 (m .counts .reports) ⌝ }
+    ensures { λ r. ⌜ r ≡ cond (sameHost (m .sender) me || isAbout (m .kind)) 0 (m .counts .reports) ⌝ }
 {
     let count = m.counts.reports;
-    let none = (m.sender.0 == me.0) | is_named(m.kind);
+    let none = (m.sender.0 == me.0) | is_about(m.kind);
     if none { 0 } else { count }
 }
 
@@ -217,9 +228,24 @@ fn measure(me: Host, clock: u64, echoes: [Echo; 7], count: usize, d: u64) -> u64
     out
 }
 
-// The sender's source: it is heard now, and its distance measured.
+// The sources that a session message reported.
+fn reported_in(reports: [Report; 8], count: usize) -> Hosts
+    requires { ⌜ (count ≤ reportPlaces) × (all (reportIn (numberLimit - 1)) (take count reports) ≡ true) ⌝ }
+    ensures { λ r. ⌜ r ≡ reportedIn (take count reports) ⌝ }
+{
+    let mut out: u8 = 0;
+    let mut i: usize = 0;
+    while i < count {
+        let r = reports[i];
+        out = numbers::bits::with_host(out, r.source.0);
+        i += 1;
+    }
+    out
+}
+
+// The sender's source: it is heard now, with what it reported, and its distance measured.
 fn hear(t: Moment, m: Message, s: Source) -> Source
-    requires { ⌜ m .counts .echoes ≤ echoPlaces ⌝ }
+    requires { ⌜ (m .counts .reports ≤ reportPlaces) × (m .counts .echoes ≤ echoPlaces) ⌝ }
     requires { ⌜ inRange (numberLimit - 1) (meaningOf m) ≡ true ⌝ }
     requires { ⌜ t .clock < ticksLimit ⌝ }
     ensures { λ r. ⌜ r ≡ heardFrom t (meaningOf m) s ⌝ }
@@ -227,7 +253,10 @@ fn hear(t: Moment, m: Message, s: Source) -> Source
     let count = m.counts.echoes;
     let echoes = m.echoes;
     let d = measure(t.me, t.clock, echoes, count, s.distance);
-    state::with_heard(s, d, Heard::At(m.stamp, t.clock))
+    let said = m.counts.reports;
+    let reports = m.reports;
+    let reported = reported_in(reports, said);
+    state::with_heard(s, d, Heard::At(m.stamp, t.clock, reported))
 }
 
 // ---- why a message is ignored
@@ -247,7 +276,26 @@ fn named_reason(e: End, m: Message) -> Why
     decide::reason_of(d)
 }
 
-// The reasons of a member, its clock set: a message of one's own, or what is decided on a message about a name.
+// Why a message of the kinds 22 and 23 is ignored, if it is.
+fn fetch_reason(e: End, m: Message) -> Why
+    requires { ⌜ inRange (numberLimit - 1) (meaningOf m) ≡ true ⌝ }
+    ensures { λ r. ⌜ r ≡ because (fetchReason (meaningOf m) e) ⌝ }
+{
+    let entry = entry_of(m);
+    let sender = m.sender;
+    let at = entry.name.source.0 as usize;
+    let s = e.sources[at];
+    let answers = fetch::may_answer(e.host, entry, s);
+    let hands = fetch::may_hand(e.host, entry, sender, s);
+    let none = ((m.kind == FTCH) & !answers) | ((m.kind == LATE) & !hands);
+    if none {
+        Why::Because(Reason::NoFetch)
+    } else {
+        Why::NoReason
+    }
+}
+
+// The reasons of a member, its clock set: a message of one's own, or what the message's kind has for one.
 pub fn reason(e: End, m: Message) -> Why
     requires { ⌜ inRange (numberLimit - 1) (meaningOf m) ≡ true ⌝ }
     ensures { λ r. ⌜ r ≡ because (reasonFor (meaningOf m) e) ⌝ }
@@ -258,11 +306,32 @@ pub fn reason(e: End, m: Message) -> Why
     if is_named(m.kind) {
         named_reason(e, m)
     } else {
-        Why::NoReason
+        fetch_reason(e, m)
     }
 }
 
 // ---- a message of any kind
+
+// The step of the kinds 22 and 23 and of SESS on the source that it is about.
+fn step_unnamed(t: Moment, m: Message, s: Source, out: &mut [u8]) -> Change
+    requires { ⌜ HeardOn t m (length (now out)) ⌝ }
+    ensures { λ r. ⌜ r ≡ record { answer = answerOf (Did (unnamedEffect t (meaningOf m) s)); source = unnamedSource t (meaningOf m) s } ⌝ }
+    ensures { λ _. ⌜ now (out .exit) ≡ bufferOf (Did (unnamedEffect t (meaningOf m) s)) (now (out .entry)) ⌝ }
+{
+    let entry = entry_of(m);
+    let sender = m.sender;
+    let cue = cue_of(m);
+    if m.kind == FTCH {
+        return fetch::answer_fetch(t, entry, sender, s, out);
+    }
+    if m.kind == LATE {
+        return fetch::hand_late(t.me, entry, sender, cue, s, out);
+    }
+    Change {
+        answer: Answer::Done,
+        source: hear(t, m, s),
+    }
+}
 
 // Its step on the source that it is about, with the distance d to who asked. A message of one's own is ignored.
 fn step_source(t: Moment, draws: &[Draw], m: Message, d: u64, s: Source, out: &mut [u8]) -> Change
@@ -277,10 +346,7 @@ fn step_source(t: Moment, draws: &[Draw], m: Message, d: u64, s: Source, out: &m
         let w = word_in(m, d);
         return decide::step(t, draws, w, s, out);
     }
-    Change {
-        answer: Answer::Done,
-        source: hear(t, m, s),
-    }
+    step_unnamed(t, m, s, out)
 }
 
 // Arrival: the reports step their sources one by one, and then the message the source that it is about.

@@ -4,7 +4,7 @@ use mathlib.Core.List.{List, [], _∷_}
 use mathlib.Core.Option.{Option, none, some}
 use Prim.Native.Nat.{ℕ}
 use Rattle.message.specs.Message.{Meaning}
-use Rattle.end.specs.Answer.{Effect, Out, Got, Done, Ignored, Nothing, Clash, Outcome, Refused, Did}
+use Rattle.end.specs.Answer.{Effect, Out, Got, Done, Ignored, Nothing, Clash, Late, Exhausted, Outcome, Refused, Did}
 use Rattle.end.specs.Event.{Action, Moves, Send, Arrival, Else}
 use Rattle.end.specs.Book.{readAs, number}
 use Rattle.record.specs.declared.Line.{Line}
@@ -31,6 +31,8 @@ linesFor h a Done = movedLine h a
 linesFor h a Ignored = []
 linesFor h a Nothing = []
 linesFor h a (Clash name) = []
+linesFor h a (Late name cue) = []
+linesFor h a Exhausted = []
 
 abbrev pub linesOf : ℕ → Action → Outcome → List Line
 linesOf h a (Refused k) = []

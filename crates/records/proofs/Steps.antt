@@ -115,6 +115,8 @@ module _ (new : ℕ → Record) (n : ℕ) (s : Source) (first last : CueNumber) 
         distance = s .distance;
         heard = s .heard;
         names = names;
+        origin = s .origin;
+        attempts = s .attempts;
       }
       ≡ riseWith new n s (Open first last)
   unfolding riseWith

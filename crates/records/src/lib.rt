@@ -5,6 +5,7 @@ use end::Draw;
 use end::Express;
 use end::KEPT;
 use end::Moment;
+use end::Origin;
 use end::Pair;
 use end::Record;
 use end::Reply;
@@ -19,12 +20,13 @@ ghost use mathlib.Core.Bool.{cond};
 ghost use Prim.Native.Nat.{_+_, _-_, _≤_, _<_, min, max};
 ghost use lib.ListN.{length};
 ghost use Rattle.message.specs.Limit.{numberLimit, ticksLimit};
-ghost use Rattle.end.specs.State.{blankRecord};
+ghost use Rattle.end.specs.State.{blankRecord, withOrigin};
 ghost use Rattle.end.specs.Records.{within, isBelow, isAbove, isHeld, rawAt, recordAt, withRecord};
 ghost use Rattle.end.specs.Round.{drawCount, drawAt, requestAt, replyDue};
 ghost use Rattle.end.specs.Names.{setRound, hold, setReply, quietReply, dropExpress, latest, keepPair, isRequester};
-ghost use Rattle.end.specs.Names.{expressed, asked, filled, lacks, lacking, riseWith, rise, riseByData};
+ghost use Rattle.end.specs.Names.{openAt, expressed, asked, filled, lacks, lacking, riseWith, rise, riseByData};
 ghost use Rattle.end.specs.declared.Express.the-variants.{Unset, Soon};
+ghost use Rattle.end.specs.declared.Origin.the-variants.{From};
 ghost use Rattle.end.specs.Ready.{Ranges, Numbered};
 ghost use Rattle.state.specs.Counted.{Counted};
 
@@ -260,6 +262,28 @@ fn express_by_data(t: Moment, pair: Pair) -> Express
     }
 }
 
+// ---- the first original
+
+// First, last and the first original are n.
+pub fn open_at(s: Source, n: CueNumber) -> Source
+    ensures { λ r. ⌜ r ≡ withOrigin (openAt (n .0) s) (From n) ⌝ }
+{
+    let pair = s.pair;
+    let heard = s.heard;
+    let names = s.names;
+    let attempts = s.attempts;
+    Source {
+        span: Span::Open(n, n),
+        missed: s.missed,
+        pair,
+        distance: s.distance,
+        heard,
+        names,
+        origin: Origin::From(n),
+        attempts,
+    }
+}
+
 // ---- last rises
 
 fn greater(a: u64, b: u64) -> u64
@@ -359,13 +383,11 @@ fn risen(
     last: CueNumber,
     n: CueNumber,
 ) -> Source
+    requires { ⌜ (s .missed < numberLimit) × (s .span ≡ Span.Open first last) ⌝ }
     requires { ⌜ Ranges t (s .distance) ⌝ }
     requires { ⌜ Numbered (n .0) (length (now draws)) ⌝ }
-    requires { ⌜ (s .missed < numberLimit) × (s .span ≡ Span.Open first last) ⌝ }
     ensures { λ r. ⌜ r ≡ riseWith (λ m. expressed x (asked t (now (draws .entry)) (s .distance) m)) (n .0) s (Span.Open first last) ⌝ }
 {
-    let pair = s.pair;
-    let heard = s.heard;
     let names = s.names;
     let low = first.0 as u64;
     let next = last.0 as u64 + 1;
@@ -380,6 +402,10 @@ fn risen(
     let lowest = lo as u16;
     let highest = l as u16;
     let missed = s.missed + lacked as u32 + passed as u32;
+    let pair = s.pair;
+    let heard = s.heard;
+    let origin = s.origin;
+    let attempts = s.attempts;
     Source {
         span: Span::Open(CueNumber(lowest), CueNumber(highest)),
         missed,
@@ -387,6 +413,8 @@ fn risen(
         distance: s.distance,
         heard,
         names: renewed,
+        origin,
+        attempts,
     }
 }
 

@@ -1,10 +1,13 @@
 // Question 3: whether a state is sound, as a test of any state value whatever. Its promise is `soundOf` of the crate end,
 // specs/Sound.antt; each function here is one definition of that file. The state is gone through once.
+use end::Attempt;
 use end::End;
 use end::Express;
 use end::Heard;
+use end::Hosts;
 use end::KEPT;
 use end::NUMBERS;
+use end::Origin;
 use end::Pair;
 use end::Record;
 use end::Reply;
@@ -17,13 +20,16 @@ use message::Host;
 use message::TICKS_LIMIT;
 ghost use mathlib.Core.Path.{_≡_};
 ghost use mathlib.Core.Bool.{_&&_};
+ghost use Prim.Native.Nat.{_<_};
 ghost use lib.ListN.{length};
 ghost use lib.Dec.{eqb};
-ghost use Rattle.message.specs.Limit.{hostLimit};
+ghost use Rattle.numbers.specs.Bits.{bit};
+ghost use Rattle.message.specs.Limit.{hostLimit, numberLimit};
 ghost use Rattle.message.specs.Cue.{cueIn};
 ghost use Rattle.end.specs.Records.{within, isClosed};
 ghost use Rattle.end.specs.State.{places};
 ghost use Rattle.end.specs.Sound.{allOf, requestTests, replyTests, heldTests, expressSound, insideSound, outsideSound, isNever, recordSound, namesSound};
+ghost use Rattle.end.specs.Sound.{originSound, attemptSound, lowest, attemptsSound};
 ghost use Rattle.end.specs.Sound.{spanTests, pairTests, distanceSound, heardTests, nonMemberTests, sourceSound, sourcesSound, soundOf};
 
 fn request_sound(q: Request) -> bool
@@ -173,7 +179,7 @@ fn heard_sound(own: bool, clock: u64, heard: Heard) -> bool
 {
     match heard {
         Heard::Never => true,
-        Heard::At(stamp, when) => !own & (stamp < TICKS_LIMIT) & (when <= clock),
+        Heard::At(stamp, when, _) => !own & (stamp < TICKS_LIMIT) & (when <= clock),
     }
 }
 
@@ -191,8 +197,79 @@ fn is_never(heard: Heard) -> bool
 {
     match heard {
         Heard::Never => true,
-        Heard::At(_, _) => false,
+        Heard::At(_, _, _) => false,
     }
+}
+
+// A first original stands exactly beside another's first, and is at most that.
+fn origin_sound(own: bool, span: Span, origin: Origin) -> bool
+    ensures { λ r. ⌜ r ≡ originSound own span origin ⌝ }
+{
+    match span {
+        Span::Closed => match origin {
+            Origin::NoOrigin => true,
+            Origin::From(_) => false,
+        },
+        Span::Open(first, _) => match origin {
+            Origin::NoOrigin => own,
+            Origin::From(n) => !own & (n.0 <= first.0),
+        },
+    }
+}
+
+// Whether a host was tried, of any host value: the set has no more than eight.
+fn is_tried(tried: Hosts, h: Host) -> bool
+    ensures { λ r. ⌜ r ≡ bit tried (h .0) ⌝ }
+{
+    if h.0 < 8 {
+        numbers::bits::has_host(tried, h.0)
+    } else {
+        false
+    }
+}
+
+// The marks of a number that may be fetched, or of one that may not.
+fn attempt_sound(me: Host, may: bool, a: Attempt) -> bool
+    ensures { λ r. ⌜ r ≡ attemptSound me may a ⌝ }
+{
+    if may {
+        !is_tried(a.tried, me) & (!a.late | !(a.tried == 0))
+    } else {
+        (a.tried == 0) & !a.late
+    }
+}
+
+// The first of the 64 numbers below the first original, or 0.
+fn lowest_of(origin: Origin) -> u64
+    ensures { λ r. ⌜ r ≡ lowest origin ⌝ }
+    ensures { λ r. ⌜ r < numberLimit ⌝ }
+{
+    match origin {
+        Origin::NoOrigin => 0,
+        Origin::From(first) => {
+            let n = first.0 as u64;
+            if n < KEPT { 0 } else { n - KEPT }
+        }
+    }
+}
+
+// What stands in each of the 64 places of the marks: they are those of the 64 numbers from the lowest on.
+fn attempts_sound(me: Host, origin: Origin, attempts: [Attempt; 64]) -> bool
+    ensures { λ r. ⌜ r ≡ attemptsSound me origin attempts places ⌝ }
+    ensures { λ _. ⌜ length attempts ≡ places ⌝ }
+{
+    let from = lowest_of(origin);
+    let mut ok = true;
+    let mut i = 0;
+    while i < KEPT {
+        let n = from + i;
+        let may = state::fetchable(origin, n as u32);
+        let at = state::place(n);
+        let a = attempts[at];
+        ok = ok & attempt_sound(me, may, a);
+        i += 1;
+    }
+    ok
 }
 
 fn non_member_sound(own: bool, s: Source) -> bool
@@ -213,12 +290,16 @@ fn source_sound(me: Host, next: u32, clock: u64, member: bool, h: Host, s: Sourc
     let pair = s.pair;
     let heard = s.heard;
     let names = s.names;
+    let origin = s.origin;
+    let attempts = s.attempts;
     span_sound(own, next, s.missed, span)
         & distance_sound(own, s.distance)
         & heard_sound(own, clock, heard)
         & (member | non_member_sound(own, s))
         & names_sound(me, h, pair, span, names)
         & pair_sound(me, pair)
+        & origin_sound(own, span, origin)
+        & attempts_sound(me, origin, attempts)
 }
 
 // Each of the eight sources. They are read from an array of their own: an end of which parts are read by constant places is taken

@@ -43,11 +43,11 @@ asked-in me source pair span n r h = go (within span n) (r .slot) h
 
 heard-in : (own : Bool) (clock t : ℕ) (x : Heard) → clock ≤ t → allOf (heardTests own clock x) ≡ true → HeardBy t x
 heard-in own clock t Never l h = tt
-heard-in own clock t (At stamp when) l h = omega (arith, l, leb-true when clock (nth (heardTests own clock (At stamp when)) 2 h))
+heard-in own clock t (At stamp when reported) l h = omega (arith, l, leb-true when clock (nth (heardTests own clock (At stamp when reported)) 2 h))
 
 never-own : (own : Bool) (clock : ℕ) (x : Heard) → own ≡ true → allOf (heardTests own clock x) ≡ true → x ≡ Never
 never-own own clock Never p h = refl
-never-own own clock (At stamp when) p h = absurd (true≢false (sym (nth (heardTests own clock (At stamp when)) 0 h) ∙ ap not p))
+never-own own clock (At stamp when reported) p h = absurd (true≢false (sym (nth (heardTests own clock (At stamp when reported)) 0 h) ∙ ap not p))
 
 pub settled : (e : End) (t : ℕ) → soundOf e ≡ true → t < 281474976710656 → e .clock ≤ t → Settled (withClock e t)
 settled e t h l m =

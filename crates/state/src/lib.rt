@@ -2,11 +2,13 @@
 // specs/Records.antt. They are helpers of the crates above and no calls of the product. A field of Source or End that is added later is
 // a line in each setter here.
 use end::Answer;
+use end::Attempt;
 use end::End;
 use end::Express;
 use end::Heard;
 use end::KEPT;
 use end::Moment;
+use end::Origin;
 use end::Pair;
 use end::Params;
 use end::Record;
@@ -15,11 +17,14 @@ use end::Slot;
 use end::Source;
 use end::Span;
 use end::Status;
+use message::CueNumber;
 ghost use mathlib.Core.Path.{_≡_};
 ghost use Prim.Native.Nat.{_<_};
 ghost use Rattle.message.specs.Limit.{numberLimit};
-ghost use Rattle.end.specs.State.{momentOf, withSpan, withPair, withHeard, withDistance, withNames, withClock, withStatus, isMember, isCrashed};
+ghost use Rattle.end.specs.State.{noAttempt, momentOf, isMember, isCrashed};
+ghost use Rattle.end.specs.State.{withSpan, withPair, withHeard, withDistance, withNames, withOrigin, withClock, withStatus};
 ghost use Rattle.end.specs.Records.{start, place, isHeld, isNo, replyIn, withReply, expressIn, withExpress};
+ghost use Rattle.end.specs.Records.{fetchable, attemptAt, withAttempt};
 ghost use Rattle.end.specs.Sound.{allOf, paramsTests, delayIn, isNoPair};
 ghost use Rattle.end.specs.declared.Answer.the-variants.{Ignored};
 
@@ -143,6 +148,51 @@ pub fn place(n: u64) -> usize
     (n % KEPT) as usize
 }
 
+// ---- the marks of a number below a source's first original
+
+// The number is of 32 bits: that of a place may be above every cue number.
+pub fn fetchable(origin: Origin, n: u32) -> bool
+    ensures { λ r. ⌜ r ≡ fetchable origin n ⌝ }
+{
+    match origin {
+        Origin::NoOrigin => false,
+        Origin::From(first) => (n < first.0 as u32) & (first.0 as u64 <= n as u64 + KEPT),
+    }
+}
+
+// Nobody tried, and nothing handed out.
+pub fn no_attempt() -> Attempt
+    ensures { λ r. ⌜ r ≡ noAttempt ⌝ }
+{
+    Attempt {
+        tried: 0,
+        late: false,
+    }
+}
+
+// What was done to fetch a number of a source: nothing where it may not be fetched.
+pub fn attempt_at(s: Source, n: CueNumber) -> Attempt
+    ensures { λ r. ⌜ r ≡ attemptAt s (n .0) ⌝ }
+{
+    let origin = s.origin;
+    if fetchable(origin, n.0 as u32) {
+        let at = place(n.0 as u64);
+        s.attempts[at]
+    } else {
+        no_attempt()
+    }
+}
+
+// The source with other marks of a number.
+pub fn with_attempt(s: Source, n: CueNumber, a: Attempt) -> Source
+    ensures { λ x. ⌜ x ≡ withAttempt s (n .0) a ⌝ }
+{
+    let at = place(n.0 as u64);
+    let mut out = s;
+    out.attempts[at] = a;
+    out
+}
+
 // "Parameters are 0..32 quarters".
 pub fn params_small(p: Params) -> bool
     ensures { λ r. ⌜ r ≡ allOf (paramsTests p) ⌝ }
@@ -176,6 +226,8 @@ pub fn with_span(s: Source, span: Span) -> Source
     let pair = s.pair;
     let heard = s.heard;
     let names = s.names;
+    let origin = s.origin;
+    let attempts = s.attempts;
     Source {
         span,
         missed: s.missed,
@@ -183,6 +235,8 @@ pub fn with_span(s: Source, span: Span) -> Source
         distance: s.distance,
         heard,
         names,
+        origin,
+        attempts,
     }
 }
 
@@ -192,6 +246,8 @@ pub fn with_pair(s: Source, pair: Pair) -> Source
     let span = s.span;
     let heard = s.heard;
     let names = s.names;
+    let origin = s.origin;
+    let attempts = s.attempts;
     Source {
         span,
         missed: s.missed,
@@ -199,6 +255,8 @@ pub fn with_pair(s: Source, pair: Pair) -> Source
         distance: s.distance,
         heard,
         names,
+        origin,
+        attempts,
     }
 }
 
@@ -210,6 +268,27 @@ pub fn with_names(s: Source, names: [Record; 64]) -> Source
     out
 }
 
+// The source with another first original.
+pub fn with_origin(s: Source, origin: Origin) -> Source
+    ensures { λ r. ⌜ r ≡ withOrigin s origin ⌝ }
+{
+    let span = s.span;
+    let pair = s.pair;
+    let heard = s.heard;
+    let names = s.names;
+    let attempts = s.attempts;
+    Source {
+        span,
+        missed: s.missed,
+        pair,
+        distance: s.distance,
+        heard,
+        names,
+        origin,
+        attempts,
+    }
+}
+
 // A host was heard, and the distance to it measured.
 pub fn with_heard(s: Source, distance: u64, heard: Heard) -> Source
     ensures { λ r. ⌜ r ≡ withHeard (withDistance s distance) heard ⌝ }
@@ -217,6 +296,8 @@ pub fn with_heard(s: Source, distance: u64, heard: Heard) -> Source
     let span = s.span;
     let pair = s.pair;
     let names = s.names;
+    let origin = s.origin;
+    let attempts = s.attempts;
     Source {
         span,
         missed: s.missed,
@@ -224,6 +305,8 @@ pub fn with_heard(s: Source, distance: u64, heard: Heard) -> Source
         distance,
         heard,
         names,
+        origin,
+        attempts,
     }
 }
 

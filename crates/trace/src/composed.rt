@@ -31,6 +31,8 @@ fn kind_of(word: u64) -> u8 {
         words::REPL => message::REPL,
         words::SESS => message::SESS,
         words::XPRS => message::XPRS,
+        words::FTCH => message::FTCH,
+        words::LATE => message::LATE,
         _ => 0,
     }
 }

@@ -19,6 +19,9 @@ pub const LEFT: u64 = 0x6C656674;
 // crash
 pub const CRASH: u64 = 0x6372617368;
 
+// fetch
+pub const FETCH: u64 = 0x6665746368;
+
 // fire
 pub const FIRE: u64 = 0x66697265;
 
@@ -139,8 +142,20 @@ pub const NOPAIR: u64 = 0x6E6F70616972;
 // express
 pub const EXPRESS: u64 = 0x65787072657373;
 
+// ftch
+pub const FTCH: u64 = 0x66746368;
+
 // xprs
 pub const XPRS: u64 = 0x78707273;
+
+// origin
+pub const ORIGIN: u64 = 0x6F726967696E;
+
+// noorigin
+pub const NOORIGIN: u64 = 0x6E6F6F726967696E;
+
+// attempt
+pub const ATTEMPT: u64 = 0x617474656D7074;
 
 // cue
 pub const CUE: u64 = 0x637565;
@@ -235,6 +250,12 @@ pub const NOTHING: u64 = 0x6E6F7468696E67;
 // clash
 pub const CLASH: u64 = 0x636C617368;
 
+// late
+pub const LATE: u64 = 0x6C617465;
+
+// exhauste, the first eight bytes of exhausted
+pub const EXHAUSTE: u64 = 0x6578686175737465;
+
 // differen, the first eight bytes of different
 pub const DIFFEREN: u64 = 0x646966666572656E;
 
@@ -276,6 +297,9 @@ pub const OWN: u64 = 0x6F776E;
 
 // message
 pub const MESSAGE: u64 = 0x6D657373616765;
+
+// no
+pub const NO: u64 = 0x6E6F;
 
 // not
 pub const NOT: u64 = 0x6E6F74;

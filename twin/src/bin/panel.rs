@@ -5,7 +5,8 @@ use std::fmt::Write as _;
 use std::io::{self, BufWriter, Write};
 use twin::cue::Cue;
 use twin::message::{
-    put_together, put_together_old, Echo, Message, Name, Report, DATA, REPL, RQST, SESS, XPRS,
+    put_together, put_together_old, Echo, Message, Name, Report, DATA, FTCH, LATE, REPL, RQST,
+    SESS, XPRS,
 };
 use twin::panel::{cue_test, verdict, write_data};
 use twin::CLOCK_MAX;
@@ -108,9 +109,9 @@ fn host_but(dice: &mut Dice, none: &[u8]) -> u8 {
     dice.pick(&hosts)
 }
 
-/// A message of one of the five kinds, as it should be.
+/// A message of one of the seven kinds, as it should be.
 fn good(dice: &mut Dice) -> Message {
-    let kind = dice.pick(&[DATA, RQST, REPL, SESS, XPRS]);
+    let kind = dice.pick(&[DATA, RQST, REPL, SESS, XPRS, FTCH, LATE]);
     let mut message = Message {
         kind,
         sender: host(dice),
@@ -133,8 +134,8 @@ fn name(dice: &mut Dice, message: &mut Message) {
     let sender = message.sender;
     let (source, host) = match message.kind {
         RQST => (host_but(dice, &[sender]), sender),
-        XPRS => (host_but(dice, &[sender]), host_but(dice, &[sender])),
-        REPL => {
+        XPRS | FTCH => (host_but(dice, &[sender]), host_but(dice, &[sender])),
+        REPL | LATE => {
             let source = host(dice);
             (source, host_but(dice, &[sender, source]))
         }
@@ -146,7 +147,7 @@ fn name(dice: &mut Dice, message: &mut Message) {
         number,
         host,
     });
-    if message.kind != RQST && message.kind != XPRS {
+    if ![RQST, XPRS, FTCH].contains(&message.kind) {
         message.cues.push(cue(dice));
     }
 }
@@ -182,7 +183,7 @@ type Damage = fn(&mut Dice, &mut Message);
 
 /// What can be wrong with a message's parts.
 const DAMAGES: [Damage; 14] = [
-    |dice, m| m.kind = dice.pick(&[0, 5, 16, 17, 18, 19, 20, 21, 22, 23, 24, 255]),
+    |dice, m| m.kind = dice.pick(&[0, 5, 7, 16, 17, 18, 19, 20, 21, 22, 23, 24, 255]),
     |dice, m| m.sender = dice.pick(&[0, 1, 7, 8, 9, 255]),
     |dice, m| {
         m.names

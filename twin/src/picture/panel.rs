@@ -397,9 +397,9 @@ fn line_class(status: Status) -> &'static str {
 pub fn class_of(kind: u8) -> &'static str {
     match kind {
         message::DATA => "data",
-        // Kind 21 asks as RQST does, and has its colour.
-        message::RQST | message::XPRS => "rqst",
-        message::REPL => "repl",
+        // Kinds 21 and 22 ask as RQST does, and have its colour; kind 23 brings a cue as REPL does.
+        message::RQST | message::XPRS | message::FTCH => "rqst",
+        message::REPL | message::LATE => "repl",
         message::SESS => "sess",
         _ => "bytes",
     }

@@ -195,6 +195,10 @@ impl Bench {
             Verb::Fire => Event::Fire,
             Verb::Report => Event::Report,
             Verb::Send(cue) => Event::Send(*cue),
+            Verb::Fetch(source, number) => Event::Fetch {
+                source: *source,
+                number: *number,
+            },
             Verb::Hear(Brought::Bytes(bytes)) => Event::Arrival(bytes.clone()),
             Verb::Hear(Brought::Composed(composed)) => {
                 let mut out = [0; BUFFER as usize];

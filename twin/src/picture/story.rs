@@ -270,6 +270,8 @@ fn sent(bytes: &[u8]) -> Sent {
         message::RQST => "RQST",
         message::REPL => "REPL",
         message::XPRS => "XPRS",
+        message::FTCH => "FTCH",
+        message::LATE => "LATE",
         _ => "SESS",
     };
     let words = match name_in(&message) {
@@ -309,6 +311,12 @@ fn words_of(step: &Step) -> (String, Tone) {
             let words = format!("got {source},{number} focus {focus}");
             (words, Tone::HandedOut)
         }
+        Answer::Late { source, number } => {
+            let focus = signed(i16::from_be_bytes([out[0], out[1]]));
+            let words = format!("late {source},{number} focus {focus}");
+            (words, Tone::HandedOut)
+        }
+        Answer::Exhausted => (spaced(&verb, "exhausted"), Tone::Quiet),
         Answer::Refused(number) => (spaced(&verb, &format!("refused {number}")), Tone::Refused),
         Answer::Clash { source, number } => (
             spaced(&verb, &format!("clash {source},{number}")),
@@ -332,6 +340,7 @@ fn verb_of(event: &Event) -> String {
         Event::Send(cue) => return format!("send focus {}", signed(cue.focus())),
         Event::Fire => "fire",
         Event::Report => "report",
+        Event::Fetch { source, number } => return format!("fetch {source},{number}"),
         Event::Arrival(_) => "",
     };
     verb.to_string()

@@ -2,14 +2,14 @@
 
 use super::stage::Spot;
 use super::Run;
-use crate::end::{Heard, Pair, Params, Reply, Request, Status, TIME_LIMIT};
+use crate::end::{Attempt, Heard, Pair, Params, Reply, Request, Status, TIME_LIMIT};
 use crate::trace::{At, Field};
 use crate::{CLOCK_MAX, HOSTS};
 
 type Change = fn(&mut Run, usize);
 
 /// One row for each field of an end.
-const CHANGES: [(u64, Change); 19] = [
+const CHANGES: [(u64, Change); 22] = [
     (3, next),
     (2, clock),
     (2, parameter),
@@ -21,6 +21,9 @@ const CHANGES: [(u64, Change); 19] = [
     (4, express),
     (4, distance),
     (4, heard),
+    (4, origin),
+    (6, attempt),
+    (1, original_of_oneself),
     (2, body),
     (2, round),
     (2, due),
@@ -155,6 +158,76 @@ fn span(run: &mut Run, place: usize) {
         },
     };
     run.stage.set(place, field);
+    // Mostly with the first original's number that suits it, so that the span's own clause decides.
+    let me = run.stage.ends[place].host;
+    if source != me && !run.dice.one_in(4) {
+        let field = match value {
+            None => Field::NoOrigin(source),
+            Some((first, _)) => Field::Origin(source, first),
+        };
+        run.stage.set(place, field);
+    }
+}
+
+/// "keeps that first original's number, at most first, exactly beside another's first" (document 02, P9).
+fn origin(run: &mut Run, place: usize) {
+    let source = run.likely_source(place);
+    let first = run.stage.span(place, source).map_or(0, |span| span.0);
+    let number = run.dice.pick(&[
+        None,
+        Some(0),
+        Some(first),
+        Some(first),
+        Some(first.saturating_sub(1)),
+        Some(first.saturating_add(1)),
+        Some(first.saturating_add(1)),
+        Some(first.saturating_sub(64)),
+        Some(65_535),
+    ]);
+    let field = match number {
+        None => Field::NoOrigin(source),
+        Some(number) => Field::Origin(source, number),
+    };
+    run.stage.set(place, field);
+}
+
+/// The own source with a first original's number, or with a try.
+fn original_of_oneself(run: &mut Run, place: usize) {
+    let source = run.stage.ends[place].host.min(7);
+    let first = run.stage.span(place, source).map_or(0, |span| span.0);
+    match run.dice.one_in(2) {
+        true => run.stage.set(place, Field::Origin(source, first)),
+        false => {
+            let number = run.dice.number(64);
+            let attempt = Attempt {
+                tried: run.dice.byte(),
+                late: run.dice.one_in(2),
+            };
+            let at = Spot { source, number }.at();
+            run.stage.set(place, Field::Attempt(at, attempt));
+        }
+    }
+}
+
+/// "tries only of other hosts at fetchable numbers, Late marks only beside a try" (document 02, P9): at a fetchable number or just past
+/// them, with and without oneself, with and without a try.
+fn attempt(run: &mut Run, place: usize) {
+    let me = run.stage.ends[place].host.min(7);
+    let source = run.likely_source(place);
+    let origin = run.stage.origin(place, source).unwrap_or(0);
+    let below = 1 + run.dice.number(64);
+    let below = run.dice.pick(&[1, below, 64, 65, 0]);
+    let number = match run.dice.one_in(6) {
+        true => origin.saturating_add(below),
+        false => origin.saturating_sub(below),
+    };
+    let own = 1 << me;
+    let others = run.dice.byte() & !own;
+    let tried = run.dice.pick(&[others, others, 0, own, others | own, 255]);
+    let late = run.dice.one_in(2);
+    let at = Spot { source, number }.at();
+    run.stage
+        .set(place, Field::Attempt(at, Attempt { tried, late }));
 }
 
 /// "that count at most first, 0 without one" (document 02, P7).
@@ -251,7 +324,11 @@ fn heard(run: &mut Run, place: usize) {
     ]);
     let field = match value {
         None => Field::Unheard(source),
-        Some((stamp, at)) => Field::Heard(source, Heard { stamp, at }),
+        Some((stamp, at)) => {
+            let any = run.dice.byte();
+            let sources = run.dice.pick(&[0, any, 255]);
+            Field::Heard(source, Heard { stamp, at, sources })
+        }
     };
     run.stage.set(place, field);
 }

@@ -124,6 +124,20 @@ impl Run {
         counts
     }
 
+    /// What was done to fetch a number, mostly one that was tried.
+    fn asking_attempt(&mut self, end: u8) {
+        let tries = self.stage.attempted(usize::from(end));
+        let at = match tries.is_empty() {
+            true => At {
+                source: self.dice.small(8),
+                place: self.dice.small(64),
+            },
+            false => self.dice.pick(&tries).0.at(),
+        };
+        let asked = Asked::Attempt(at);
+        self.stage.line(Does::Ask { end, asked });
+    }
+
     /// A question about a state. It is no call.
     pub(super) fn asking(&mut self) {
         let end = self.dice.small(10);
@@ -133,7 +147,7 @@ impl Run {
             place: self.dice.small(64),
         };
         let other = self.dice.small(10);
-        let asked = match self.dice.below(16) {
+        let asked = match self.dice.below(22) {
             0 => return self.stage.line(Does::AskOutput),
             1 => Asked::Clock,
             2 => Asked::Next,
@@ -146,6 +160,8 @@ impl Run {
             9 => Asked::Same(other),
             10 | 11 => Asked::Missed(source),
             12 | 13 => Asked::Pair(source),
+            14 | 15 => Asked::Origin(source),
+            16..=19 => return self.asking_attempt(end),
             _ => Asked::Record(at),
         };
         self.stage.line(Does::Ask { end, asked });

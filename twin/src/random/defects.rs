@@ -3,16 +3,16 @@
 use super::messages::Reader;
 use super::stage::SPARE;
 use super::Run;
-use crate::message::{self, Echo, Message, Name, Report, DATA, REPL, RQST, XPRS};
+use crate::message::{self, Echo, Message, Name, Report, DATA, FTCH, LATE, REPL, RQST, XPRS};
 
 type Defect = fn(&mut Run, &mut Message);
 
 /// Each part of questions 9, 10 and 11.
-const DEFECTS: [(u64, Defect); 23] = [
+const DEFECTS: [(u64, Defect); 27] = [
     (1, |run, m| {
-        m.kind = run.dice.pick(&[0, 5, 6, 16, 22, 23, 255])
+        m.kind = run.dice.pick(&[0, 5, 6, 7, 16, 24, 25, 255])
     }),
-    (2, |run, m| m.kind = DATA + run.dice.small(5)),
+    (2, |run, m| m.kind = DATA + run.dice.small(7)),
     (2, |run, m| m.sender = run.dice.pick(&[8, 9, 255])),
     (2, |run, m| name_host(run, m, |name| &mut name.source)),
     (2, |run, m| name_host(run, m, |name| &mut name.host)),
@@ -31,6 +31,18 @@ const DEFECTS: [(u64, Defect); 23] = [
     }),
     (3, |_, m| {
         host_in_name(m, XPRS, |name, sender| name.source = sender)
+    }),
+    (3, |_, m| {
+        host_in_name(m, FTCH, |name, sender| name.host = sender)
+    }),
+    (3, |_, m| {
+        host_in_name(m, FTCH, |name, sender| name.source = sender)
+    }),
+    (3, |_, m| {
+        host_in_name(m, LATE, |name, sender| name.host = sender)
+    }),
+    (3, |_, m| {
+        host_in_name(m, LATE, |name, _| name.host = name.source)
     }),
     (3, |_, m| host_in_name(m, DATA, |name, _| name.host ^= 1)),
     (3, |_, m| {

@@ -6,7 +6,7 @@ use crate::end::{Body, Record, Status};
 use crate::trace::Verb;
 use crate::CLOCK_MAX;
 
-/// The nine events.
+/// The ten events.
 #[derive(Clone, Copy)]
 pub enum Kind {
     Join,
@@ -18,12 +18,13 @@ pub enum Kind {
     Hear,
     Fire,
     Report,
+    Fetch,
 }
 
 use Kind::*;
 
 /// Any event.
-pub const ANY: [(u64, Kind); 9] = [
+pub const ANY: [(u64, Kind); 10] = [
     (1, Join),
     (1, Joined),
     (1, Leave),
@@ -33,18 +34,20 @@ pub const ANY: [(u64, Kind); 9] = [
     (5, Hear),
     (2, Fire),
     (2, Report),
+    (3, Fetch),
 ];
 
 /// Those that move the status.
 pub const MOVES: [(u64, Kind); 5] = [(1, Join), (1, Joined), (1, Leave), (1, Left), (1, Crash)];
 
 /// What a member is called with; none for any event.
-const OF_MEMBERS: [(u64, Option<Kind>); 5] = [
+const OF_MEMBERS: [(u64, Option<Kind>); 6] = [
     (44, Some(Hear)),
-    (16, Some(Send)),
-    (24, Some(Fire)),
+    (15, Some(Send)),
+    (22, Some(Fire)),
     (9, Some(Report)),
-    (7, None),
+    (4, Some(Fetch)),
+    (6, None),
 ];
 
 /// When what waits in a record is due.
@@ -129,6 +132,7 @@ impl Run {
             Fire => Verb::Fire,
             Report => Verb::Report,
             Send => Verb::Send(self.cue()),
+            Fetch => self.fetch_of(place),
             Hear => {
                 let reader = Reader {
                     place,

@@ -6,7 +6,7 @@ use super::Run;
 use crate::cue::Cue;
 use crate::end::Body;
 use crate::message::{self, Echo, Message, Name, Report};
-use crate::trace::{Brought, Composed};
+use crate::trace::{Brought, Composed, Verb};
 use crate::CLOCK_MAX;
 
 /// A message about a name; the cue is left out where the kind has none.
@@ -22,7 +22,7 @@ pub fn about(kind: u8, sender: u8, stamp: u64, name: Spot, host: u8, cue: Cue) -
             host,
         }],
         cues: match kind {
-            message::RQST | message::XPRS => vec![],
+            message::RQST | message::XPRS | message::FTCH => vec![],
             _ => vec![cue],
         },
         reports: vec![],
@@ -118,7 +118,9 @@ impl Run {
         match self.dice.below(10) {
             0 => message::put_together(&message),
             1 => {
-                message.kind = self.dice.pick(&[0, 5, 6, 16, 17, 18, 19, 20, 21, 255]);
+                message.kind = self
+                    .dice
+                    .pick(&[0, 5, 6, 7, 16, 17, 18, 19, 20, 21, 22, 23, 255]);
                 message::put_together_old(&message)
             }
             _ => message::put_together_old(&message),
@@ -135,7 +137,7 @@ impl Run {
         let mut bytes = self.dice.bytes(length as usize);
         // Every other time it begins as a message would, with counts of sections that may fit.
         if length >= 12 && self.dice.one_in(2) {
-            bytes[0] = self.dice.pick(&[1, 17]) + self.dice.small(5);
+            bytes[0] = self.dice.pick(&[1, 17]) + self.dice.small(7);
             bytes[1] = self.dice.small(8);
             bytes[2..8].fill(0);
             bytes[8] = self.dice.small(2);
@@ -162,7 +164,7 @@ impl Run {
         let (place, value) = match dice.below(12) {
             0 | 10 => return bytes.truncate(at),
             1 | 11 => return bytes.push(dice.pick(&[0, 1])),
-            2 => (0, dice.pick(&[0, 16]) + dice.small(7)),
+            2 => (0, dice.pick(&[0, 16]) + dice.small(9)),
             3 => (1, dice.small(9)),
             4 => (9, dice.small(9)),
             5 => (10 + usize::from(dice.small(2)), dice.small(66)),
@@ -306,6 +308,8 @@ impl Run {
             (4, message::REPL),
             (4, message::SESS),
             (3, message::XPRS),
+            (3, message::FTCH),
+            (3, message::LATE),
         ]) {
             message::DATA => about(message::DATA, source, stamp, name, source, cue),
             message::RQST => {
@@ -322,11 +326,98 @@ impl Run {
                 let requester = self.dice.host_but(&[sender, source]);
                 about(message::REPL, sender, stamp, name, requester, cue)
             }
+            message::FTCH => {
+                let sender = self.dice.host_but(&[source]);
+                let host = self.named_by(sender, reader.place);
+                about(message::FTCH, sender, stamp, name, host, cue)
+            }
+            message::LATE => self.compose_late(reader.place, stamp),
             _ => self.compose_session(reader.place, clock, stamp),
         }
     }
 
-    /// The host that kind 21 names: every other time its reader, else any; never its sender.
+    /// Kind 23 (document 02, P9): mostly of a name that its reader has tried to fetch, from a host tried for it, to its reader; now and then
+    /// of a number 64 away, from another or to another.
+    fn compose_late(&mut self, place: usize, stamp: u64) -> Message {
+        let me = self.stage.ends[place].host;
+        let tries = self.stage.attempted(place);
+        let (name, tried) = match tries.is_empty() || self.dice.one_in(4) {
+            true => {
+                let (source, number) = self.fetched_name(place);
+                let source = source.min(7);
+                (Spot { source, number }, self.dice.byte())
+            }
+            false => {
+                let (name, attempt) = self.dice.pick(&tries);
+                (name, attempt.tried)
+            }
+        };
+        let name = self.perhaps_64_away(name);
+        let source = name.source;
+        let likely: Vec<u8> = (0..8).filter(|&host| tried >> host & 1 == 1).collect();
+        let sender = match likely.is_empty() || self.dice.one_in(5) {
+            true => self.dice.small(8),
+            false => self.dice.pick(&likely),
+        };
+        let other = self.dice.host_but(&[sender, source]);
+        let asked = me < 8 && me != sender && me != source && !self.dice.one_in(6);
+        let requester = if asked { me } else { other };
+        let cue = self.good_cue();
+        about(message::LATE, sender, stamp, name, requester, cue)
+    }
+
+    /// The name, now and then one at the same place 64 below or above.
+    pub fn perhaps_64_away(&mut self, name: Spot) -> Spot {
+        let number = match self.dice.below(12) {
+            0 => name.number.saturating_sub(64),
+            1 => name.number.saturating_add(64),
+            _ => name.number,
+        };
+        Spot { number, ..name }
+    }
+
+    /// A Fetch (document 02, P9): mostly of "the 64 numbers just below the first original", about their edges; now and then of a number that
+    /// was tried, of the own source, of one that is not open, or of no host.
+    pub fn fetch_of(&mut self, place: usize) -> Verb {
+        let tries = self.stage.attempted(place);
+        if !tries.is_empty() && self.dice.one_in(3) {
+            let (name, _) = self.dice.pick(&tries);
+            return Verb::Fetch(name.source, name.number);
+        }
+        let (source, number) = self.fetched_name(place);
+        Verb::Fetch(source, number)
+    }
+
+    fn fetched_name(&mut self, place: usize) -> (u8, u16) {
+        let source = match self.dice.below(24) {
+            0 => self.dice.pick(&[8, 9, 255]),
+            1 => self.dice.small(8),
+            _ => self.likely_source(place),
+        };
+        let Some(origin) = self.stage.origin(place, source) else {
+            let near = self.name_near(place, source.min(7)).number;
+            return (source, near);
+        };
+        let any = 1 + self.dice.below(64) as i32;
+        let below = self.dice.weighted(&[
+            (8, 1),
+            (4, 2),
+            (2, 3),
+            (6, any),
+            (1, 63),
+            (3, 64),
+            (2, 65),
+            (1, 66),
+            (1, 128),
+            (2, 0),
+            (1, -1),
+            (1, -64),
+        ]);
+        let number = (i32::from(origin) - below).clamp(0, 65_535) as u16;
+        (source, number)
+    }
+
+    /// The host that kind 21 or 22 names: every other time its reader, else any; never its sender.
     pub fn named_by(&mut self, sender: u8, place: usize) -> u8 {
         let reader = self.stage.ends[place].host;
         match reader < 8 && reader != sender && self.dice.one_in(2) {

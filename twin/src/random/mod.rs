@@ -9,6 +9,7 @@ mod codec;
 mod defects;
 mod dice;
 mod events;
+mod fetching;
 mod messages;
 pub mod records;
 mod scenes;
@@ -40,11 +41,12 @@ pub fn trace(seed: u64, steps: u64) -> Result<String, String> {
 type Part = fn(&mut Run);
 
 /// The parts of a run, and how many of 100 draws choose each.
-const PARTS: [(u64, Part); 11] = [
-    (43, Run::on_one),
+const PARTS: [(u64, Part); 12] = [
+    (41, Run::on_one),
     (1, Run::way),
     (1, Run::burst),
     (1, Run::late),
+    (2, Run::catch_up),
     (2, Run::opening),
     (10, Run::codec),
     (1, Run::asking),

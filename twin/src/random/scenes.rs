@@ -3,13 +3,13 @@
 use super::events::MOVES;
 use super::messages::{about, composed, session, Reader};
 use super::stage::{Spot, COPY, SPARE};
-use super::{Part, Run};
+use super::{fetching, Part, Run};
 use crate::end::{Heard, Params, Status};
 use crate::message::{self, Echo, Message, Report};
 use crate::trace::{Asked, Brought, Does, Field, Verb};
 use crate::{CLOCK_MAX, NUMBERS, PLACES};
 
-const SCENES: [(u64, Part); 22] = [
+const SCENES: [(u64, Part); 26] = [
     (8, request_quiet),
     (8, reply_quiet),
     (10, ties),
@@ -32,6 +32,10 @@ const SCENES: [(u64, Part); 22] = [
     (14, express_gap),
     (8, pairs),
     (10, kind_21),
+    (14, fetching::fetches),
+    (12, fetching::late_cue),
+    (8, fetching::kind_22),
+    (8, fetching::rejoined),
 ];
 
 impl Run {
@@ -149,16 +153,21 @@ fn span_edges(run: &mut Run) {
         _ => run.name(false).source,
     };
     let name = run.name_near(SPARE, source);
-    let kind = run
-        .dice
-        .pick(&[message::DATA, message::RQST, message::REPL, message::XPRS]);
+    let kind = run.dice.pick(&[
+        message::DATA,
+        message::RQST,
+        message::REPL,
+        message::XPRS,
+        message::FTCH,
+        message::LATE,
+    ]);
     let ticks = run.dice.below(3);
     run.hears_of(kind, name, ticks);
 }
 
 impl Run {
     /// A message of this kind from another end brings a number, so many ticks on.
-    fn hears_of(&mut self, kind: u8, name: Spot, ticks: u64) {
+    pub(super) fn hears_of(&mut self, kind: u8, name: Spot, ticks: u64) {
         let (me, source) = (self.me(), name.source);
         let cue = self.cue_of(SPARE, name);
         let clock = self.after(ticks);
@@ -178,6 +187,16 @@ impl Run {
                 let sender = self.dice.host_but(&[me]);
                 let requester = self.dice.host_but(&[sender, source]);
                 about(message::REPL, sender, stamp, name, requester, cue)
+            }
+            message::FTCH => {
+                let sender = self.dice.host_but(&[me, source]);
+                let host = self.named_by(sender, SPARE);
+                about(message::FTCH, sender, stamp, name, host, cue)
+            }
+            message::LATE => {
+                let sender = self.dice.host_but(&[me]);
+                let requester = self.dice.host_but(&[sender, source]);
+                about(message::LATE, sender, stamp, name, requester, cue)
             }
             _ => {
                 let sender = self.dice.host_but(&[me]);
@@ -246,7 +265,11 @@ fn full_report(run: &mut Run) {
         }
         if source != me {
             let stamp = run.dice.pick(&[0, 7, now, CLOCK_MAX]);
-            let heard = Heard { stamp, at: now };
+            let heard = Heard {
+                stamp,
+                at: now,
+                sources: run.dice.byte(),
+            };
             run.stage.set(SPARE, Field::Heard(source, heard));
         }
     }
@@ -306,10 +329,14 @@ fn looped(run: &mut Run) {
         0 if source == me => about(message::DATA, me, 5, name, me, cue),
         0 if source != me && run.dice.one_in(2) => {
             let host = run.dice.host_but(&[me]);
-            about(message::XPRS, me, 5, name, host, cue)
+            let kind = run.dice.pick(&[message::XPRS, message::FTCH]);
+            about(kind, me, 5, name, host, cue)
         }
         0 if source != me => about(message::RQST, me, 5, name, me, cue),
-        1 => about(message::REPL, me, 5, name, requester, cue),
+        1 => {
+            let kind = run.dice.pick(&[message::REPL, message::LATE]);
+            about(kind, me, 5, name, requester, cue)
+        }
         _ => {
             let last = name.number.saturating_add(1);
             session(me, 5, vec![Report { source, last }], vec![])
@@ -366,13 +393,17 @@ impl Run {
             let sender = if looped { me } else { other };
             if self.dice.one_in(3) {
                 let host = self.named_by(sender, SPARE);
-                return about(message::XPRS, sender, 5, name, host, cue);
+                let kind = self.dice.pick(&[message::XPRS, message::FTCH]);
+                return about(kind, sender, 5, name, host, cue);
             }
             return about(message::RQST, sender, 5, name, sender, cue);
         }
         let sender = if looped { me } else { other };
         let requester = self.dice.host_but(&[sender, source]);
-        about(message::REPL, sender, 5, name, requester, cue)
+        let kind = self
+            .dice
+            .pick(&[message::REPL, message::REPL, message::LATE]);
+        about(kind, sender, 5, name, requester, cue)
     }
 }
 

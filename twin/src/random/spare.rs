@@ -4,9 +4,9 @@ use super::events::ANY;
 use super::messages::{about, composed};
 use super::stage::{Spot, COPY, SPARE};
 use super::Run;
-use crate::end::{Pair, Reply, Request, Status};
+use crate::end::{Attempt, Pair, Reply, Request, Status};
 use crate::message::{self, Message};
-use crate::trace::{Does, Field, Verb};
+use crate::trace::{At, Does, Field, Verb};
 use crate::CLOCK_MAX;
 
 impl Run {
@@ -170,6 +170,10 @@ impl Run {
         self.stage.set(SPARE, span);
         if source == me {
             self.stage.set(SPARE, Field::Next(u32::from(last) + 1));
+        } else {
+            let lower = first.saturating_sub(self.dice.pick(&[1, 2, 63, 64, 65]));
+            let origin = self.dice.pick(&[first, first, first, lower]);
+            self.originates(source, origin);
         }
         if self.dice.one_in(3) {
             let missed = self.dice.pick(&[0, 1, first / 2, first]).min(first);
@@ -181,6 +185,18 @@ impl Run {
                 self.waits(name, 1, 5, 5);
             } else {
                 self.held(name);
+            }
+        }
+    }
+
+    /// The first original's number of another's source, at most its first (document 02, P9). What was done to fetch others goes.
+    pub fn originates(&mut self, source: u8, origin: u16) {
+        self.stage.set(SPARE, Field::Origin(source, origin));
+        for place in 0..64 {
+            let kept = &self.stage.ends[SPARE].sources[usize::from(source)];
+            if kept.attempts[usize::from(place)] != Attempt::NONE {
+                let at = At { source, place };
+                self.stage.set(SPARE, Field::Attempt(at, Attempt::NONE));
             }
         }
     }

@@ -2,7 +2,7 @@
 
 use std::fmt::Write;
 
-use crate::end::{place_of, Answer, Body, End, Event, Params, Record};
+use crate::end::{place_of, Answer, Attempt, Body, End, Event, Params, Record};
 use crate::message::{self, Datagram};
 use crate::replay;
 use crate::trace::{row_of_draws, At, Brought, Does, Field, Verb, BUFFER};
@@ -59,13 +59,14 @@ pub struct PutOut {
 }
 
 impl PutOut {
-    /// Whether it is one of the eight's and brings the cue of this name.
+    /// Whether it is one of the eight's and brings the cue of this name, as an original or a repair.
     pub fn brings(&self, name: Spot) -> bool {
         let message = message::read(&self.bytes).ok().and_then(Datagram::message);
         self.real
             && message.is_some_and(|m| {
                 let named = m.names.first().map(|n| (n.source, n.number));
-                !m.cues.is_empty() && named == Some((name.source, name.number))
+                matches!(m.kind, message::DATA | message::REPL)
+                    && named == Some((name.source, name.number))
             })
     }
 }
@@ -192,6 +193,10 @@ impl Stage {
             Verb::Fire => Event::Fire,
             Verb::Report => Event::Report,
             Verb::Send(cue) => Event::Send(*cue),
+            Verb::Fetch(source, number) => Event::Fetch {
+                source: *source,
+                number: *number,
+            },
             Verb::Hear(brought) => Event::Arrival(self.bytes(brought)),
         }
     }
@@ -234,6 +239,26 @@ impl Stage {
     pub fn span(&self, place: usize, source: u8) -> Option<(u16, u16)> {
         let kept = &self.ends[place].sources[usize::from(source)];
         kept.first.zip(kept.last)
+    }
+
+    /// The number of the first original of a source, where there was one.
+    pub fn origin(&self, place: usize, source: u8) -> Option<u16> {
+        let kept = self.ends[place].sources.get(usize::from(source))?;
+        kept.origin
+    }
+
+    /// The names that an end has tried to fetch, each with what was done.
+    pub fn attempted(&self, place: usize) -> Vec<(Spot, Attempt)> {
+        let sources = (0..8).zip(&self.ends[place].sources);
+        sources
+            .flat_map(|(source, kept)| {
+                let numbers = (0..kept.origin.unwrap_or(0)).rev().take(64);
+                numbers.filter_map(move |number| {
+                    let attempt = *kept.attempt(number)?;
+                    (attempt.tried != 0).then_some((Spot { source, number }, attempt))
+                })
+            })
+            .collect()
     }
 
     pub fn open_sources(&self, place: usize) -> Vec<u8> {

@@ -4,7 +4,7 @@
 use twin::cue::Cue;
 use twin::end::place_of;
 use twin::end::{
-    Answer, Body, End, Event, Heard, Pair, Params, Record, Reply, Request, Source, Status,
+    Answer, Attempt, Body, End, Event, Heard, Pair, Params, Record, Reply, Request, Source, Status,
     TIME_LIMIT,
 };
 use twin::message::Message;
@@ -67,6 +67,7 @@ fn sound_end(rng: &mut Rng) -> End {
                 end.sources[usize::from(source)].heard = Some(Heard {
                     stamp: rng.below(CLOCK_MAX + 1),
                     at: rng.below(end.clock + 1),
+                    sources: rng.byte(),
                 });
             }
         }
@@ -96,6 +97,9 @@ fn sound_end(rng: &mut Rng) -> End {
         end.sources[usize::from(source)].first = Some(first);
         end.sources[usize::from(source)].last = Some(last);
         end.sources[usize::from(source)].missed = rng.below(u64::from(first) + 1) as u32;
+        if !own {
+            fetched(rng, host, &mut end.sources[usize::from(source)]);
+        }
         for number in first..=last {
             let mut record = Record::EMPTY;
             record.reply_quiet = time(rng, end.clock);
@@ -126,6 +130,21 @@ fn sound_end(rng: &mut Rng) -> End {
     end
 }
 
+/// Document 02, P9: a first original's number, "at most first", and tries and Late marks of the 64 numbers below it.
+fn fetched(rng: &mut Rng, host: u8, source: &mut Source) {
+    let back = match rng.once_in(3) {
+        true => rng.number(200),
+        false => 0,
+    };
+    let origin = source.first.map_or(0, |first| first.saturating_sub(back));
+    source.origin = Some(origin);
+    for number in (0..origin).rev().take(64) {
+        let tried = rng.byte() & rng.byte() & !(1 << host);
+        let late = tried != 0 && rng.once_in(3);
+        source.attempts[place_of(number)] = Attempt { tried, late };
+    }
+}
+
 /// Any cue number, the low and the highest ones often.
 fn any_number(rng: &mut Rng) -> u16 {
     match rng.below(4) {
@@ -139,7 +158,15 @@ fn any_number(rng: &mut Rng) -> u16 {
 fn any_message(rng: &mut Rng) -> Message {
     let (source, number, cue) = (rng.small(8), any_number(rng), rng.cue());
     let sender = other_than(rng, &[source]);
-    let mut message = match rng.below(5) {
+    let mut message = match rng.below(7) {
+        5 => ftch(sender, source, number, other_than(rng, &[sender])),
+        6 => late(
+            sender,
+            source,
+            number,
+            other_than(rng, &[source, sender]),
+            cue,
+        ),
         4 => xprs(sender, source, number, other_than(rng, &[sender])),
         0 => data(source, number, cue),
         1 => rqst(sender, source, number),
@@ -167,7 +194,15 @@ fn any_message(rng: &mut Rng) -> Message {
 }
 
 fn any_event(rng: &mut Rng) -> Event {
-    match rng.below(14) {
+    match rng.below(16) {
+        14 => Event::Fetch {
+            source: any(rng) as u8,
+            number: any(rng) as u16,
+        },
+        15 => Event::Fetch {
+            source: rng.small(8),
+            number: any_number(rng),
+        },
         0 => Event::Join,
         1 => Event::Joined,
         2 => Event::Leave,
@@ -254,6 +289,13 @@ fn any_pair(rng: &mut Rng) -> Pair {
     }
 }
 
+fn any_attempt(rng: &mut Rng) -> Attempt {
+    Attempt {
+        tried: if rng.once_in(2) { 0 } else { rng.byte() },
+        late: rng.once_in(4),
+    }
+}
+
 fn any_source(rng: &mut Rng) -> Source {
     Source {
         first: maybe(rng, |rng| any(rng) as u16),
@@ -264,8 +306,11 @@ fn any_source(rng: &mut Rng) -> Source {
         heard: maybe(rng, |rng| Heard {
             stamp: any(rng),
             at: any(rng),
+            sources: rng.byte(),
         }),
         names: std::array::from_fn(|_| any_record(rng)),
+        origin: maybe(rng, |rng| any(rng) as u16),
+        attempts: std::array::from_fn(|_| any_attempt(rng)),
     }
 }
 
@@ -278,7 +323,9 @@ fn any_state_can_be_asked() {
     for _ in 0..6000 {
         let mut end = sound_end(&mut rng);
         let (s, n) = (rng.small(8) as usize, rng.small(64) as usize);
-        match rng.below(13) {
+        match rng.below(15) {
+            13 => end.sources[s].origin = maybe(&mut rng, |rng| any(rng) as u16),
+            14 => end.sources[s].attempts[n] = any_attempt(&mut rng),
             11 => end.params.e = any(&mut rng) as u16,
             12 => end.sources[s].pair = maybe(&mut rng, any_pair),
             0 => end.host = any(&mut rng) as u8,

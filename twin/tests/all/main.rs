@@ -5,6 +5,7 @@ mod book;
 mod cases;
 mod events;
 mod express;
+mod fetching;
 mod house;
 mod judge;
 mod messages;

@@ -33,6 +33,10 @@ fn samples() -> Vec<Message> {
         repl(0, 0, 9, 1, numbered_cue()),
         xprs(2, 0, 9, 3),
         xprs(2, 0, 9, 0),
+        ftch(2, 0, 9, 3),
+        ftch(2, 0, 65_535, 0),
+        late(2, 0, 9, 1, numbered_cue()),
+        late(0, 0, 65_535, 1, numbered_cue()),
         sess(3, 0, &[], &[]),
         sess(3, 77, &[(0, 1), (3, 0)], &[(1, 10, 20), (7, 30, 40)]),
         full_sess(),
@@ -137,8 +141,8 @@ fn question_8() {
 /// "the old kinds are still read, numbers to 63, as the same meanings and no longer written".
 #[test]
 fn old_kinds() {
-    // Kind 21 is for no old one.
-    for message in samples().into_iter().filter(|m| m.kind != XPRS) {
+    // Kinds 21 to 23 are for no old one.
+    for message in samples().into_iter().filter(|m| m.kind < XPRS) {
         let small = changed(&message, |m| {
             m.names.iter_mut().for_each(|name| name.number %= 64);
             m.reports.iter_mut().for_each(|report| report.last %= 64);
@@ -161,7 +165,7 @@ fn old_kinds() {
             assert_eq!(answer.err(), refused.then_some(10));
         }
     }
-    for kind in [0, 5, 16, 22, 255] {
+    for kind in [0, 5, 6, 7, 16, 24, 255] {
         let message = changed(&rqst(1, 0, 1), |m| m.kind = kind);
         assert_eq!(read(&put_together_old(&message)), Err(8));
         assert_eq!(read(&lay(&message)), Err(9));

@@ -25,6 +25,10 @@ pub fn every_event() -> Vec<Event> {
         Event::Send(Cue::ZERO),
         Event::Fire,
         Event::Report,
+        Event::Fetch {
+            source: 0,
+            number: 0,
+        },
         Event::Arrival(bytes(&sess(7, 0, &[], &[]))),
     ]
 }

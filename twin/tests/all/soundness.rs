@@ -1,7 +1,9 @@
 //! Each clause of "A state is sound if", by a state that breaks just it.
 
 use twin::cue::Cue;
-use twin::end::{Answer, Body, End, Event, Heard, Pair, Reply, Request, Status, TIME_LIMIT};
+use twin::end::{
+    Answer, Attempt, Body, End, Event, Heard, Pair, Record, Reply, Request, Status, TIME_LIMIT,
+};
 use twin::CLOCK_MAX;
 
 use crate::support::*;
@@ -92,11 +94,17 @@ fn first_and_last() {
     unsound(&member(3), |e| {
         e.sources[0].first = Some(1);
         e.sources[0].last = Some(0);
+        e.sources[0].origin = Some(0);
     });
     // "last − first at most 63": the places of 67 to 69 are those of 3 to 5.
     sound(&end, |e| {
         e.sources[0].first = Some(67);
         e.sources[0].last = Some(69);
+    });
+    sound(&end, |e| {
+        e.sources[0].first = Some(67);
+        e.sources[0].last = Some(69);
+        e.sources[0].origin = Some(67);
     });
     unsound(&end, |e| {
         e.sources[0].first = Some(64);
@@ -107,6 +115,7 @@ fn first_and_last() {
         move |e: &mut End| {
             let source = &mut e.sources[0];
             (source.first, source.last) = (Some(first), Some(last));
+            source.origin = Some(first);
             for record in &mut source.names {
                 record.body = Body::Held;
             }
@@ -218,7 +227,13 @@ fn replies() {
 fn heard_stamps() {
     let end = busy();
     let with = |host: usize, stamp, at| {
-        move |e: &mut End| e.sources[host].heard = Some(Heard { stamp, at })
+        move |e: &mut End| {
+            e.sources[host].heard = Some(Heard {
+                stamp,
+                at,
+                sources: 255,
+            })
+        }
     };
     // "heard times are at most the clock"; the stamp is another's clock.
     sound(&end, with(2, CLOCK_MAX, 1000));
@@ -264,6 +279,58 @@ fn pairs_and_express_waits() {
     }
 }
 
+/// Document 02, P9: "A sound state keeps that first original's number, at most first, exactly beside another's first".
+#[test]
+fn first_originals() {
+    let end = busy();
+    assert_eq!(end.sources[0].origin, Some(3));
+    for number in 0..4 {
+        sound(&end, |e| e.sources[0].origin = Some(number));
+    }
+    unsound(&end, |e| e.sources[0].origin = Some(4));
+    unsound(&end, |e| e.sources[0].origin = Some(u16::MAX));
+    unsound(&end, |e| e.sources[0].origin = None);
+    unsound(&end, |e| e.sources[1].origin = Some(0));
+    unsound(&end, |e| e.sources[2].origin = Some(0));
+}
+
+/// P9: "tries only of other hosts at fetchable numbers, Late marks only beside a try".
+#[test]
+fn tries_and_late_marks() {
+    let end = busy();
+    let with = |source: usize, place: usize, tried, late| {
+        move |e: &mut End| e.sources[source].attempts[place] = Attempt { tried, late }
+    };
+    // 0, 1 and 2 are fetchable, just below 3; oneself is 1.
+    for place in 0..64 {
+        let check = if place < 3 { sound } else { unsound };
+        check(&end, with(0, place, 0b1111_1101, false));
+        check(&end, with(0, place, 1, true));
+        unsound(&end, with(0, place, 2, false));
+        unsound(&end, with(0, place, 255, true));
+        unsound(&end, with(0, place, 0, true));
+        sound(&end, with(0, place, 0, false));
+        unsound(&end, with(1, place, 1, false));
+        unsound(&end, with(2, place, 1, false));
+    }
+    // With a higher first original: its 64 numbers have all places; with 65,535 too.
+    for origin in [63, 64, 65, 100, 65_535] {
+        for place in 0..64 {
+            let high = |e: &mut End| {
+                let source = &mut e.sources[0];
+                (source.first, source.last) = (Some(u16::MAX), Some(u16::MAX));
+                source.names = [Record::EMPTY; 64];
+                source.names[63].body = Body::Held;
+                source.origin = Some(origin);
+                source.attempts[place].tried = 1;
+            };
+            let none = origin == 63 && place == 63;
+            let check = if none { unsound } else { sound };
+            check(&end, high);
+        }
+    }
+}
+
 #[test]
 fn non_members() {
     // "a non-member has no first, request, reply or heard stamp, and distances to
@@ -282,13 +349,22 @@ fn non_members() {
         unsound(&end, |e| e.sources[3].pair = pair(2, 0, 0));
         unsound(&end, |e| e.sources[1].distance = 40);
         unsound(&end, |e| {
-            e.sources[2].heard = Some(Heard { stamp: 0, at: 0 })
+            e.sources[2].heard = Some(Heard {
+                stamp: 0,
+                at: 0,
+                sources: 0,
+            })
         });
         unsound(&end, |e| {
             e.sources[2].first = Some(0);
             e.sources[2].last = Some(0);
+            e.sources[2].origin = Some(0);
             e.sources[2].names[0].body = Body::Held;
         });
+        // P9: "non-members keep none".
+        unsound(&end, |e| e.sources[2].origin = Some(0));
+        unsound(&end, |e| e.sources[2].attempts[0].tried = 1);
+        unsound(&end, |e| e.sources[2].attempts[0].late = true);
         unsound(&end, |e| e.sources[2].names[0].body = Body::Held);
         unsound(&end, |e| e.sources[2].names[0].reply_quiet = 1);
         // The next own number stays, whatever the status.

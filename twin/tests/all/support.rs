@@ -124,6 +124,17 @@ pub fn xprs(sender: u8, source: u8, number: u16, host: u8) -> Message {
     named(message::XPRS, sender, (source, number, host), vec![])
 }
 
+/// Document 02, P9's kind 22, to the host tried.
+pub fn ftch(sender: u8, source: u8, number: u16, host: u8) -> Message {
+    named(message::FTCH, sender, (source, number, host), vec![])
+}
+
+/// P9's kind 23, its cue.
+pub fn late(sender: u8, source: u8, number: u16, requester: u8, cue: Cue) -> Message {
+    let name = (source, number, requester);
+    named(message::LATE, sender, name, vec![cue])
+}
+
 pub fn repl(sender: u8, source: u8, number: u16, requester: u8, cue: Cue) -> Message {
     let name = (source, number, requester);
     named(message::REPL, sender, name, vec![cue])
@@ -221,8 +232,12 @@ pub fn watched(
             assert!(read(&out[..length]).is_ok());
             length
         }
-        Answer::Got { .. } => 24,
-        Answer::Clash { .. } | Answer::Done | Answer::Ignored | Answer::Nothing => 0,
+        Answer::Got { .. } | Answer::Late { .. } => 24,
+        Answer::Clash { .. }
+        | Answer::Exhausted
+        | Answer::Done
+        | Answer::Ignored
+        | Answer::Nothing => 0,
     };
     assert!(out[wrote..].iter().all(|&byte| byte == FILL));
     if !matches!(answer, Answer::Refused(_)) {

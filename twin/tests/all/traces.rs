@@ -3,7 +3,7 @@
 use crate::support::Rng;
 use twin::branches;
 use twin::cue::Cue;
-use twin::end::{Heard, Params, Reply, Request, Status};
+use twin::end::{Attempt, Heard, Params, Reply, Request, Status};
 use twin::message::{Message, DATA};
 use twin::replay::{play, Mode};
 use twin::trace::{row_of_draws, Asked, At, Brought, Composed, Does, Field, Line, Row, Verb};
@@ -48,7 +48,7 @@ const AT: At = At {
 };
 
 /// One line of each form, each as it is printed.
-const LINES: [&str; 91] = [
+const LINES: [&str; 102] = [
     "start",
     "draws 66 65535 7",
     "draws 0 0 0",
@@ -110,6 +110,17 @@ const LINES: [&str; 91] = [
     "0 set distance 7 18446744073709551615",
     "0 set heard 7 18446744073709551615 0",
     "0 set unheard 7",
+    "0 set heard 7 1 0 255",
+    "0 set origin 7 65535",
+    "0 set noorigin 7",
+    "0 set attempt 7 63 255 1",
+    "0 ask origin 7",
+    "0 ask attempt 7 63",
+    "5 fetch 6 255 65535",
+    "5 why fetch 6 7 0",
+    "8 hear 9 ftch 1 392 name 0 1 2",
+    "write late 1 392 name 0 65535 2 cue -1 2 3 4 5",
+    "5 fetch 6 0 0 = late | never so",
     "0 set empty 7 63",
     "0 set held 7 63",
     "0 set waits 7 63 255 18446744073709551615 0",
@@ -193,8 +204,38 @@ fn forms_have_their_values() {
         does("2 set status leaving"),
         set(Field::Status(Status::Leaving))
     );
-    let heard = Heard { stamp: 4, at: 5 };
-    assert_eq!(does("2 set heard 3 4 5"), set(Field::Heard(3, heard)));
+    let heard = |sources| Heard {
+        stamp: 4,
+        at: 5,
+        sources,
+    };
+    assert_eq!(does("2 set heard 3 4 5"), set(Field::Heard(3, heard(0))));
+    assert_eq!(
+        does("2 set heard 3 4 5 255"),
+        set(Field::Heard(3, heard(255)))
+    );
+    assert_eq!(does("2 set heard 3 4 5 256"), None);
+    assert_eq!(does("2 set origin 3 65535"), set(Field::Origin(3, 65_535)));
+    assert_eq!(does("2 set noorigin 3"), set(Field::NoOrigin(3)));
+    assert_eq!(does("2 set origin 3 65536"), None);
+    assert_eq!(does("2 set origin 8 0"), None);
+    assert_eq!(does("2 ask origin 3"), ask(Asked::Origin(3)));
+    let attempt = Attempt {
+        tried: 254,
+        late: true,
+    };
+    assert_eq!(
+        does("2 set attempt 3 63 254 1"),
+        set(Field::Attempt(AT, attempt))
+    );
+    assert_eq!(does("2 ask attempt 3 63"), ask(Asked::Attempt(AT)));
+    for bad in ["3 64 0 0", "8 0 0 0", "3 63 256 0", "3 63 0 2", "3 63 0"] {
+        assert_eq!(does(&format!("2 set attempt {bad}")), None);
+    }
+    assert_eq!(does("1 fetch 7 255 65535"), call(Verb::Fetch(255, 65_535)));
+    for bad in ["7 256 0", "7 0 65536", "7 0", "7", "7 0 0 0"] {
+        assert_eq!(does(&format!("1 fetch {bad}")), None);
+    }
     let request = Request {
         round: 1,
         due: 2,
@@ -499,9 +540,9 @@ fn the_digest_is_the_pages() {
     // fresh end of host 0, and what the script leaves of host 1's.
     assert_eq!(
         answers("3 open 0 9 8 4 4 4 8\n"),
-        ["1 opened; none; 4950C7E071E5615F"]
+        ["1 opened; none; 54299547BE1D01FD"]
     );
-    assert!(answers(SCRIPT)[13].ends_with("; 99CC314D970C1CB2; none"));
+    assert!(answers(SCRIPT)[13].ends_with("; 0153C9EE7E7B6DB5; none"));
 }
 
 #[test]
@@ -521,6 +562,11 @@ fn every_field_counts_in_the_digest_and_in_same() {
         "missed 7 1",
         "distance 7 41",
         "heard 7 0 0",
+        "origin 0 0",
+        "origin 7 0",
+        "attempt 7 63 1 0",
+        "attempt 7 63 0 1",
+        "attempt 0 0 128 0",
         "waits 7 63 1 0 0",
         "held 7 63",
         "reply 7 63 0 1",
@@ -553,7 +599,15 @@ fn states_are_set_and_asked() {
         ("missed 7 65472", "missed 7", "65472"),
         ("missed 6 65472", "missed 7", "0"),
         ("next 65536", "next", "65536"),
-        ("heard 7 8 9", "heard 7", "8 9"),
+        ("heard 7 8 9", "heard 7", "8 9 0"),
+        ("heard 7 8 9 255", "heard 7", "8 9 255"),
+        ("heard 7 8 9 255\n4 set heard 7 8 9", "heard 7", "8 9 0"),
+        ("origin 7 65535", "origin 7", "65535"),
+        ("origin 6 65535", "origin 7", "none"),
+        ("origin 7 1\n4 set noorigin 7", "origin 7", "none"),
+        ("attempt 7 63 254 1", "attempt 7 63", "254 1"),
+        ("attempt 7 63 254 0", "attempt 7 62", "0 0"),
+        ("attempt 7 63 0 1", "attempt 7 63", "0 1"),
         ("unheard 7", "heard 7", "unheard"),
     ] {
         let trace = format!("4 set {set}\n4 ask {ask}\n");
@@ -710,8 +764,8 @@ fn messages_by_number() {
         trace += &format!("0 report {clock}\n");
     }
     let hear = |number: u64| last(&format!("{trace}1 hear 0 {number}\n1 ask heard 0\n"));
-    assert_eq!(hear(69), "69 0");
-    assert_eq!(hear(6), "6 0");
+    assert_eq!(hear(69), "69 0 0");
+    assert_eq!(hear(6), "6 0 0");
     for number in [5, 70, u64::MAX] {
         let printed = played(&format!("{trace}1 hear 0 {number}\n"), Mode::Plain);
         assert!(printed.ends_with("\n73 bad\n"), "{number}");
@@ -775,11 +829,12 @@ fn rows() {
 
 #[test]
 fn words() {
-    let trace = "0 set span 2 3 4\n0 set missed 2 9\n0 set heard 2 5 6\n0 set hush 1 7 8\n0 set pair 2 10 11 12\ntest 0\n0 fire 0\n";
-    let mut lines = vec!["6 in range".to_string()];
+    let trace = "0 set span 2 3 4\n0 set missed 2 9\n0 set heard 2 5 6 7\n0 set hush 1 7 8\n0 set pair 2 10 11 12\n\
+        0 set origin 2 3\n0 set attempt 2 63 254 1\n0 set attempt 1 0 0 1\ntest 0\n0 fire 0\n";
+    let mut lines = vec!["9 in range".to_string()];
     let printed = played(trace, Mode::Words);
     let fired = printed.lines().nth(1).unwrap();
-    assert!(fired.starts_with("7 refused 3; none; "));
+    assert!(fired.starts_with("10 refused 3; none; "));
     lines.push(fired.to_string());
     let state = [
         "host 0",
@@ -787,18 +842,20 @@ fn words() {
         "clock 0",
         "status idle",
         "next 0",
-        "source 0 closed missed 0 nopair distance 0 unheard",
-        "source 1 closed missed 0 nopair distance 40 unheard",
+        "source 0 closed missed 0 nopair distance 0 unheard noorigin",
+        "source 1 closed missed 0 nopair distance 40 unheard noorigin",
         "record 1 7 empty hush 8 cue 000000000000000000000000000000000000000000000000",
-        "source 2 span 3 4 missed 9 pair 10 11 12 distance 40 heard 5 6",
-        "source 3 closed missed 0 nopair distance 40 unheard",
-        "source 4 closed missed 0 nopair distance 40 unheard",
-        "source 5 closed missed 0 nopair distance 40 unheard",
-        "source 6 closed missed 0 nopair distance 40 unheard",
-        "source 7 closed missed 0 nopair distance 40 unheard",
+        "attempt 1 0 0 1",
+        "source 2 span 3 4 missed 9 pair 10 11 12 distance 40 heard 5 6 7 origin 3",
+        "attempt 2 63 254 1",
+        "source 3 closed missed 0 nopair distance 40 unheard noorigin",
+        "source 4 closed missed 0 nopair distance 40 unheard noorigin",
+        "source 5 closed missed 0 nopair distance 40 unheard noorigin",
+        "source 6 closed missed 0 nopair distance 40 unheard noorigin",
+        "source 7 closed missed 0 nopair distance 40 unheard noorigin",
     ];
     lines.extend(state.iter().map(|line| format!("  {line}")));
-    lines.push("7 lines, 2 calls, 0 right, 0 wrong\n".to_string());
+    lines.push("10 lines, 2 calls, 0 right, 0 wrong\n".to_string());
     assert_eq!(printed, lines.join("\n"));
     let shown = played(&trace.replace("test 0\n0 fire 0", "0 show"), Mode::Plain);
     assert_eq!(shown.lines().count(), state.len() + 1);

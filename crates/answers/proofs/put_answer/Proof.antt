@@ -46,6 +46,18 @@ returns-7 c = put-same (put-wider (c .before .before .put-refused .ensures) (ome
 returns-8 : tie.Need-returns-8
 returns-8 c = put-same (put-wider (c .before .before .put-clash .ensures) (omega arith)) (cc)
 
+returns-9 : tie.Need-returns-9
+returns-9 c =
+    let t = c .before .before in
+    let f : SFits w16 (t .before .before .before .a6 .given .0 .1 .1 .0) = search needs in
+    put-same (put-wider (t .put-late .ensures) (omega arith)) (cc (toZ-ofZ f))
+
+returns-10 : tie.Need-returns-10
+unfolding answerWords
+returns-10 c =
+    let t = c .before .before in
+    put-same (put-wider (t .text4 .ensures) (omega arith)) (sym (ap answerWords (t .before .before .before .enum-told4 .given .1)))
+
 pub put-answer-spec : {M : Type 1} → statement M
 put-answer-spec =
     tie.close
@@ -70,6 +82,11 @@ put-answer-spec =
     (λ c. search needs)
     (λ c κs. search needs)
     (λ c. search needs)
+    (λ c κs. search needs)
+    (λ c. search needs)
+    (λ c. search needs)
+    (λ c κs. search needs)
+    (λ c. search needs)
     returns
     (λ c. search needs)
     returns-2
@@ -84,4 +101,8 @@ put-answer-spec =
     (λ c. search needs)
     returns-7
     (λ c. search needs)
-    returns-8)
+    returns-8
+    (λ c. search needs)
+    returns-9
+    (λ c. search needs)
+    returns-10)

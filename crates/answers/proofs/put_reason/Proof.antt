@@ -57,10 +57,18 @@ returns-10 c =
     let t = c .before .before in
     put-same (put-wider (t .text10 .ensures) (omega arith)) (sym (ap reasonWords (t .before .before .before .enum-told10 .given .1)))
 
+returns-11 : tie.Need-returns-11
+returns-11 c =
+    let t = c .before .before in
+    put-same (put-wider (t .text11 .ensures) (omega arith)) (sym (ap reasonWords (t .before .before .before .enum-told11 .given .1)))
+
 pub put-reason-spec : {M : Type 1} → statement M
 put-reason-spec =
     tie.close
     (tie.spec
+    (λ c. search needs)
+    (λ c. search needs)
+    (λ c κs. search needs)
     (λ c. search needs)
     (λ c. search needs)
     (λ c κs. search needs)
@@ -110,4 +118,6 @@ put-reason-spec =
     (λ c. search needs)
     returns-9
     (λ c. search needs)
-    returns-10)
+    returns-10
+    (λ c. search needs)
+    returns-11)

@@ -27,7 +27,21 @@ choose-requires-2 c κs = search needs
 
 returns : tie.Need-returns
 unfolding decideRequest
-returns c = cc
+returns c =
+    let known = c .before in
+    let missing = known .before in
+    let above = missing .before in
+    let asked = above .before in
+    let held = asked .before in
+    rw (
+      c .choose2 .ensures,
+      known .is-held .ensures,
+      missing .choose .ensures,
+      above .is-above .ensures,
+      asked .decide-round .ensures,
+      held .decide-reply .ensures,
+      held .before .reply-in .ensures,
+    )
 
 pub decide-request-spec : {M : Type 1} → statement M
 decide-request-spec = tie.close (tie.spec reply-in-requires decide-reply-requires decide-round-requires is-above-requires choose-requires

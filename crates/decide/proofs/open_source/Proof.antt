@@ -3,14 +3,14 @@ use borrow.Author.Needs.{needs}
 use Rattle.decide.proofs.open_source.Statement.{statement}
 use Rattle.decide.proofs.open_source.Tie as tie
 
-with-span-requires : tie.Need-with-span-requires
-with-span-requires c κs = search needs
+open-at-requires : tie.Need-open-at-requires
+open-at-requires c κs = search needs
 
 hold-cue-requires : tie.Need-hold-cue-requires
 hold-cue-requires c κs = search needs
 
 returns : tie.Need-returns
-returns c = rw (c .hold-cue .ensures, c .before .with-span .ensures)
+returns c = rw (c .hold-cue .ensures, c .before .open-at .ensures)
 
 pub open-source-spec : {M : Type 1} → statement M
-open-source-spec = tie.close (tie.spec with-span-requires hold-cue-requires returns)
+open-source-spec = tie.close (tie.spec open-at-requires hold-cue-requires returns)

@@ -390,20 +390,22 @@ gets-takes b h e q m r f = byTest (carries m)
     byTest (fresh h e (source m) (number m))
     (λ t. rw (l, first-agrees b h e q (source m) (number m) (r .source) (messageCue m) (f c) t))
     (λ t. simp (l, t, and-false)))
-    (λ c. rw (or-left (isOriginal m) (isRepair m) c, or-right (isOriginal m) (isRepair m) c))
+    (λ c.
+    let neither = or-left (isOriginal m || isRepair m) _ c in
+    rw (or-left (isOriginal m) (isRepair m) neither, or-right (isOriginal m) (isRepair m) neither))
 
 got-not-out : (a : Effect) (name : Name) (c x : List ℕ) → a ≡ Got name c → classOf a ≡ PutsOut x → ⊥
 got-not-out a name c x p q = let z : HandsOut name c ≡ PutsOut x = sym (ap classOf p) ∙ q in let o : _≡_ {A = ℕ} 0 1 = cc in omega arith
 
-either-carries : (a b c : Bool) → a || (b && c) ≡ true → a || b ≡ true
-either-carries true b c h = refl
-either-carries false true c h = refl
-either-carries false false c h = h
+either-carries : (a b c l : Bool) → a || (b && c) ≡ true → (a || b) || l ≡ true
+either-carries true b c l h = refl
+either-carries false true c l h = refl
+either-carries false false c l h = clash′ h
 
 takes-carries : (h : ℕ) (e : End) (m : Meaning) → takes h e m ≡ true → carries m ≡ true
 unfolding takes
 takes-carries h e m t =
-    either-carries (isOriginal m) (isRepair m) (isSome (firstAt e (source m))) (and-left (isOriginal m || (isRepair m && isSome (firstAt e (source m)))) _ t)
+    either-carries (isOriginal m) (isRepair m) (isSome (firstAt e (source m))) _ (and-left (isOriginal m || (isRepair m && isSome (firstAt e (source m)))) _ t)
 
 pub arrival-right : (b : Book) (h : ℕ) (e : End) (x : List ℕ) (m : Meaning) (r : Step) → Rel b h e → Filed b x → readAs x ≡ some m → Hears h e m r → Right b h (Arrival x) r
 unfolding due after dueMessage afterMessage hears heeds bring

@@ -11,7 +11,7 @@ use borrow.Author.Tests.{eqb-true, eqb-false, eq-eqb, ltb-true, lt-ltb, leb-true
 use Rattle.numbers.proofs.Cases.{by-order}
 use Rattle.message.specs.Cue.{cueIn as cueFits}
 use Rattle.message.specs.Section.{all, rises}
-use Rattle.message.specs.Message.{DATA, RQST, REPL, SESS, XPRS, Meaning, meaningFrom, datagramFrom, bytesOf}
+use Rattle.message.specs.Message.{DATA, RQST, REPL, SESS, XPRS, FTCH, LATE, Meaning, meaningFrom, datagramFrom, bytesOf}
 use Rattle.message.specs.Question.{ask, firstNo, messageQuestions, readQuestions, readRefusal, sameHost, inRange, hostsFit}
 use Rattle.message.proofs.QuestionLaws.{all-passed}
 use Rattle.message.proofs.SectionLaws as sections
@@ -32,6 +32,7 @@ use Rattle.end.specs.Names.{hold, asked, riseWith}
 use Rattle.end.specs.Sound.{allOf, spanTests, sourceTests, soundOf}
 use Rattle.end.specs.Messages.{dataMessage}
 use Rattle.end.specs.Answer.{Done, Ignored, Step, give}
+use Rattle.end.specs.Fetch.{fetchedOf, lateOf}
 use Rattle.end.specs.Arrival.{messageName, wordStep, messageStep, arrivalOf}
 use Rattle.end.specs.Event.{moves, movesTo, movedEnd, moveOf, cleared, Action, Moves, Send, Arrival, Else, Other, Report, ownName, extended, sentSource, sentEnd, sendOf, otherOf, hearingOf, ifMember, actOf, stepOf, ownQuestions}
 use Rattle.end.specs.Book.{Book, dueMessage, afterMessage, readAs, isOriginal, isRepair, isAboutName, broughtTo, source, isSome, due, after, Meets}
@@ -49,7 +50,7 @@ use Rattle.end.proofs.Service.Frame.{Passed, EventsRight, service-from,
 use Rattle.end.proofs.Service.Sources.{outside-none, took-opened, took-risen}
 use Rattle.end.proofs.Service.Steps.{same-refl, took-source}
 use Rattle.end.proofs.Service.Words.{isRepairing, word-hears}
-use Rattle.end.proofs.Service.Quiets.{ignored-quiet, others, session-quiet}
+use Rattle.end.proofs.Service.Quiets.{ignored-quiet, others, session-quiet, brings-none, fetched-quiet, late-quiet}
 
 -- ---- Join, Joined, Leave, Left, Crash
 
@@ -220,6 +221,9 @@ module _ (e : End) (f : Facts e) (us : List ℕ) (member : isMember (e .status) 
   another Repl k q = clash′ (ap isData q)
   another Xprs k q = clash′ (ap isData q)
 
+  no-session : (kind : ℕ) → eqb (m .kind) kind ≡ true → eqb kind SESS ≡ false → eqb (m .kind) SESS ≡ false
+  no-session kind k n = ap (λ (i : ℕ). eqb i SESS) (eqb-true (m .kind) kind k) ∙ n
+
   heard-hears : Hears (e .host .0) e m (messageStep us m e)
   unfolding messageStep heeds
   heard-hears =
@@ -231,7 +235,13 @@ module _ (e : End) (f : Facts e) (us : List ℕ) (member : isMember (e .status) 
       (λ a. byCond (Hears h e m) (eqb (m .kind) RQST) (word Rqst)
       (λ c. byCond (Hears h e m) (eqb (m .kind) REPL) (word Repl)
       (λ b. byCond (Hears h e m) (eqb (m .kind) XPRS) (word Xprs)
-      (λ d. hears-rose (not-carried m h e a b) (rw (member, other)) (session-quiet us m e f (rw (a, c, b, d)) (session-kind x m p a c b d) (reports-in x m p))))))
+      (λ d.
+      let brought : (r : Step) → QuietBy (Rose (broughtTo m) e) e r → Hears h e m r = λ r v. hears-rose (not-carried m h e a b) (rw (member, other)) v in
+      byCond (Hears h e m) (eqb (m .kind) FTCH)
+      (λ k. brought (fetchedOf m e) (brings-none m e (fetchedOf m e) f (rw (a, c, b, d)) (no-session FTCH k refl) (fetched-quiet m e f)))
+      (λ g. byCond (Hears h e m) (eqb (m .kind) LATE)
+      (λ k. brought (lateOf m e) (brings-none m e (lateOf m e) f (rw (a, c, b, d)) (no-session LATE k refl) (late-quiet m e)))
+      (λ l. brought _ (session-quiet us m e f (rw (a, c, b, d)) (session-kind x m p a c b d g l) (reports-in x m p))))))))
 
 -- a looped message is passed over, and a non-member gets nothing
 looped-takes : (m : Meaning) (h : ℕ) (e : End) → eqb (m .sender .0) h ≡ true → takes h e m ≡ false

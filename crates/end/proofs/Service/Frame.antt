@@ -19,7 +19,7 @@ use Rattle.end.specs.declared.End.{End}
 use Rattle.end.specs.declared.Opened.{Opened}
 use Rattle.end.specs.State.{noSource, unheardSources, freshEnd}
 use Rattle.end.specs.Sound.{soundOf}
-use Rattle.end.specs.Answer.{Effect, Class, PutsOut, HandsOut, Untouched, classIn, Refused, Did, Result, done}
+use Rattle.end.specs.Answer.{Effect, Class, PutsOut, HandsOut, HandsLate, Untouched, classIn, Refused, Did, Result, done}
 use Rattle.end.specs.Round.{drawCount}
 use Rattle.end.specs.Event.{Action, Moves, Send, Arrival, Else, stepOf, ownQuestions, questionOf, eventOf}
 use Rattle.end.specs.Opening.{openRefusal, endFor, openingOf}
@@ -74,6 +74,7 @@ sent-by : (P : List ℕ → Type 0) (o : Class) (l : List (List ℕ)) → ((x : 
     → (x : List ℕ) → List·Memᴰ x (sentBy o l) → P x
 sent-by P (PutsOut y) l old new x m = ⊎-elim (λ e. new x (ap PutsOut (sym e))) (old x) (List·Memᴰ·cases-cons m)
 sent-by P (HandsOut name c) l old new x m = old x m
+sent-by P (HandsLate name c) l old new x m = old x m
 sent-by P Untouched l old new x m = old x m
 
 inv-after : (w : World) (b b′ : Book) (h : ℕ) (r : Result) → Inv w b → Grows h b b′ → Rel b′ h (r .left) → ((x : List ℕ) → classIn (r .outcome) ≡ PutsOut x → Filed b′ x) → Inv (worldAfter w h r) b′

@@ -1,4 +1,4 @@
--- The events that hand nothing out: Fire, Report and SESS.
+-- The events that hand nothing out as Got: Fire, Report, SESS, Fetch and the kinds 22 and 23.
 use mathlib.Core.Path.{_≡_, refl, sym, ap, _∙_, subst}
 use mathlib.Core.Bool.{Bool, true, false, not, _&&_, _||_}
 use mathlib.Core.List.{List, [], _∷_}
@@ -13,7 +13,7 @@ use Rattle.message.specs.declared.Host.{Host}
 use Rattle.message.specs.declared.Name.{Name}
 use Rattle.message.specs.declared.Report.{Report as ReportEntry}
 use Rattle.message.specs.Kind.{isOld}
-use Rattle.message.specs.Message.{DATA, REPL, SESS, numberWidth, Meaning, bytesOf}
+use Rattle.message.specs.Message.{DATA, REPL, SESS, LATE, numberWidth, Meaning, bytesOf}
 use Rattle.message.specs.Section.{all}
 use Rattle.message.specs.Question.{hostIn, numberIn, reportIn, sameHost}
 use Rattle.message.proofs.QuestionLaws.{and-both}
@@ -28,21 +28,25 @@ use Rattle.end.specs.declared.Span.{Span}
 use Rattle.end.specs.declared.Span.the-variants.{Closed, Open}
 use Rattle.end.specs.declared.Source.{Source}
 use Rattle.end.specs.declared.Moment.{Moment}
+use Rattle.end.specs.declared.Attempt.{Attempt}
+use Rattle.end.specs.declared.Nearest.{Nearest}
+use Rattle.end.specs.declared.Nearest.the-variants.{Nobody, Found}
 use Rattle.end.specs.declared.End.{End}
 use Rattle.end.specs.declared.Earliest.{Earliest}
 use Rattle.end.specs.declared.Earliest.the-variants.{NoWait, First}
 use Rattle.end.specs.State.{noSource, sourceAt, withSource, momentOf, distanceTo, onSource}
-use Rattle.end.specs.Records.{within, isAbove, recordAt, withRecord, isHeld}
+use Rattle.end.specs.Records.{within, isAbove, recordAt, withRecord, isHeld, withAttempt}
 use Rattle.end.specs.Round.{requestAt, nextRound, quietAfterReply}
 use Rattle.end.specs.Names.{asking, expressed, quieted, setRound, quietReply, dropExpress, asked}
-use Rattle.end.specs.Answer.{Out, Done, Ignored, Nothing, PutsOut, give}
-use Rattle.end.specs.Messages.{requestMessage, repairMessage, expressMessage, sessionMessage}
+use Rattle.end.specs.Answer.{Out, Done, Ignored, Nothing, Exhausted, PutsOut, Step, give}
+use Rattle.end.specs.Messages.{aboutName, requestMessage, repairMessage, expressMessage, sessionMessage, fetchMessage, fetchedMessage}
 use Rattle.end.specs.Session.{reportedSource, allReported, heardFrom, sessionOf}
-use Rattle.end.specs.Arrival.{messageCue}
+use Rattle.end.specs.Fetch.{mayFetch, nearest, tryOf, fetchOf, mayAnswer, fetchedOf, mayHand, lateOf}
+use Rattle.end.specs.Arrival.{messageName, messageHost, messageCue}
 use Rattle.end.specs.Fire.{expressRank, keptSender, fireAt, fired, earliest}
-use Rattle.end.specs.Event.{Other, Fire, Report, otherOf}
+use Rattle.end.specs.Event.{Other, Fire, Report, Fetch, otherOf}
 use Rattle.end.specs.Book.{readAs, source, number, isAboutName, reportedTo, broughtTo, notBelow, isGot}
-use Rattle.end.proofs.Tools.{byCond, byTest, clash, clash′, set-elim}
+use Rattle.end.proofs.Tools.{byCond, byTest, clash, clash′, and-right, set-elim}
 use Rattle.end.proofs.RecordLaws.{Narrow, at-inside, at-outside}
 use Rattle.end.proofs.RiseLaws.{rise-length, rise-narrow}
 use Rattle.end.proofs.SoundLaws.{held-cue}
@@ -50,7 +54,7 @@ use Rattle.end.proofs.Facts.{Facts, narrow, within-small}
 use Rattle.end.proofs.Readings.{written-kind, written-back}
 use Rattle.end.proofs.Service.View.{heldIn, windowed, heldAt, RoseSource, holds, firstAt, lastAt, Same, Rose, carries}
 use Rattle.end.proofs.Service.Booked.{QuietBy, Quiet, untouched-quiet, Grown, window-twice, reported-grows}
-use Rattle.end.proofs.Service.Sources.{any-reply, any-express, still-window, same-record, same-rose, same-refl-source, rose}
+use Rattle.end.proofs.Service.Sources.{held-is, any-reply, any-express, still-window, same-record, same-rose, same-refl-source, rose}
 use Rattle.end.proofs.Service.Steps.{Narrows, same-refl, same-source, rose-source}
 
 -- ---- what is put out
@@ -72,7 +76,7 @@ bare-quiet e e′ y o n v = record {
   not-got = refl;
   out = λ x p m z k.
       let kind : m .kind ≡ y .kind = written-kind y m o (ap readAs (out-is (bytesOf y) x p) ∙ z) in
-      clash (sym k ∙ ap (λ (i : ℕ). eqb i DATA || eqb i REPL) kind ∙ n);
+      clash (sym k ∙ ap (λ (i : ℕ). (eqb i DATA || eqb i REPL) || eqb i LATE) kind ∙ n);
 }
 
 -- a message put out that carries a cue which the end holds under its name
@@ -147,8 +151,9 @@ module _ (us : List ℕ) (e : End) (f : Facts e) (name : Name) where
     unfolding heldAt
     quiet-same d = stored-same (quieted r (quietAfterReply (momentOf e) d)) (any-reply No (r .slot) (r .cue))
 
-    pub repair-fits : (k : Host) → isHeld (r .slot) ≡ true → Fits 2 (repairMessage (momentOf e) name k (r .cue))
-    repair-fits k p =
+    -- a message with the held cue, of any kind about a name
+    pub cue-fits : (kind : ℕ) (k : Host) → isHeld (r .slot) ≡ true → Fits 2 (aboutName kind (momentOf e) name k (r .cue ∷ []))
+    cue-fits kind k p =
         let raw = at-inside s (name .number .0) (there .inside) in
         let cue = held-cue (e .host) (name .source) (s .pair) (s .span) (name .number .0) r (rw raw (f .records (name .source .0) (name .number .0) (there .source) (there .inside))) p in
         let small : name .number .0 < 65536 = there .number in
@@ -170,17 +175,56 @@ module _ (us : List ℕ) (e : End) (f : Facts e) (name : Name) where
   fire-quiet rank (Held No) p = nothing-quiet e
   fire-quiet rank (Held (Due due k)) p =
       let there = kept-there e f name (ap isEmpty p) in
-      carrying-quiet (Same e) e _ (repairMessage (momentOf e) name k (r .cue)) refl (repair-fits there k (ap isHeld p)) (slot-held (Held (Due due k)) p) (quiet-same there (distanceTo e k))
+      carrying-quiet (Same e) e _ (repairMessage (momentOf e) name k (r .cue)) refl (cue-fits there REPL k (ap isHeld p)) (slot-held (Held (Due due k)) p) (quiet-same there (distanceTo e k))
 
 fired-quiet : (us : List ℕ) (e : End) → Facts e → (x : Earliest) → Quiet e (fired us e x)
 unfolding fired
 fired-quiet us e f NoWait = nothing-quiet e
 fired-quiet us e f (First w) = fire-quiet us e f (w .name) (w .rank) _ refl
 
+-- ---- Fetch, and the kinds 22 and 23: what was done to fetch a number is none of the service's business
+
+marked-same : (e : End) (h : Host) (n : ℕ) (a : Attempt) → Same e (onSource e h (λ s. withAttempt s n a))
+unfolding heldAt recordAt
+marked-same e h n a = same-source e h (withAttempt (sourceAt e h) n a) (record { first = refl; last = refl; holding = λ n. refl })
+
+try-quiet : (name : Name) (e : End) (x : Nearest) → Quiet e (tryOf name e x)
+unfolding tryOf
+try-quiet name e Nobody = untouched-quiet (Same e) e e Exhausted refl (same-refl e)
+try-quiet name e (Found h d) = bare-quiet e _ (fetchMessage (momentOf e) name h) refl refl (marked-same e (name .source) (name .number .0) _)
+
+fetch-quiet : (name : Name) (e : End) → Quiet e (fetchOf name e)
+unfolding fetchOf
+fetch-quiet name e = byCond (Quiet e) (mayFetch e name) (λ _. try-quiet name e (nearest e name 8)) (λ _. ignored-quiet e)
+
+-- kind 22 is answered with the held cue
+pub fetched-quiet : (m : Meaning) (e : End) → Facts e → Quiet e (fetchedOf m e)
+unfolding fetchedOf mayAnswer holds heldAt
+fetched-quiet m e f = byCond (Quiet e) (mayAnswer e m)
+    (λ t.
+    let name = messageName m in
+    let r = recordAt (sourceAt e (name .source)) (name .number .0) in
+    let held : isHeld (r .slot) ≡ true = and-right (sameHost (messageHost m) (e .host)) _ t in
+    carrying-quiet (Same e) e e (fetchedMessage (momentOf e) name (m .sender) (r .cue)) refl
+    (cue-fits [] e f name (held-there e f name held) LATE (m .sender) held) (held-is (r .slot) (r .cue) held) (same-refl e))
+    (λ _. ignored-quiet e)
+
+-- a cue that is handed out as Late is not Got, and nothing is put out
+pub late-quiet : (m : Meaning) (e : End) → Quiet e (lateOf m e)
+unfolding lateOf isGot
+late-quiet m e = byCond (Quiet e) (mayHand e m)
+    (λ _. record {
+      same = marked-same e (messageName m .source) (messageName m .number .0) _;
+      not-got = refl;
+      out = λ x p. let z : _≡_ {A = ℕ} 0 1 = cc in absurd (omega arith);
+    })
+    (λ _. ignored-quiet e)
+
 -- the events that the book says nothing of: one clause each
 pub others : (us : List ℕ) (o : Other) (e : End) → Facts e → Quiet e (otherOf us o e)
 others us Fire e f = fired-quiet us e f (earliest e 8)
 others us Report e f = bare-quiet e e (sessionMessage e) refl refl (same-refl e)
+others us (Fetch name) e f = fetch-quiet name e
 
 -- ---- SESS
 
@@ -238,6 +282,25 @@ none-rose e o = record {
   up = λ s n hs h. h;
   holding = λ s n hs h. refl;
 }
+
+-- a message of a kind that brings no number
+pub brings-none : (m : Meaning) (e : End) (r : Step) → Facts e → isAboutName m ≡ false → eqb (m .kind) SESS ≡ false → Quiet e r → QuietBy (Rose (broughtTo m) e) e r
+unfolding broughtTo
+brings-none m e r f a k v =
+    let still = rose-then (none-rose e (λ s hs. narrow (getD (e .sources) s noSource .span) (f .spans s hs))) (v .same) in
+    record {
+      same = record {
+        host = still .host;
+        status = still .status;
+        next = still .next;
+        firsts = still .firsts;
+        lasts = λ s hs d. rw (a, k) (still .lasts s hs d);
+        up = still .up;
+        holding = still .holding;
+      };
+      not-got = v .not-got;
+      out = v .out;
+    }
 
 -- the reports, one after the other
 all-rose : (t : Moment) (us : List ℕ) (rs : List ReportEntry) (e : End) → t .me .0 ≡ e .host .0 → length (e .sources) ≡ 8 → all (reportIn 65535) rs ≡ true

@@ -1,7 +1,7 @@
 -- Document 02, P4: in no list of calls that demand 3 speaks of is Clash answered. What an end holds and what the network brings are both
 -- the cue that is filed under the name.
 use mathlib.Core.Path.{_≡_, refl, sym, ap, _∙_}
-use mathlib.Core.Bool.{true}
+use mathlib.Core.Bool.{Bool, true, _||_}
 use mathlib.Core.List.{List, [], _∷_, List·Memᴰ, List·Memᴰ·cases-cons, List·Memᴰ·not-nil}
 use mathlib.Core.Logic.{⊎-elim}
 use mathlib.Core.Option.{some}
@@ -11,7 +11,7 @@ use lib.ListN.{length, getElem?}
 use lib.Dec.{eqb}
 use borrow.Author.Tests.{eqb-true}
 use Rattle.message.specs.declared.Name.{Name}
-use Rattle.message.specs.Message.{Meaning, meaningFrom}
+use Rattle.message.specs.Message.{LATE, Meaning, meaningFrom}
 use Rattle.message.specs.Question.{firstNo, readRefusal}
 use Rattle.end.specs.declared.Slot.{Slot}
 use Rattle.end.specs.declared.Slot.the-variants.{Empty, Held, Waiting}
@@ -27,24 +27,18 @@ use Rattle.end.specs.Clashes.{namedRecord, Clashing, NeverClashes}
 use Rattle.end.proofs.Tools.{byCond, clash, clash′}
 use Rattle.end.proofs.Readings.{reads, in-range}
 use Rattle.end.proofs.Clashes.{same-cue-is-same-bytes, step-clashes}
+use Rattle.end.proofs.Service.Sources.{held-is}
 use Rattle.end.proofs.Service.View.{heldIn, heldAt, holds, Rel, Filed}
 use Rattle.end.proofs.Service.Frame.{Inv, Passed, passes, Stepped, brought-filed, stepped, fresh}
 use Rattle.end.proofs.Service.Ends.{events}
-
--- a held cue, as the service sees it
-held-seen : (x : Slot) (c : List ℕ) → isHeld x ≡ true → heldIn x c ≡ some c
-unfolding heldIn
-held-seen Empty c h = clash′ h
-held-seen (Held reply) c h = refl
-held-seen (Waiting q x) c h = clash′ h
 
 -- a message that carries the filed cue does not clash on an end that agrees with the book
 filed-fits : (b : Book) (h : ℕ) (e : End) (x : List ℕ) (m : Meaning) → Rel b h e → Filed b x → readAs x ≡ some m → Clashing e m → ⊥
 unfolding holds heldAt
 filed-fits b h e x m q f p k =
     let r = namedRecord e m in
-    let kept : getElem? (b .filed (source m)) (number m) ≡ some (r .cue) = q .filed (source m) (number m) (r .cue) (in-range x m p .source) (held-seen (r .slot) (r .cue) (k .held)) in
-    let carried : getElem? (b .filed (source m)) (number m) ≡ some (messageCue m) = f m p (k .carries) in
+    let kept : getElem? (b .filed (source m)) (number m) ≡ some (r .cue) = q .filed (source m) (number m) (r .cue) (in-range x m p .source) (held-is (r .slot) (r .cue) (k .held)) in
+    let carried : getElem? (b .filed (source m)) (number m) ≡ some (messageCue m) = f m p (ap (λ (b : Bool). b || eqb (m .kind) LATE) (k .carries)) in
     let same : messageCue m ≡ r .cue = cc in
     clash (sym (same-cue-is-same-bytes (messageCue m) (r .cue) .1 same) ∙ k .differs)
 

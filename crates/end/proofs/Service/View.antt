@@ -8,7 +8,7 @@ use Prim.Native.Nat.{ℕ, _-_, _<_, max}
 use lib.ListN.{length, getElem?}
 use lib.Dec.{eqb}
 use Rattle.message.specs.Entry.{asHost}
-use Rattle.message.specs.Message.{Meaning}
+use Rattle.message.specs.Message.{LATE, Meaning}
 use Rattle.end.specs.declared.Slot.{Slot}
 use Rattle.end.specs.declared.Slot.the-variants.{Empty, Held, Waiting}
 use Rattle.end.specs.declared.Span.{Span}
@@ -123,9 +123,9 @@ pub record Rel (b : Book) (h : ℕ) (e : End) : Type 0 where
   pub firsts : isMember (e .status) ≡ true → (s : ℕ) → s < 8 → eqb h s ≡ false → firstAt e s ≡ windowed (firstOf (b .handed h s)) (b .highest h s)
   pub lasts : isMember (e .status) ≡ true → (s : ℕ) → s < 8 → eqb h s ≡ false → lastAt e s ≡ b .highest h s
 
--- a message that carries a cue: an original or a repair
+-- a message that carries a cue: an original, a repair or a fetched cue
 abbrev pub carries : Meaning → Bool
-carries m = isOriginal m || isRepair m
+carries m = (isOriginal m || isRepair m) || eqb (m .kind) LATE
 
 -- bytes that, if they are a message with a cue, carry the cue filed under its name
 abbrev pub Filed : Book → List ℕ → Type 0

@@ -9,7 +9,7 @@ use lib.ListN.{length, getD}
 use lib.Dec.{eqb, leb}
 use borrow.Author.Tests.{eqb-true, eq-eqb, not-true, ltb-true, lt-ltb, le-ltb, lt-leb, le-leb}
 use Rattle.numbers.proofs.Cases.{by-order}
-use Rattle.message.specs.Message.{Meaning}
+use Rattle.message.specs.Message.{REPL, Meaning}
 use Rattle.message.specs.Question.{sameHost}
 use Rattle.message.proofs.QuestionLaws.{and-both}
 use Rattle.end.specs.declared.Express.{Express}
@@ -27,17 +27,17 @@ use Rattle.end.specs.declared.Says.{Says}
 use Rattle.end.specs.declared.Says.the-variants.{Data, Rqst, Repl, Xprs}
 use Rattle.end.specs.declared.Word.{Word}
 use Rattle.end.specs.declared.Reason.{Reason}
-use Rattle.end.specs.declared.Reason.the-variants.{Crashed, WrongStatus, OwnMessage, NotOpen, BelowFirst, OwnAboveLast, AlreadyHeld, ReplyWaiting, ReplyQuiet, RequestQuiet}
+use Rattle.end.specs.declared.Reason.the-variants.{Crashed, WrongStatus, OwnMessage, NotOpen, BelowFirst, OwnAboveLast, AlreadyHeld, ReplyWaiting, ReplyQuiet, RequestQuiet, NoFetch}
 use Rattle.end.specs.declared.Decision.{Decision}
 use Rattle.end.specs.declared.Decision.the-variants.{Ignores, Opens, Takes, Repairs, Hushes, Replies, Learns, BacksOff, Clashes, Expresses}
 use Rattle.end.specs.State.{noSource, sourceAt, isMember, withSource, momentOf}
 use Rattle.end.specs.Records.{isClosed, within, isBelow, isAbove, recordAt, isHeld}
 use Rattle.end.specs.Reasons.{holds as holdsFor, answered}
 use Rattle.end.specs.Round.{nextRound, requestAt, quietAfterReply, replyDue}
-use Rattle.end.specs.Names.{setRound, hold, quietReply, asking, holding, quieted, replying, asked as askedFor, askedByData, riseWith}
+use Rattle.end.specs.Names.{openAt, setRound, hold, quietReply, asking, holding, quieted, replying, asked as askedFor, askedByData, riseWith}
 use Rattle.end.specs.Messages.{repairMessage}
 use Rattle.end.specs.Answer.{Effect, Got, Done, Ignored, Clash, give, classOf, Untouched}
-use Rattle.end.specs.Decide.{number, known, decide, risen, paired, apply, effectOf, stepAt}
+use Rattle.end.specs.Decide.{number, known, decide, risen, paired, apply, effectOf, stepAt, opened}
 use Rattle.end.specs.Arrival.{messageName, messageCue, wordOf, wordStep}
 use Rattle.end.specs.Book.{source, isSome, notBelow, isOriginal, isRepair, isAboutName, broughtTo}
 use Rattle.end.proofs.Tools.{byTest, clash, clash′, eqb-flip}
@@ -49,7 +49,7 @@ use Rattle.end.proofs.Service.View.{heldIn, firstIn, heldAt, SameSource
 use Rattle.end.proofs.Service.Booked.{fresh, takes, heeds, QuietBy, Hears, untouched-quiet}
 use Rattle.end.proofs.Service.Sources.{held-is, not-held-is, any-reply, within-not-below, same-refl-source, same-rose, rose-same, took-same, same-record, took-opened, rose, took-risen}
 use Rattle.end.proofs.Service.Steps.{Narrows, broughtOf, rose-source, took-source}
-use Rattle.end.proofs.Service.Quiets.{held-there, repair-fits, carrying-quiet}
+use Rattle.end.proofs.Service.Quiets.{held-there, cue-fits, carrying-quiet}
 
 -- a decision that hands the cue out
 unfoldable pub hands : Decision → Bool
@@ -109,6 +109,11 @@ paired-same : (w : Word) (s : Source) → SameSource s (paired w s)
 unfolding heldAt recordAt
 paired-same w s = record { first = refl; last = refl; holding = λ n. refl }
 
+-- nor does it see the number of the first original
+origin-same : (w : Word) (s : Source) → SameSource (hold (number w) (w .cue) (openAt (number w) s)) (hold (number w) (w .cue) (opened w s))
+unfolding heldAt recordAt
+origin-same w s = record { first = refl; last = refl; holding = λ n. refl }
+
 module _ (t : Moment) (us : List ℕ) (w : Word) (s : Source) (o : Narrow (s .span)) (long : length (s .names) ≡ 64) where
   risen-within : Missing w (known w s) (s .span) → within (risen t us w s .span) (number w) ≡ true
   risen-within g = reached-within (askedFor t us (s .distance)) w s o g
@@ -166,6 +171,7 @@ module _ (t : Moment) (us : List ℕ) (w : Word) (s : Source) (o : Narrow (s .sp
   ignored-low ReplyWaiting g a = held-low (and-both (isHeld (known w s .slot)) _ (and-both (not (answered (w .says) t w (known w s))) _ (and-both (isRequest (w .says)) _ g .1) .1) .0)
   ignored-low ReplyQuiet g a = held-low (and-both (isHeld (known w s .slot)) _ (and-both (isRequest (w .says)) _ g .1) .0)
   ignored-low RequestQuiet g a = not-true (isAbove (s .span) (number w)) (and-both (not (isAbove (s .span) (number w))) _ (and-both (not (isHeld (known w s .slot))) _ (and-both (isRequest (w .says)) _ g .1) .1) .0)
+  ignored-low NoFetch g a = clash′ g
 
   waits-within : (q : Request) (x : Express) → known w s .slot ≡ Waiting q x → within (s .span) (number w) ≡ true
   waits-within q x p = slot-within s (number w) (ap isEmpty p)
@@ -178,7 +184,7 @@ module _ (t : Moment) (us : List ℕ) (w : Word) (s : Source) (o : Narrow (s .sp
   pub seen : (d : Decision) → Grounds t w (known w s) (s .span) d → Seen (hands d) another w s (apply t us w d s)
   unfolding Grounds Seen hands apply
   seen (Ignores why) g = stays s (ignored-low why g) (same-refl-source s)
-  seen Opens g = took-opened s (number w) (w .cue) (g .1) long
+  seen Opens g = took-same (took-opened s (number w) (w .cue) (g .1) long) (origin-same w s)
   seen Takes g = took (askedByData t us s) (express-bare t us s) (g .1)
   seen Repairs g =
       let held = hold (number w) (w .cue) (risen t us w s) in
@@ -238,6 +244,7 @@ module _ (t : Moment) (w : Word) (r : Record) (x : Span) where
   right (Ignores ReplyWaiting) g mine bare = asked (w .says) _ _ (and-both (isRequest (w .says)) _ g .0)
   right (Ignores ReplyQuiet) g mine bare = asked (w .says) _ _ (and-both (isRequest (w .says)) _ g .0)
   right (Ignores RequestQuiet) g mine bare = asked (w .says) _ _ (and-both (isRequest (w .says)) _ g .0)
+  right (Ignores NoFetch) g mine bare = clash′ g
   right Opens g mine bare = rw (g .0, g .1, bare (g .1), mine refl)
   right Takes g mine bare = let a = here (g .1) in rw (g .0, a .1, g .1 .lacks, mine refl)
   right Repairs g mine bare = let a = here (g .1 .missing) in rw (g .0, a .0, a .1, g .1 .missing .lacks, mine refl)
@@ -369,7 +376,7 @@ module _ (says : Says) (m : Meaning) (about : isAboutName m ≡ true) (original 
   silent Expresses g h = λ e′ v.
       let there = held-there e f (messageName m) (g .1) in
       carrying-quiet (Rose (broughtTo m) e) e e′ (repairMessage t (w .name) (w .requester) (known w s .cue)) refl
-      (repair-fits us e f (messageName m) there (w .requester) (g .1)) (held-is (known w s .slot) (known w s .cue) (g .1)) v
+      (cue-fits us e f (messageName m) there REPL (w .requester) (g .1)) (held-is (known w s .slot) (known w s .cue) (g .1)) v
 
   pub word-hears : Hears (e .host .0) e m (wordStep us says m e)
   unfolding stepAt heeds

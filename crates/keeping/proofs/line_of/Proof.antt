@@ -63,6 +63,14 @@ returns-7 : tie.Need-returns-7
 unfolding keptOf readOff linesFor
 returns-7 c = ap kept (c .none4 .ensures) ∙ sym (ap (leaves (c .before .before .before .before)) (c .before .enum-told5 .given .1))
 
+returns-8 : tie.Need-returns-8
+unfolding keptOf readOff linesFor
+returns-8 c = ap kept (c .none5 .ensures) ∙ sym (ap (leaves (c .before .before .before .before)) (c .before .enum-told6 .given .1))
+
+returns-9 : tie.Need-returns-9
+unfolding keptOf readOff linesFor
+returns-9 c = ap kept (c .none6 .ensures) ∙ sym (ap (leaves (c .before .before .before .before)) (c .before .enum-told7 .given .1))
+
 pub line-of-spec : {M : Type 1} → statement M
 line-of-spec =
     tie.close
@@ -83,10 +91,16 @@ line-of-spec =
     (λ c κs. search needs)
     (λ c. search needs)
     (λ c κs. search needs)
+    (λ c. search needs)
+    (λ c κs. search needs)
+    (λ c. search needs)
+    (λ c κs. search needs)
     returns
     returns-2
     returns-3
     returns-4
     returns-5
     returns-6
-    returns-7)
+    returns-7
+    returns-8
+    returns-9)

@@ -36,6 +36,10 @@ returns-5 : tie.Need-returns-5
 unfolding linesFor
 returns-5 c = ap kept (c .none4 .ensures) ∙ sym (ap (leaves _ _ _) (c .before .enum-told5 .given .1))
 
+returns-6 : tie.Need-returns-6
+unfolding linesFor
+returns-6 c = ap kept (c .none5 .ensures) ∙ sym (ap (leaves _ _ _) (c .before .enum-told6 .given .1))
+
 pub out-line-spec : {M : Type 1} → statement M
 out-line-spec =
     tie.close
@@ -50,8 +54,11 @@ out-line-spec =
     (λ c κs. search needs)
     (λ c. search needs)
     (λ c κs. search needs)
+    (λ c. search needs)
+    (λ c κs. search needs)
     returns
     returns-2
     returns-3
     returns-4
-    returns-5)
+    returns-5
+    returns-6)

@@ -53,6 +53,14 @@ report-requires c κs =
     let pre = c .before .before .before .before .before .pre in
     record { settled = pre .settled; room = pre .room }
 
+enum-known-what-2 : tie.Need-enum-known-what-2
+enum-known-what-2 c = search needs
+
+fetch-requires : tie.Need-fetch-requires
+fetch-requires c κs =
+    let told = c .before in
+    told .before .before .before .before .before .pre .room
+
 returns : tie.Need-returns
 returns c =
     let what = c .before .before in
@@ -91,6 +99,14 @@ returns-5 c =
     let w = c .before .before in
     rw (w .before .before .enum-told4 .given .1) (w .report .ensures)
 
+same-length-5 : tie.Need-same-length-5
+same-length-5 c = search needs
+
+returns-6 : tie.Need-returns-6
+returns-6 c =
+    let w = c .before .before in
+    rw (w .before .before .before .what2 .given .1) (w .fetch .ensures)
+
 pub act-spec : {M : Type 1} → statement M
 act-spec =
     tie.close
@@ -105,6 +121,8 @@ act-spec =
     fire-requires
     enum-told-4
     report-requires
+    enum-known-what-2
+    fetch-requires
     returns
     same-length
     returns-2
@@ -113,4 +131,6 @@ act-spec =
     same-length-3
     returns-4
     same-length-4
-    returns-5)
+    returns-5
+    same-length-5
+    returns-6)

@@ -1,4 +1,4 @@
--- `link::member_reason` meets its contract: only an arrival has a reason.
+-- `link::member_reason` meets its contract: only an arrival and a fetch have a reason.
 use mathlib.Core.Path.{subst}
 use Rattle.end.specs.declared.Event.{Event}
 use Rattle.link.specs.Reason.{Heard}
@@ -26,6 +26,12 @@ enum-told-4 c = search needs
 enum-told-5 : tie.Need-enum-told-5
 enum-told-5 c = search needs
 
+enum-known-what : tie.Need-enum-known-what
+enum-known-what c = search needs
+
+fetch-reason-requires : tie.Need-fetch-reason-requires
+fetch-reason-requires c κs = search needs
+
 returns : tie.Need-returns
 returns c = rw (c .enum-told .given .1)
 
@@ -41,6 +47,9 @@ returns-4 c = rw (c .enum-told4 .given .1)
 returns-5 : tie.Need-returns-5
 returns-5 c = rw (c .enum-told5 .given .1)
 
+returns-6 : tie.Need-returns-6
+returns-6 c = rw (c .before .before .what .given .1) (c .fetch-reason .ensures)
+
 pub member-reason-spec : {M : Type 1} → statement M
 member-reason-spec =
     tie.close
@@ -51,8 +60,11 @@ member-reason-spec =
     reason-requires
     enum-told-4
     enum-told-5
+    enum-known-what
+    fetch-reason-requires
     returns
     returns-2
     returns-3
     returns-4
-    returns-5)
+    returns-5
+    returns-6)

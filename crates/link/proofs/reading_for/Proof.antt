@@ -33,6 +33,12 @@ enum-told-5 c = search needs
 unread-requires-4 : tie.Need-unread-requires-4
 unread-requires-4 c κs = search needs
 
+enum-told-6 : tie.Need-enum-told-6
+enum-told-6 c = search needs
+
+unread-requires-5 : tie.Need-unread-requires-5
+unread-requires-5 c κs = search needs
+
 returns : tie.Need-returns
 returns c = rw (c .before .enum-told .given .1) (c .unread .ensures)
 
@@ -48,6 +54,9 @@ returns-4 c = rw (c .before .enum-told4 .given .1) (c .unread3 .ensures)
 returns-5 : tie.Need-returns-5
 returns-5 c = rw (c .before .enum-told5 .given .1) (c .unread4 .ensures)
 
+returns-6 : tie.Need-returns-6
+returns-6 c = rw (c .before .enum-told6 .given .1) (c .unread5 .ensures)
+
 pub reading-for-spec : {M : Type 1} → statement M
 reading-for-spec =
     tie.close
@@ -62,8 +71,11 @@ reading-for-spec =
     unread-requires-3
     enum-told-5
     unread-requires-4
+    enum-told-6
+    unread-requires-5
     returns
     returns-2
     returns-3
     returns-4
-    returns-5)
+    returns-5
+    returns-6)

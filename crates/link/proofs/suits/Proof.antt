@@ -24,6 +24,9 @@ enum-told-3 c = search needs
 enum-told-4 : tie.Need-enum-told-4
 enum-told-4 c = search needs
 
+enum-told-5 : tie.Need-enum-told-5
+enum-told-5 c = search needs
+
 returns : tie.Need-returns
 returns c = rw (c .before .before .what .given .1) (c .may-move .ensures)
 
@@ -47,6 +50,11 @@ returns-5 c =
     let known = c .enum-told4 .given .1 in
     rw known (rw known at (c .before .before .takes .ensures))
 
+returns-6 : tie.Need-returns-6
+returns-6 c =
+    let known = c .enum-told5 .given .1 in
+    rw known (rw known at (c .before .before .takes .ensures))
+
 pub suits-spec : {M : Type 1} → statement M
 suits-spec =
     tie.close
@@ -58,8 +66,10 @@ suits-spec =
     enum-told-2
     enum-told-3
     enum-told-4
+    enum-told-5
     returns
     returns-2
     returns-3
     returns-4
-    returns-5)
+    returns-5
+    returns-6)

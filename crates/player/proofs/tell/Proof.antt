@@ -29,7 +29,7 @@ returns-2 c =
 returns-3 : tie.Need-returns-3
 unfolding printedFor messagesFor
 returns-3 c =
-    let f = c .before .read-i16 in
+    let f = c .before .focus-in in
     let fits : SFits w16 (f .result) = search needs in
     let focus = toZ-ofZ fits ∙ f .ensures in
     tells _ _ (c .before .before .before .before .before .answer3 .given .1) (omega arith) (rw focus at (c .shows2 .ensures)) refl (λ _. refl)
@@ -52,6 +52,18 @@ returns-7 : tie.Need-returns-7
 unfolding printedFor messagesFor
 returns-7 c = tells _ _ (c .before .before .before .before .answer4 .given .1) (omega arith) (c .shows6 .ensures) refl (λ _. refl)
 
+returns-8 : tie.Need-returns-8
+unfolding printedFor messagesFor
+returns-8 c =
+    let f = c .before .focus-in2 in
+    let fits : SFits w16 (f .result) = search needs in
+    let focus = toZ-ofZ fits ∙ f .ensures in
+    tells _ _ (c .before .before .before .before .before .answer5 .given .1) (omega arith) (rw focus at (c .shows7 .ensures)) refl (λ _. refl)
+
+returns-9 : tie.Need-returns-9
+unfolding printedFor messagesFor
+returns-9 c = tells _ _ (c .before .enum-told4 .given .1) (omega arith) (c .shows8 .ensures) refl (λ _. refl)
+
 pub tell-spec : {M : Type 1} → statement M
 tell-spec =
     tie.close
@@ -72,6 +84,11 @@ tell-spec =
     (λ c κs. search needs)
     (λ c. search needs)
     (λ c κs. search needs)
+    (λ c. search needs)
+    (λ c κs. search needs)
+    (λ c κs. search needs)
+    (λ c. search needs)
+    (λ c κs. search needs)
     returns
     (λ c. search needs)
     (λ c. search needs)
@@ -80,4 +97,6 @@ tell-spec =
     returns-4
     returns-5
     returns-6
-    returns-7)
+    returns-7
+    returns-8
+    returns-9)

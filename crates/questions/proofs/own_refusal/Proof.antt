@@ -26,6 +26,9 @@ enum-told-4 c = search needs
 enum-told-5 : tie.Need-enum-told-5
 enum-told-5 c = search needs
 
+enum-told-6 : tie.Need-enum-told-6
+enum-told-6 c = search needs
+
 returns : tie.Need-returns
 returns c = λ bytes h. rw (c .enum-told .given .1)
 
@@ -42,6 +45,9 @@ returns-4 c = λ bytes h. rw (c .enum-told4 .given .1)
 returns-5 : tie.Need-returns-5
 returns-5 c = λ bytes h. rw (c .enum-told5 .given .1)
 
+returns-6 : tie.Need-returns-6
+returns-6 c = λ bytes h. rw (c .enum-told6 .given .1)
+
 pub own-refusal-spec : {M : Type 1} → statement M
 own-refusal-spec =
     tie.close
@@ -53,8 +59,10 @@ own-refusal-spec =
     number-of-requires
     enum-told-4
     enum-told-5
+    enum-told-6
     returns
     returns-2
     returns-3
     returns-4
-    returns-5)
+    returns-5
+    returns-6)

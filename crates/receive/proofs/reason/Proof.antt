@@ -1,4 +1,4 @@
--- `receive::reason` meets its contract: a message of one's own, about a name, or neither.
+-- `receive::reason` meets its contract: a message of one's own, one with a word, or one without.
 use mathlib.Core.Path.{sym, ap, _∙_}
 use borrow.Author.Tests.{eq-eqb, ne-eqb}
 use borrow.Author.Needs.{needs}
@@ -20,10 +20,14 @@ returns-2 c =
     let named = test .before in
     rw (ne-eqb _ _ (named .before .if1 .left), sym (named .is-named .ensures) ∙ test .if2 .taken) (c .named-reason .ensures)
 
+fetch-reason-requires : tie.Need-fetch-reason-requires
+fetch-reason-requires c κs = search needs
+
 returns-3 : tie.Need-returns-3
 returns-3 c =
-    let named = c .before in
-    rw (ne-eqb _ _ (named .before .if1 .left), sym (named .is-named .ensures) ∙ c .if2 .left)
+    let test = c .before in
+    let named = test .before in
+    rw (ne-eqb _ _ (named .before .if1 .left), sym (named .is-named .ensures) ∙ test .if2 .left) (c .fetch-reason .ensures)
 
 pub reason-spec : {M : Type 1} → statement M
-reason-spec = tie.close (tie.spec returns is-named-requires named-reason-requires returns-2 returns-3)
+reason-spec = tie.close (tie.spec returns is-named-requires named-reason-requires fetch-reason-requires returns-2 returns-3)

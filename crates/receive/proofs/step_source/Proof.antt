@@ -1,14 +1,13 @@
--- `receive::step_source` meets its contract: a message of one's own, a message about a name, or a session message.
+-- `receive::step_source` meets its contract: a message of one's own, a message with a word, or one without.
 use mathlib.Core.Path.{sym, _∙_}
 use Rattle.message.specs.Message.{meaningOf}
-use Rattle.message.proofs.QuestionLaws.{counts-small}
 use Rattle.receive.proofs.Passes.{heeds}
-use Rattle.receive.proofs.Whole.{own-gives, named-gives, session-gives}
+use Rattle.receive.proofs.Whole.{own-gives, named-gives, unnamed-gives}
 use borrow.Author.Needs.{needs}
 use Rattle.receive.proofs.step_source.Statement.{statement}
 use Rattle.receive.proofs.step_source.Tie as tie
 
--- ---- the places that the facts stand at: the call, and where a message is about a name
+-- ---- the places that the facts stand at: the call, and where a message has a word
 abbrev call : tie.Else1 → tie.Start
 call c = c .before .before .before .before .before
 
@@ -47,19 +46,28 @@ returns-2 c =
     named-gives (a .t) (a .draws .now) (a .d) (meaningOf (a .m)) (a .s) (a .out .now) (other .if1 .left) _ _ _
     (sym (test .before .is-named .ensures) ∙ test .if2 .taken) (step .before .before .word-in .ensures) (step .step .ensures .0) (step .step .ensures .1)
 
-hear-requires : tie.Need-hear-requires
-hear-requires c κs =
-    let start = call (c .before .before) in
-    (counts-small (start .args .m .kind) (start .args .m .counts) (start .pre .passed .counts-in) .echoes, (start .pre .passed .ranges-in, start .pre .source .clock))
+step-unnamed-requires : tie.Need-step-unnamed-requires
+step-unnamed-requires c κs =
+    let given = call (c .before .before .before) .pre in
+    record {
+      clock = given .source .clock;
+      room-in = given .passed .room-in;
+      counts-in = given .passed .counts-in;
+      ranges-in = given .passed .ranges-in;
+    }
+
+same-length-2 : tie.Need-same-length-2
+same-length-2 c = search needs
 
 returns-3 : tie.Need-returns-3
 returns-3 c =
-    let test = c .before in
+    let step = c .before .before in
+    let test = step .before .before in
     let other = test .before .before in
     let a = call other .args in
-    session-gives (a .t) (a .draws .now) (a .d) (meaningOf (a .m)) (a .s) (a .out .now) (other .if1 .left) _
-    (sym (test .before .is-named .ensures) ∙ test .if2 .left) (c .hear .ensures)
+    unnamed-gives (a .t) (a .draws .now) (a .d) (meaningOf (a .m)) (a .s) (a .out .now) (other .if1 .left) _ _
+    (sym (test .before .is-named .ensures) ∙ test .if2 .left) (step .step-unnamed .ensures)
 
 pub step-source-spec : {M : Type 1} → statement M
 step-source-spec = tie.close (tie.spec unchanged-requires returns is-named-requires word-in-requires step-requires same-length returns-2
-    hear-requires returns-3)
+    step-unnamed-requires same-length-2 returns-3)

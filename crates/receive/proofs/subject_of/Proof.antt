@@ -6,14 +6,14 @@ use Rattle.receive.proofs.subject_of.Tie as tie
 entry-of-requires : tie.Need-entry-of-requires
 entry-of-requires c κs = search needs
 
-is-named-requires : tie.Need-is-named-requires
-is-named-requires c κs = search needs
+is-about-requires : tie.Need-is-about-requires
+is-about-requires c κs = search needs
 
 returns : tie.Need-returns
-returns c = rw (← c .before .before .is-named .ensures, c .before .if1 .taken) (cc)
+returns c = rw (← c .before .before .is-about .ensures, c .before .if1 .taken) (cc)
 
 returns-2 : tie.Need-returns-2
-returns-2 c = rw (← c .before .before .is-named .ensures, c .before .if1 .left)
+returns-2 c = rw (← c .before .before .is-about .ensures, c .before .if1 .left)
 
 pub subject-of-spec : {M : Type 1} → statement M
-subject-of-spec = tie.close (tie.spec entry-of-requires is-named-requires returns returns-2)
+subject-of-spec = tie.close (tie.spec entry-of-requires is-about-requires returns returns-2)

@@ -70,7 +70,7 @@ add-missed-2 c = search needs
 
 returns : tie.Need-returns
 returns c =
-    let renewed = c .before in
+    let renewed = c .before .before in
     let passed = renewed .before in
     let counted = passed .before in
     let new = counted .before in
@@ -81,7 +81,7 @@ returns c =
     let start = l .before .before .before .before .before in
     let begin = start .before .before in
     let a = begin .args in
-    all-risen (λ m. expressed (a .x) (asked (a .t) (a .draws .now) (a .s .distance) m)) (a .n .0) (a .s) (a .first) (a .last) (begin .pre .1 .1 .1)
+    all-risen (λ m. expressed (a .x) (asked (a .t) (a .draws .now) (a .s .distance) m)) (a .n .0) (a .s) (a .first) (a .last) (begin .pre .0 .1)
     (l .greater .ensures) (floor .above .ensures) (lo .greater2 .ensures) (old .lesser .ensures) (new .greater3 .ensures)
     (counted .count-lacking .ensures .0) (passed .above2 .ensures) (renewed .request-all .ensures)
 

@@ -54,7 +54,7 @@ mul-sources : tie.Need-mul-sources
 mul-sources c = search needs
 
 array-set-from-sources : tie.Need-array-set-from-sources
-array-set-from-sources c = search needs
+array-set-from-sources c = call (clocked (written (c .before))) .pre .settled .host
 
 add-end : tie.Need-add-end
 add-end c = omega (arith, call (clocked (written (c .before .before))) .pre .next)

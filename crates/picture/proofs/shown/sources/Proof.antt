@@ -28,6 +28,9 @@ head-line-requires c κs = tt
 names-requires : tie.Need-names-requires Inv-loop μ-loop
 names-requires c κs = tt
 
+attempts-requires : tie.Need-attempts-requires Inv-loop μ-loop
+attempts-requires c κs = tt
+
 add-i : tie.Need-add-i Inv-loop μ-loop
 add-i c = omega arith
 
@@ -52,6 +55,7 @@ sources-spec =
     head-of-requires
     head-line-requires
     names-requires
+    attempts-requires
     add-i
     loop-less
     loop-again

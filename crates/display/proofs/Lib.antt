@@ -1,0 +1,9 @@
+pub mod SetLaws
+pub mod WindowLaws
+pub mod CallLaws
+pub mod NumberLaws
+pub mod Moves
+pub mod StepLaws
+pub mod History
+pub mod StaysSound
+pub mod Rows

@@ -1,0 +1,7 @@
+pub mod Display
+pub mod Hear
+pub mod Request
+pub mod Call
+pub mod Frame
+pub mod History
+pub mod Rows

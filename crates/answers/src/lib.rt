@@ -1,4 +1,6 @@
-// The line that is printed for a played line of a script, put into a buffer. The definition is specs/AnswerLine.antt.
+// The line that is printed for a played line of a script, put into a buffer. The definition is specs/AnswerLine.antt. These are helpers of the
+// crates above (player, keeping, timetable) and no calls of the product: each asks in its `requires` for the room that its longest piece takes,
+// which its callers have seen to.
 use end::Reason;
 use message::CueNumber;
 use message::Host;

@@ -1,4 +1,5 @@
-// `END set ..`: an end with a field changed, sound or not. Reading goes on at `at`, as the crate trace has it.
+// `END set ..`: an end with a field changed, sound or not. Reading goes on at `at`, as the crate trace has it. These are tools of tests: their
+// contracts say no more than that they are safe and end.
 use end::Attempt;
 use end::End;
 use end::Express;

@@ -317,7 +317,7 @@ fn put_bad(out: &mut [u8], at: usize) -> usize
     at + 4
 }
 
-// Writes what is printed for a line from a place on, and answers where it ends.
+// Writes what is printed for a line from a place on, and answers where it ends. A helper of the interpreter, which has seen to the room.
 pub fn put_printed(out: &mut [u8], at: usize, end: Host, clock: u64, printed: Printed) -> usize
     requires { ⌜ at + widest ≤ length (now out) ⌝ }
     ensures { λ r. ⌜ Put widest at (printedLine end clock printed) (now (out .entry)) (now (out .exit)) r ⌝ }

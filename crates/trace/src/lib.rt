@@ -1,7 +1,8 @@
 // The words of a line of a trace: docs/TRACES.md says how a line is written. A line lies in a buffer of 1,000 bytes, of which the
 // first `end` are taken apart. `at` is where reading stands: behind the last word that was read, or at BAD once one of them was
 // malformed, and then all further words are malformed too. So a line is read to its end without a test after each word, and it
-// is well written where `at` comes to stand at its end: whole.
+// is well written where `at` comes to stand at its end: whole. These are tools of tests: their contracts say no more than that they are safe and
+// end.
 pub mod composed;
 pub mod cut;
 pub mod words;

@@ -24,7 +24,7 @@ static const char *refusal(uint32_t number)
     case PANEL_BAD_RANGE:
         return "a host, cue number, cue field, stamp or held ticks out of range";
     case PANEL_BAD_HOSTS:
-        return "hosts that the kind does not allow, or reports or echoes that do not rise";
+        return "hosts that the kind does not allow, reports or echoes that do not rise, or a lead not from trail to trail+63";
     default:
         return "no number of this program's";
     }
@@ -56,6 +56,8 @@ static const char *kind(uint8_t byte)
         return "FTCH";
     case 23:
         return "LATE";
+    case 24:
+        return "ANNC";
     default:
         return NULL;
     }

@@ -36,7 +36,7 @@ enum {
     PANEL_BAD_LENGTH = 8,   /* verdict: 1 to 11 bytes, or counts that do not account for the length exactly */
     PANEL_BAD_KIND = 9,     /* verdict: the first byte is no kind of message, or the counts are not those of its kind */
     PANEL_BAD_RANGE = 10,   /* verdict and writer: a host, cue number, cue field, stamp or held ticks out of range */
-    PANEL_BAD_HOSTS = 11,   /* verdict: hosts that the kind does not allow, or reports or echoes that do not rise */
+    PANEL_BAD_HOSTS = 11,   /* verdict: hosts that the kind does not allow, reports or echoes that do not rise, or a lead not from trail to trail+63 */
     PANEL_DATA_LENGTH = 40  /* writer: the DATA was written, and has so many bytes */
 };
 
@@ -46,8 +46,8 @@ enum {
 /*
  * The reader's verdict on a datagram of `length` bytes.
  * Answers PANEL_OK, or PANEL_BAD_LENGTH, PANEL_BAD_KIND, PANEL_BAD_RANGE or PANEL_BAD_HOSTS.
- * A datagram of no bytes is a probe, which is PANEL_OK: tell it from a message by its length. The kinds 17 to 23 (DATA, RQST, REPL,
- * SESS, XPRS, FTCH, LATE) and the old kinds 1 to 4, with cue numbers to 63, are read.
+ * A datagram of no bytes is a probe, which is PANEL_OK: tell it from a message by its length. The kinds 17 to 24 (DATA, RQST, REPL,
+ * SESS, XPRS, FTCH, LATE, ANNC) and the old kinds 1 to 4, with cue numbers to 63, are read.
  */
 uint32_t panel_verdict(const uint8_t *bytes, size_t length);
 

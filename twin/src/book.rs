@@ -35,6 +35,9 @@ pub enum Fault {
     /// Document 02, P9: a Late that is not "at most once since joining", not "with the source's bytes", or not of one of "the 64
     /// numbers just below the first original".
     Late,
+    /// P11: "Over a sender's calls neither falls; lead is from trail to trail+63": a kind 24 of which that does not hold, or whose
+    /// lead is not the last cue sent.
+    Announce,
 }
 
 pub struct Book {
@@ -49,6 +52,8 @@ pub struct Book {
     /// By reader and source: the numbers handed out as Late since joining. "Late cues lie outside its record of receptions", so the
     /// book's own promises never look here.
     late: [[Vec<u16>; ENDS]; ENDS],
+    /// By sender: the latest trail and lead that it announced, which lie outside the book too.
+    announced: [Option<(u16, u16)>; ENDS],
     /// What the Outs of the list put out so far.
     put_out: HashSet<Vec<u8>>,
 }
@@ -73,6 +78,7 @@ impl Default for Book {
             handed: Default::default(),
             highest: Default::default(),
             late: Default::default(),
+            announced: Default::default(),
             put_out: HashSet::new(),
         }
     }
@@ -111,7 +117,7 @@ impl Book {
             }
             // "Other Arrivals, Fire, Report, events added later: nothing changes,
             // never Got."
-            Event::Fire | Event::Report | Event::Fetch { .. } => !is_got(call),
+            Event::Fire | Event::Report | Event::Fetch { .. } | Event::Announce => !is_got(call),
         };
         if !agrees {
             return Err(Fault::Answer);
@@ -120,6 +126,9 @@ impl Book {
             if !self.late(call, source, number) {
                 return Err(Fault::Late);
             }
+        }
+        if call.event == Event::Announce && !self.announces(call) {
+            return Err(Fault::Announce);
         }
         if let Some(bytes) = out_bytes(call) {
             self.put_out.insert(bytes.to_vec());
@@ -208,14 +217,33 @@ impl Book {
         self.status[reader] == Status::Member && named && below && bytes && !again
     }
 
+    /// Document 02, P11: kind 24 with "its own first and last as trail and lead", last being the number sent last; "Over a sender's
+    /// calls neither falls; lead is from trail to trail+63".
+    fn announces(&mut self, call: &Call) -> bool {
+        let host = usize::from(call.host);
+        let Some(bytes) = out_bytes(call) else {
+            return true;
+        };
+        let message = message::read(bytes).ok().and_then(|read| read.message());
+        let Some(message) = message.filter(|m| m.kind == message::ANNC) else {
+            return false;
+        };
+        let [trail, lead] = [0, 1].map(|place: usize| message.names[place].number);
+        let before = self.announced[host].replace((trail, lead));
+        let falls =
+            before.is_some_and(|(old_trail, old_lead)| trail < old_trail || lead < old_lead);
+        let sent_last = self.filed[host].len() == usize::from(lead) + 1;
+        self.status[host] == Status::Member && !falls && sent_last && lead - trail <= 63
+    }
+
     /// P7: "for each member and source from the first hand-out since joining, the highest number L
     /// that unlooped DATA, RQST, REPL and SESS (and what later counts as RQST) brought": P8's kind 21
     /// too, of which every message counts. Who answers one at once holds its cue, so it brings no
-    /// number above L. P9's kinds 22 and 23 count as none of these.
+    /// number above L. P9's kinds 22 and 23 and P11's kind 24 count as none of these.
     fn raise_highest(&mut self, reader: u8, message: &Message) {
         let host = usize::from(reader);
-        let fetches = matches!(message.kind, message::FTCH | message::LATE);
-        if self.status[host] != Status::Member || message.sender == reader || fetches {
+        let others = [message::FTCH, message::LATE, message::ANNC].contains(&message.kind);
+        if self.status[host] != Status::Member || message.sender == reader || others {
             return;
         }
         let names = message.names.iter().map(|name| (name.source, name.number));

@@ -27,6 +27,7 @@ branches! {
     OutXprs "out XPRS",
     OutFtch "out kind 22",
     OutLate "out kind 23",
+    OutAnnc "out kind 24",
     Got "got",
     Late "late",
     Exhausted "exhausted",
@@ -142,7 +143,7 @@ branches! {
     NewSizesMissed "8: every other kind byte in the old sizes: refused",
 
     // Question 9
-    KindUnknown "9: kind 17 to 23, or 1 to 4",
+    KindUnknown "9: kind 17 to 24, or 1 to 4",
     OldNotWritten "9: kinds 1 to 4 are no longer written",
     CountsOfData "9: DATA has 1,1,0,0",
     CountsOfRqst "9: RQST has 1,0,0,0",
@@ -151,6 +152,7 @@ branches! {
     CountsOfXprs "9: kind 21 is laid out as kind 18",
     CountsOfFtch "9: kind 22 is shaped as kind 21",
     CountsOfLate "9: kind 23 is shaped as REPL",
+    CountsOfAnnc "9: kind 24 has two names",
 
     // Question 10
     SenderRange "10: sender",
@@ -178,6 +180,10 @@ branches! {
     FtchSource "11: kind 22: source differs from its own sender",
     LateSender "11: kind 23: host is not the sender",
     LateSource "11: kind 23: nor the source",
+    AnncSource "11: kind 24: the sender as source",
+    AnncHost "11: kind 24: the sender as host",
+    AnncLeadBelow "11: kind 24: lead is not below trail",
+    AnncLeadAbove "11: kind 24: lead is not above trail+63",
     ReportsRise "11: reports rise strictly by source",
     EchoesRise "11: echoes by host",
     EchoOfSender "11: no echo names the sender",
@@ -214,6 +220,7 @@ branches! {
     FireOutside "Fire outside membership: Ignored",
     ReportOutside "Report outside membership: Ignored",
     FetchOutside "Fetch outside membership: Ignored",
+    AnnounceOutside "Announce outside membership: Ignored",
     ArrivalOutside "Arrival outside membership: Ignored",
     OwnMessage "an arrival whose sender is oneself: Ignored",
     OwnMessageOther "an arrival whose sender is oneself, of a held cue with other bytes: Ignored",
@@ -406,6 +413,15 @@ branches! {
     ReportHeard "Report: with heard stamps",
     ReportFull "Report: with 8 sources and 7 heard stamps",
 
+    // Announce and kind 24: document 02, P11
+    AnnounceNoFirst "Announce: without a first: Nothing",
+    AnnounceOne "Announce: first is last",
+    AnnounceSome "Announce: first below last",
+    AnnounceFull "Announce: last is first+63",
+    AnncNotOpen "kind 24: Done: its source is not open, and stays so",
+    AnncAtMost "kind 24: Done: lead at most last",
+    AnncAbove "kind 24: Done: lead above last, which does not rise",
+
     // Fire
     FireRequest "Fire: a request goes out, its next round is set",
     FireSixteen "Fire: a request of round 16 goes out",
@@ -540,6 +556,7 @@ pub fn take_outside(event: &Event) {
         Event::Fire => take(Branch::FireOutside),
         Event::Report => take(Branch::ReportOutside),
         Event::Fetch { .. } => take(Branch::FetchOutside),
+        Event::Announce => take(Branch::AnnounceOutside),
         Event::Arrival(_) => take(Branch::ArrivalOutside),
         _ => {}
     }

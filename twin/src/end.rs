@@ -1,4 +1,4 @@
-//! One end: its state, the soundness test, the opening and the ten events.
+//! One end: its state, the soundness test, the opening and the eleven events.
 
 use crate::branches::{self, take, unless, when, Branch};
 use crate::cue::Cue;
@@ -150,7 +150,7 @@ pub struct End {
     pub sources: [Source; HOSTS as usize],
 }
 
-/// The nine events with their arguments, and document 02, P9's Fetch.
+/// The nine events with their arguments, document 02, P9's Fetch and P11's Announce.
 #[derive(Clone, Debug, PartialEq, Eq)]
 pub enum Event {
     Join,
@@ -167,6 +167,7 @@ pub enum Event {
         source: u8,
         number: u16,
     },
+    Announce,
 }
 
 #[derive(Clone, Copy, Debug, PartialEq, Eq)]
@@ -830,6 +831,7 @@ impl End {
             (Event::Fire, _) => self.fire(draws, out),
             (Event::Report, _) => self.report(out),
             (Event::Fetch { source, number }, _) => self.fetch(*source, *number, out),
+            (Event::Announce, _) => self.announce(out),
             (Event::Arrival(_), Some(Datagram::Probe)) => self.report(out),
             (Event::Arrival(_), Some(Datagram::Message(message))) => {
                 self.arrival(&message, draws, out)
@@ -897,6 +899,33 @@ impl End {
         }
         when(!message.reports.is_empty(), Branch::ReportFirsts);
         when(!message.echoes.is_empty(), Branch::ReportHeard);
+        self.put_out(message, out)
+    }
+
+    /// Document 02, P11: "A new event Announce has a member put out its own first and last as trail and
+    /// lead in kind 24, two names laid out as kind 18's with the sender as source and host; without a
+    /// first it gives Nothing".
+    fn announce(&self, out: &mut [u8]) -> Answer {
+        let own = self.source(self.host);
+        let Some((trail, lead)) = own.first.zip(own.last) else {
+            take(Branch::AnnounceNoFirst);
+            return Answer::Nothing;
+        };
+        take(match lead - trail {
+            0 => Branch::AnnounceOne,
+            SPAN_MAX => Branch::AnnounceFull,
+            _ => Branch::AnnounceSome,
+        });
+        let host = self.host;
+        let names = [trail, lead].map(|number| Name {
+            source: host,
+            number,
+            host,
+        });
+        let message = Message {
+            names: names.to_vec(),
+            ..self.message(message::ANNC)
+        };
         self.put_out(message, out)
     }
 
@@ -1058,6 +1087,7 @@ impl End {
             (message::REPL, [name], [cue]) => self.repl(name, *cue, message.sender, draws, out),
             (message::FTCH, [name], []) => self.ftch(name, message.sender, out),
             (message::LATE, [name], [cue]) => self.late(name, *cue, message.sender, out),
+            (message::ANNC, [_, lead], []) => self.annc(lead),
             _ => self.sess(message, draws),
         }
     }
@@ -1352,6 +1382,18 @@ impl End {
         });
         when(self.clock == record.reply_quiet, Branch::XprsAtQuiet);
         self.repair(name.source, name.number, record.cue, sender, out)
+    }
+
+    /// Document 02, P11: "Members answer kind 24 Done." Nothing else is said, so nothing but the clock changes: its
+    /// lead raises no last, and its stamp is not heard.
+    fn annc(&self, lead: &Name) -> Answer {
+        let kept = self.source(lead.source);
+        take(match kept.last {
+            None => Branch::AnncNotOpen,
+            Some(last) if lead.number > last => Branch::AnncAbove,
+            Some(_) => Branch::AnncAtMost,
+        });
+        Answer::Done
     }
 
     /// "SESS: Done. For each report [...]. After that, an echo of oneself [...]. The

@@ -17,6 +17,12 @@ pub const XPRS: u8 = 21;
 pub const FTCH: u8 = 22;
 pub const LATE: u8 = 23;
 
+/// Document 02, P11: "trail and lead in kind 24, two names laid out as kind 18's with the sender as source and host".
+pub const ANNC: u8 = 24;
+
+/// P11: "lead is from trail to trail+63, else 11".
+pub const ANNC_SPAN: u16 = 63;
+
 /// "the old kinds are still read, numbers to 63, as the same meanings and no longer written".
 pub const OLD_DATA: u8 = 1;
 const OLD_SESS: u8 = 4;
@@ -143,7 +149,7 @@ pub fn read(bytes: &[u8]) -> Result<Datagram, u8> {
     };
     ask(counts_fit(&message), 9)?;
     ask(numbers_fit(bytes[0], &message) && in_range(&message), 10)?;
-    ask(hosts_fit(&message) && order_fits(&message), 11)?;
+    ask(places_fit(&message), 11)?;
     if is_old(bytes[0]) {
         branches::take_nth(Branch::OldData, usize::from(bytes[0] - OLD_DATA));
     }
@@ -158,7 +164,7 @@ pub fn write(message: &Message, out: &mut [u8]) -> Result<usize, u8> {
     ask(unless(!is_old(message.kind), Branch::OldNotWritten), 9)?;
     ask(counts_fit(message), 9)?;
     ask(in_range(message), 10)?;
-    ask(hosts_fit(message) && order_fits(message), 11)?;
+    ask(places_fit(message), 11)?;
     let bytes = put_together(message);
     out[..bytes.len()].copy_from_slice(&bytes);
     Ok(bytes.len())
@@ -297,6 +303,7 @@ fn counts_fit(message: &Message) -> bool {
         XPRS => unless(counts == (1, 0, 0, 0), Branch::CountsOfXprs),
         FTCH => unless(counts == (1, 0, 0, 0), Branch::CountsOfFtch),
         LATE => unless(counts == (1, 1, 0, 0), Branch::CountsOfLate),
+        ANNC => unless(counts == (2, 0, 0, 0), Branch::CountsOfAnnc),
         SESS => unless(matches!(counts, (0, 0, 0..=8, 0..=7)), Branch::CountsOfSess),
         _ => unless(false, Branch::KindUnknown),
     }
@@ -344,6 +351,11 @@ fn echo_in_range(echo: &Echo) -> bool {
         && unless(echo.held <= CLOCK_MAX, Branch::EchoHeldRange)
 }
 
+/// "Do the table's last column and the line under the table hold? 11."
+fn places_fit(message: &Message) -> bool {
+    hosts_fit(message) && lead_fits(message) && order_fits(message)
+}
+
 /// "Do the table's last column [...] hold? 11.": the column "host in the name".
 fn hosts_fit(message: &Message) -> bool {
     let sender = message.sender;
@@ -374,8 +386,26 @@ fn hosts_fit(message: &Message) -> bool {
             unless(name.host != sender, Branch::LateSender)
                 && unless(name.host != name.source, Branch::LateSource)
         }
+        // Document 02, P11: "with the sender as source and host".
+        ANNC => {
+            unless(name.source == sender, Branch::AnncSource)
+                && unless(name.host == sender, Branch::AnncHost)
+        }
         _ => false,
     })
+}
+
+/// Document 02, P11: "lead is from trail to trail+63, else 11". The other kinds have no such pair.
+fn lead_fits(message: &Message) -> bool {
+    let (ANNC, [trail, lead]) = (message.kind, &message.names[..]) else {
+        return true;
+    };
+    let below = lead.number < trail.number;
+    unless(!below, Branch::AnncLeadBelow)
+        && unless(
+            lead.number - trail.number <= ANNC_SPAN,
+            Branch::AnncLeadAbove,
+        )
 }
 
 /// "Reports rise strictly by source, echoes by host; no echo names the sender."

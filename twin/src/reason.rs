@@ -130,7 +130,8 @@ impl Asked<'_> {
             | Event::Fire
             | Event::Report
             | Event::Arrival(_)
-            | Event::Fetch { .. } => &[Status::Member],
+            | Event::Fetch { .. }
+            | Event::Announce => &[Status::Member],
         };
         !right.contains(&self.end.status)
     }

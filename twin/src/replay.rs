@@ -311,6 +311,7 @@ impl Bench {
             Verb::Crash => Event::Crash,
             Verb::Fire => Event::Fire,
             Verb::Report => Event::Report,
+            Verb::Announce => Event::Announce,
             Verb::Send(cue) => Event::Send(*cue),
             Verb::Fetch(source, number) => Event::Fetch {
                 source: *source,
@@ -404,16 +405,7 @@ impl Bench {
         match answer {
             Answer::Refused(number) => refusal(number),
             Answer::Out(length) => {
-                let kind = self.buffer[0];
-                let (one, other) = if kind == message::SESS {
-                    let reports = self.buffer[10];
-                    let echoes = self.buffer[11 + 3 * usize::from(reports)];
-                    (reports, u16::from(echoes))
-                } else {
-                    let number = u16::from_be_bytes([self.buffer[10], self.buffer[11]]);
-                    (self.buffer[9], number)
-                };
-                format!("out {length} {} {one} {other}", Kind(kind))
+                format!("out {length} {}", self.message_words())
             }
             Answer::Got { source, number } => format!("got {source} {number}"),
             Answer::Clash { source, number } => format!("clash {source} {number}"),
@@ -423,6 +415,23 @@ impl Bench {
             Answer::Ignored => "ignored".to_string(),
             Answer::Nothing => "nothing".to_string(),
         }
+    }
+
+    /// The kind of the message in the buffer, and what it is about: source and number; of a SESS how many reports and echoes;
+    /// of kind 24 source, trail and lead.
+    fn message_words(&self) -> String {
+        let kind = self.buffer[0];
+        let number = |at: usize| u16::from_be_bytes([self.buffer[at], self.buffer[at + 1]]);
+        let about = match kind {
+            message::SESS => {
+                let reports = self.buffer[10];
+                let echoes = self.buffer[11 + 3 * usize::from(reports)];
+                format!("{reports} {echoes}")
+            }
+            message::ANNC => format!("{} {} {}", self.buffer[9], number(10), number(14)),
+            _ => format!("{} {}", self.buffer[9], number(10)),
+        };
+        format!("{} {about}", Kind(kind))
     }
 
     fn read(&mut self, bytes: &[u8]) -> Said {

@@ -79,6 +79,7 @@ pub enum Verb {
     Hear(Brought),
     /// SOURCE 0..255, NUMBER 0..65535.
     Fetch(u8, u16),
+    Announce,
 }
 
 /// The message that an Arrival brings.
@@ -370,7 +371,7 @@ impl<'a> Words<'a> {
             reports: Vec::new(),
             echoes: Vec::new(),
         };
-        if self.takes("name") {
+        while message.names.len() < NAMES && self.takes("name") {
             message.names.push(self.name()?);
         }
         if self.takes("cue") {
@@ -426,7 +427,7 @@ impl<'a> Words<'a> {
     }
 }
 
-const NAMES: usize = 1;
+const NAMES: usize = 2;
 const CUES: usize = 1;
 const REPORTS: usize = 8;
 const ECHOES: usize = 7;
@@ -540,6 +541,7 @@ fn event(verb: &str, words: &mut Words) -> Option<(u64, Verb)> {
         "send" => Verb::Send(words.cue()?),
         "hear" => Verb::Hear(brought(words)?),
         "fetch" => Verb::Fetch(words.byte()?, words.cue_number()?),
+        "announce" => Verb::Announce,
         _ => return None,
     };
     Some((clock, verb))
@@ -635,7 +637,7 @@ impl fmt::Display for Status {
     }
 }
 
-const KINDS: [(u8, &str); 7] = [
+const KINDS: [(u8, &str); 8] = [
     (message::DATA, "data"),
     (message::RQST, "rqst"),
     (message::REPL, "repl"),
@@ -643,6 +645,7 @@ const KINDS: [(u8, &str); 7] = [
     (message::XPRS, "xprs"),
     (message::FTCH, "ftch"),
     (message::LATE, "late"),
+    (message::ANNC, "annc"),
 ];
 
 fn kind(word: &str) -> Option<u8> {
@@ -917,6 +920,7 @@ fn print_event(clock: u64, verb: &Verb, f: &mut fmt::Formatter<'_>) -> fmt::Resu
         Verb::Send(cue) => write!(f, "send {clock} {cue}"),
         Verb::Hear(brought) => write!(f, "hear {clock} {brought}"),
         Verb::Fetch(source, number) => write!(f, "fetch {clock} {source} {number}"),
+        Verb::Announce => write!(f, "announce {clock}"),
     }
 }
 

@@ -1,5 +1,7 @@
 //! Random traces are good traces: every line is played, the run is one of the service, and no call does what no call may.
 
+use twin::foyer;
+use twin::random::displays::scripts;
 use twin::random::trace;
 use twin::replay::{play, Mode};
 
@@ -65,4 +67,21 @@ fn reasons_agree_with_answers() {
         }
     }
     assert!(seen > SEEDS * STEPS / 2);
+}
+
+/// Random scripts of foyer are good scripts, each number is handed out once, missing or lost once, and every branch of the list comes.
+#[test]
+fn scripts_of_displays() {
+    let written = scripts(1, SEEDS, STEPS).expect("each number has one fate");
+    let mut printed = Vec::new();
+    foyer::play(written.text.as_bytes(), &mut printed).expect("a vector takes all");
+    let printed = String::from_utf8(printed).expect("what is printed is text");
+    assert!(!printed.contains("bad") && !printed.contains("CHANGED"));
+    assert!(written.text.lines().all(|line| line.len() <= foyer::LINE));
+    assert_eq!(written.seen.never().collect::<Vec<_>>(), [""; 0]);
+    for text in written.text.lines().filter(|line| !line.starts_with('#')) {
+        let does = foyer::Does::parse(text.as_bytes());
+        let again = does.flatten().map(|does| does.to_string());
+        assert_eq!(again.as_deref(), Some(text));
+    }
 }

@@ -2,6 +2,7 @@
 use mathlib.Core.Path.{_≡_, refl}
 use mathlib.Core.Bool.{Bool, true, false, _&&_, _||_}
 use mathlib.Core.List.{List, [], _∷_, List·Memᴰ, List·Memᴰ·head, List·Memᴰ·tail}
+use mathlib.Core.Logic.{inl}
 use Prim.Native.Nat.{ℕ}
 use lib.ListN.{length}
 use lib.Dec.{eqb, ltb}
@@ -72,7 +73,7 @@ was-sent x (y ∷ l) h =
 from-out : (x : List ℕ) (l : List (List ℕ)) → comes x l ≡ true → FromOut l x
 unfolding comes
 from-out [] l h = tt
-from-out (b ∷ s) l h = was-sent (b ∷ s) l h
+from-out (b ∷ s) l h = inl (was-sent (b ∷ s) l h)
 
 brought : (l : List (List ℕ)) (ev : Action) (o : Outcome) → brings l ev o ≡ true → Brought l ev o
 unfolding brings

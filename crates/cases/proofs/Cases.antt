@@ -14,6 +14,7 @@ use Rattle.cases.specs.Probe.{probeRows}
 use Rattle.cases.specs.Season.{seasonRows}
 use Rattle.cases.specs.Express.{expressRows}
 use Rattle.cases.specs.Fetch.{fetchRows}
+use Rattle.cases.specs.Announce.{announcedRows, announceRows}
 use Rattle.cases.proofs.Opened.{opened}
 
 pub cases-hold : Hold rows
@@ -75,3 +76,11 @@ express-holds = (refl, (refl, (refl, (refl, (refl, (refl, (refl, (refl, (refl, (
 pub fetch-holds : Hold fetchRows
 unfolding fetchRows opened
 fetch-holds = (refl, (refl, (refl, (refl, (refl, (refl, (refl, (refl, (refl, (refl, (refl, (refl, (refl, (refl, (refl, (refl, (refl, tt)))))))))))))))))
+
+pub announced-hold : Hold announcedRows
+unfolding announcedRows opened
+announced-hold = (refl, (refl, (refl, (refl, (refl, (refl, (refl, (refl, (refl, (refl, (refl, (refl, (refl, (refl, (refl, (refl, (refl, (refl, (refl, (refl, (refl, (refl, (refl, (refl, (refl, (refl, (refl, (refl, tt))))))))))))))))))))))))))))
+
+pub announces-hold : Hold announceRows
+unfolding announceRows opened
+announces-hold = (refl, (refl, (refl, (refl, (refl, (refl, (refl, (refl, (refl, (refl, (refl, (refl, (refl, (refl, tt))))))))))))))

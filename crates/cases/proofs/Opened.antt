@@ -5,7 +5,7 @@ use Rattle.numbers.specs.Bits.{bit, withBit}
 use Rattle.message.specs.Cue.{cueIn, cueWith}
 use Rattle.message.specs.Section.{entries, flat, section, sectionFrom, after, all, rises}
 use Rattle.message.specs.Message.{bytesWith, meaningWith}
-use Rattle.message.specs.Question.{inRange, hostsFit, readRefusal, readOf, writeRefusal, writtenOf, outputOf}
+use Rattle.message.specs.Question.{inRange, windowFits, hostsFit, readRefusal, readOf, writeRefusal, writtenOf, outputOf}
 use Rattle.end.specs.Sound.{allBelow, soundOf}
 use Rattle.end.specs.Round.{factor, share}
 use Rattle.end.specs.Names.{filled, lacking, riseWith}
@@ -21,9 +21,9 @@ use Rattle.end.specs.Why.{whyOf}
 use Rattle.end.specs.Opening.{openRefusal, openingOf}
 use Rattle.end.specs.Book.{put, readAs, raisedTo, reportedTo, broughtTo, among, firstOf, notBelow, isSome, kept, limits, gets, dueMessage, due, clearedBy, movedBook, file, higher, hand, bring, hears, afterMessage, after as afterCall, isGot, bookAfter}
 use Rattle.end.specs.Run.{resultOf, sentAfter, worldAfter, seen}
-use Rattle.end.specs.Answer.{answerOf, bufferOf}
-use Rattle.cases.specs.Shown.{returned, readOff, onlooked}
+use Rattle.end.specs.Answer.{answerOf, bufferOf, readOff}
+use Rattle.cases.specs.Shown.{returned, onlooked}
 
 unfoldable pub opened : ℕ
-unfolding valueAfter digits bit withBit cueIn cueWith entries flat section sectionFrom after all rises bytesWith meaningWith inRange hostsFit readRefusal readOf writeRefusal writtenOf outputOf allBelow soundOf factor share filled lacking riseWith reportsBelow echoesBelow recordAt attemptAt sameCue decideData reached decideReply decideRound decideRequest decideExpress decideRepair decideAs apply effectOf stepAt allReported measured reportedAfter sessionOf mayFetch untried nearest tryOf fetchOf mayAnswer fetchedOf mayHand lateOf messageStep foldUp earliest fireAt fired movedEnd moveOf arrivalOf actOf stepOf questionOf eventOf whyOf openRefusal openingOf put readAs raisedTo reportedTo broughtTo among firstOf notBelow isSome kept limits gets dueMessage due clearedBy movedBook file higher hand bring hears afterMessage afterCall isGot bookAfter resultOf sentAfter worldAfter seen answerOf bufferOf returned readOff onlooked
+unfolding valueAfter digits bit withBit cueIn cueWith entries flat section sectionFrom after all rises bytesWith meaningWith inRange windowFits hostsFit readRefusal readOf writeRefusal writtenOf outputOf allBelow soundOf factor share filled lacking riseWith reportsBelow echoesBelow recordAt attemptAt sameCue decideData reached decideReply decideRound decideRequest decideExpress decideRepair decideAs apply effectOf stepAt allReported measured reportedAfter sessionOf mayFetch untried nearest tryOf fetchOf mayAnswer fetchedOf mayHand lateOf messageStep foldUp earliest fireAt fired movedEnd moveOf arrivalOf actOf stepOf questionOf eventOf whyOf openRefusal openingOf put readAs raisedTo reportedTo broughtTo among firstOf notBelow isSome kept limits gets dueMessage due clearedBy movedBook file higher hand bring hears afterMessage afterCall isGot bookAfter resultOf sentAfter worldAfter seen answerOf bufferOf returned readOff onlooked
 opened = 0

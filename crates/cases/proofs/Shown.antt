@@ -13,7 +13,7 @@ use Rattle.message.specs.declared.Name.{Name}
 use Rattle.message.specs.Message.{Meaning}
 use Rattle.end.specs.declared.Answer.{Answer}
 use Rattle.end.specs.declared.Answer.the-variants as answer
-use Rattle.end.specs.Answer.{answerOf, bufferOf}
+use Rattle.end.specs.Answer.{answerOf, bufferOf, readOff}
 use Rattle.end.specs.Answer.{Effect, Out, Got, Done, Ignored, Nothing, Clash, Late, Exhausted}
 use Rattle.end.specs.Event.{Action, Moves, Send, Arrival, Else, moves}
 use Rattle.end.specs.Answer.{Outcome, Refused, Did}
@@ -21,12 +21,12 @@ use Rattle.end.specs.State.{isMember}
 use Rattle.end.specs.Book.{Book, put, readAs, source, number, isOriginal, isRepair, among, firstOf, notBelow, isSome, kept, limits, gets, hears, bring, dueMessage}
 use Rattle.end.specs.Book.{Entry, due, movedBook, file, hand, afterMessage, after, isGot, Meets, Answered, bookAfter, RunFrom, emptyBook}
 use Rattle.end.specs.Lates.{LateAsFiled, LatesAsFiled}
-use Rattle.end.specs.Run.{World, Call, CueArray, Allowed, resultOf, sentAfter, worldAfter, seen}
+use Rattle.end.specs.Run.{World, Call, CueArray, Allowed, Fresh, resultOf, sentAfter, worldAfter, seen}
 use Rattle.end.proofs.Tools.{byCond, clash, clash′, and-left, and-right}
 use Rattle.end.proofs.Service.Ends.{service}
 use Rattle.end.proofs.Service.Unclashed.{never-clashes}
 use Rattle.end.proofs.Service.Lates.{late-has-the-sources-bytes}
-use Rattle.cases.specs.Shown.{Returned, returned, readOff, onlooked, ServiceShown, NeverReturnsClash}
+use Rattle.cases.specs.Shown.{Returned, returned, onlooked, ServiceShown, LateShown, NeverReturnsClash}
 
 -- ---- every filed cue has 24 bytes
 
@@ -152,22 +152,27 @@ sent-as-shown (Did (Clash name)) out l = refl
 sent-as-shown (Did (Late name cue)) out l = refl
 sent-as-shown (Did Exhausted) out l = refl
 
-shown-runs : (cs : List Call) (w : World) (b : Book) → Long b → Allowed w cs → LatesAsFiled b (seen w cs) → RunFrom b (seen w cs)
-    → RunFrom b (map onlooked (returned w cs))
+-- so what is read off the answers and the outputs is what an onlooker sees
+shown-seen : (cs : List Call) (w : World) (b : Book) → Long b → Allowed w cs → LatesAsFiled b (seen w cs) → RunFrom b (seen w cs)
+    → map onlooked (returned w cs) ≡ seen w cs
 unfolding seen returned onlooked
-shown-runs [] w b l a f r = tt
-shown-runs (c ∷ cs) w b l a f r =
+shown-seen [] w b l a f r = refl
+shown-seen (c ∷ cs) w b l a f r =
     let o = resultOf w c .outcome in
     let back : readOff (answerOf o) (bufferOf o (c .output)) ≡ o = outcome-back b (c .host) (c .action) o (c .output) l (f .0) (r .0) in
-    let rest = map onlooked (returned (worldAfter w (c .host) (resultOf w c)) cs) in
-    let tail : RunFrom (bookAfter b (c .host) (c .action) o) rest = shown-runs cs _ _ (long-book b (c .host) (c .action) o (a .1) l) (a .3) (f .1) (r .2) in
-    subst
-    (λ (x : Outcome). RunFrom b (record { host = c .host; action = c .action; outcome = x; status = resultOf w c .left .status } ∷ rest))
-    (sym back) (r .0, r .1, tail)
+    let next = worldAfter w (c .host) (resultOf w c) in
+    let tail : map onlooked (returned next cs) ≡ seen next cs = shown-seen cs _ _ (long-book b (c .host) (c .action) o (a .1) l) (a .3) (f .1) (r .2) in
+    λ i. record { host = c .host; action = c .action; outcome = back i; status = resultOf w c .left .status } ∷ tail i
+
+shown : (w : World) → Fresh w → (cs : List Call) → Allowed w cs → seen w cs ≡ map onlooked (returned w cs)
+unfolding Long AllLong
+shown w f cs a = sym (shown-seen cs w emptyBook (λ s. tt) a (late-has-the-sources-bytes w f cs a) (service w f cs a))
 
 pub service-shown : ServiceShown
-unfolding Long AllLong
-service-shown w f cs a = shown-runs cs w emptyBook (λ s. tt) a (late-has-the-sources-bytes w f cs a) (service w f cs a)
+service-shown w f cs a = subst (RunFrom emptyBook) (shown w f cs a) (service w f cs a)
+
+pub late-shown : LateShown
+late-shown w f cs a = subst (LatesAsFiled emptyBook) (shown w f cs a) (late-has-the-sources-bytes w f cs a)
 
 -- ---- no call returns Clash: the answer is the outcome's
 abbrev isClash : Answer → Bool

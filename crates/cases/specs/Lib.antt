@@ -18,4 +18,5 @@ pub mod Probe
 pub mod Season
 pub mod Express
 pub mod Fetch
+pub mod Announce
 pub mod Turn

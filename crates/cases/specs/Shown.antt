@@ -2,16 +2,14 @@
 use Prim.Native.Nat.{ℕ}
 use mathlib.Core.Path.{_≡_}
 use mathlib.Core.List.{List, [], _∷_, map, List·Memᴰ}
-use lib.ListN.{take}
 use Rattle.message.specs.declared.Name.{Name}
 use Rattle.end.specs.declared.Answer.{Answer}
 use Rattle.end.specs.declared.Answer.the-variants as answer
 use Rattle.end.specs.declared.Status.{Status}
-use Rattle.end.specs.Answer.{Out, Got, Done, Ignored, Nothing, Clash, Late, Exhausted}
 use Rattle.end.specs.Event.{Action}
-use Rattle.end.specs.Answer.{Outcome, Refused, Did}
-use Rattle.end.specs.Answer.{answerOf, bufferOf}
+use Rattle.end.specs.Answer.{answerOf, bufferOf, readOff}
 use Rattle.end.specs.Book.{Entry, RunFrom, emptyBook}
+use Rattle.end.specs.Lates.{LatesAsFiled}
 use Rattle.end.specs.Run.{World, Call, Allowed, Fresh, resultOf, worldAfter}
 
 -- one call: what it was given, what it returned and left
@@ -29,19 +27,6 @@ returned w (c ∷ cs) =
     record { host = c .host; action = c .action; answer = answerOf (r .outcome); output = bufferOf (r .outcome) (c .output); status = r .left .status }
     ∷ returned (worldAfter w (c .host) r) cs
 
--- what an onlooker reads off an answer and an output: "Out (length, the message in the first output bytes), Got (name, and its cue in the
--- first 24), Done, Ignored, Nothing"; document 02, P4: "Clash, with the name"; P9: "Late, written as Got is", and "exhausted"
-unfoldable pub readOff : Answer → List ℕ → Outcome
-readOff (answer.Refused k) output = Refused k
-readOff (answer.Out n) output = Did (Out (take n output))
-readOff (answer.Got name) output = Did (Got name (take 24 output))
-readOff answer.Done output = Did Done
-readOff answer.Ignored output = Did Ignored
-readOff answer.Nothing output = Did Nothing
-readOff (answer.Clash name) output = Did (Clash name)
-readOff (answer.Late name) output = Did (Late name (take 24 output))
-readOff answer.Exhausted output = Did Exhausted
-
 unfoldable pub onlooked : Returned → Entry
 onlooked r = record { host = r .host; action = r .action; outcome = readOff (r .answer) (r .output); status = r .status }
 
@@ -49,6 +34,10 @@ onlooked r = record { host = r .host; action = r .action; outcome = readOff (r .
 -- are the book's."
 abbrev pub ServiceShown : Type 0
 ServiceShown = (w : World) → Fresh w → (cs : List Call) → Allowed w cs → RunFrom emptyBook (map onlooked (returned w cs))
+
+-- Document 02, P9: a cue that is handed out as Late has "the source's bytes", of the answers and outputs that the calls return.
+abbrev pub LateShown : Type 0
+LateShown = (w : World) → Fresh w → (cs : List Call) → Allowed w cs → LatesAsFiled emptyBook (map onlooked (returned w cs))
 
 -- Document 02, P4: "In runs where the network invents nothing, Clash is shown never to come up", of the answers that the calls return.
 abbrev pub NeverReturnsClash : Type 0

@@ -1,10 +1,11 @@
-// The messages that an end puts out, as the structs that the layout writes, `aboutName` and `sessionMessage` of the crate end,
-// specs/Messages.antt; and how one goes out. They are helpers of the crates above and no calls of the product.
+// The messages that an end puts out, as the structs that the layout writes, `aboutName`, `announceMessage` and `sessionMessage` of the
+// crate end, specs/Messages.antt; and how one goes out. They are helpers of the crates above and no calls of the product.
 use end::Answer;
 use end::End;
 use end::Heard;
 use end::Moment;
 use end::Span;
+use message::ANNC;
 use message::Counts;
 use message::CueNumber;
 use message::Echo;
@@ -21,7 +22,7 @@ ghost use lib.ListN.{length, take};
 ghost use Rattle.message.specs.Limit.{hostLimit, roomNeeded};
 ghost use Rattle.message.specs.Entry.{blankName, blankReport, blankEcho};
 ghost use Rattle.message.specs.Message.{Small, numberWidth, reportPlaces, echoPlaces, meaningOf, bytesOf};
-ghost use Rattle.end.specs.Messages.{aboutName, reportOn, echoOn, sessionMessage};
+ghost use Rattle.end.specs.Messages.{aboutName, ownEntry, announceMessage, reportOn, echoOn, sessionMessage};
 ghost use Rattle.end.specs.Answer.{Out, Did, answerOf, bufferOf};
 ghost use Rattle.end.specs.Ready.{HeardBy};
 ghost use Rattle.state.specs.Settled.{Settled};
@@ -98,6 +99,44 @@ fn about_name(kind: u8, t: Moment, name: Name, host: Host, cues: usize, cue: [u8
         counts,
         names,
         cue,
+        reports: [no_report(); 8],
+        echoes: [no_echo(); 7],
+    }
+}
+
+// A name of one's own, beside oneself as the host.
+fn own_entry(t: Moment, number: CueNumber) -> NameEntry
+    ensures { λ r. ⌜ r ≡ ownEntry t number ⌝ }
+{
+    let source = t.me;
+    let host = t.me;
+    NameEntry {
+        name: Name { source, number },
+        host,
+    }
+}
+
+// ANNC: the own first and last.
+fn announce_message(t: Moment, first: CueNumber, last: CueNumber) -> Message
+    ensures { λ r. ⌜ meaningOf r ≡ announceMessage t first last ⌝ }
+    ensures { λ r. ⌜ Small (numberWidth (r .kind)) (r .counts) ⌝ }
+{
+    let mut names = [own_entry(t, first); 2];
+    names[1] = own_entry(t, last);
+    let counts = Counts {
+        names: 2,
+        cues: 0,
+        reports: 0,
+        echoes: 0,
+    };
+    let sender = t.me;
+    Message {
+        kind: ANNC,
+        sender,
+        stamp: t.clock,
+        counts,
+        names,
+        cue: [0; 24],
         reports: [no_report(); 8],
         echoes: [no_echo(); 7],
     }
@@ -229,5 +268,14 @@ pub fn put_name(
     ensures { λ _. ⌜ now (out .exit) ≡ bufferOf (Did (Out (bytesOf (aboutName kind t name host (take cues (cue ∷ [])))))) (now (out .entry)) ⌝ }
 {
     let m = about_name(kind, t, name, host, cues, cue);
+    put(m, out)
+}
+
+pub fn put_announce(t: Moment, first: CueNumber, last: CueNumber, out: &mut [u8]) -> Answer
+    requires { ⌜ roomNeeded ≤ length (now out) ⌝ }
+    ensures { λ r. ⌜ r ≡ answerOf (Did (Out (bytesOf (announceMessage t first last)))) ⌝ }
+    ensures { λ _. ⌜ now (out .exit) ≡ bufferOf (Did (Out (bytesOf (announceMessage t first last)))) (now (out .entry)) ⌝ }
+{
+    let m = announce_message(t, first, last);
     put(m, out)
 }

@@ -26,7 +26,14 @@ fn about(m: Message) -> Name {
     first.name
 }
 
-// `out LENGTH`, and the message: its kind, and what it is about.
+// The number of a message's second name.
+fn lead_of(m: Message) -> u64 {
+    let names = m.names;
+    let second = names[1];
+    second.name.number.0 as u64
+}
+
+// `out LENGTH`, and the message: its kind, and what it is about; an `annc` has a second number.
 fn put_out(out: &mut [u8; 65536], n: &mut [usize; 20], len: usize, m: Message) {
     let name = about(m);
     let source = name.source.0 as u64;
@@ -39,6 +46,9 @@ fn put_out(out: &mut [u8; 65536], n: &mut [usize; 20], len: usize, m: Message) {
         [source, number, 0, 0, 0, 0],
         2,
     );
+    if m.kind == message::ANNC {
+        text::then(out, n, lead_of(m));
+    }
 }
 
 // The message in the first bytes of an output.

@@ -47,6 +47,7 @@ fn call(e: End, said: Said, bytes: &[u8], draws: &[Draw], out: &mut [u8]) -> Ste
         words::HEAR => link::arrival(e, clock, draws, bytes, out),
         words::FIRE => link::fire(e, clock, draws, out),
         words::REPORT => link::report(e, clock, draws, out),
+        words::ANNOUNCE => link::announce(e, clock, draws, out),
         words::FETCH => link::fetch(e, clock, draws, name, out),
         _ => call_move(e, word, clock, draws, out),
     }
@@ -227,7 +228,8 @@ pub fn bring(
 fn is_event(word: u64) -> bool {
     match word {
         words::JOIN | words::JOINED | words::LEAVE | words::LEFT | words::CRASH => true,
-        words::SEND | words::HEAR | words::FIRE | words::REPORT | words::FETCH => true,
+        words::SEND | words::HEAR | words::FIRE | words::REPORT => true,
+        words::ANNOUNCE | words::FETCH => true,
         _ => false,
     }
 }

@@ -9,8 +9,8 @@ pub mod event;
 pub mod kept;
 pub mod why;
 
-// How much of the text is used is at picture::text::USED, place 0. How many draws there are, how many bytes the output has, and what it is
-// filled with.
+// How much of the text is used is at picture::text::USED, place 0, and where the input stands at intake::FROM and BEFORE, the last two places.
+// How many draws there are, how many bytes the output has, and what it is filled with.
 pub const DRAWS: usize = 1;
 
 pub const ROOM: usize = 2;
@@ -63,11 +63,6 @@ pub const AFTER: usize = 17;
 pub const SHOWS: usize = 1;
 
 pub const STOPS: usize = 2;
-
-// The bytes of the input that are still to be taken: from..before.
-pub const INPUT_FROM: usize = 18;
-
-pub const INPUT_BEFORE: usize = 19;
 
 // One more, up to a number that no run comes to.
 fn more(n: usize) -> usize {

@@ -22,6 +22,7 @@ pub fn event_of(word: u64, name: Name) -> Event {
         words::HEAR => Event::Arrival,
         words::FIRE => Event::Fire,
         words::REPORT => Event::Report,
+        words::ANNOUNCE => Event::Announce,
         words::FETCH => Event::Fetch(name),
         _ => Event::Moves(Move::Crash),
     }

@@ -17,7 +17,7 @@ use Rattle.message.specs.declared.Host.{Host}
 use Rattle.message.specs.declared.Name.{Name}
 use Rattle.message.specs.declared.CueNumber.{CueNumber}
 use Rattle.message.specs.declared.Message.{Message}
-use Rattle.message.specs.Message.{DATA, REPL, Meaning, heldAs, bytesOf, meaningFrom}
+use Rattle.message.specs.Message.{ANNC, DATA, REPL, Meaning, heldAs, bytesOf, meaningFrom}
 use Rattle.message.specs.Question.{ticksIn, sameHost, readRefusal, messageFor, readOf}
 use Rattle.message.proofs.QuestionLaws.{and-both}
 use Rattle.end.specs.declared.Answer.the-variants as answer
@@ -31,7 +31,7 @@ use Rattle.display.specs.declared.Missing.the-variants as missing
 use Rattle.display.specs.declared.Lost.{Lost}
 use Rattle.display.specs.declared.Shown.{Shown}
 use Rattle.display.specs.Display.{hostsApart, windowSound, soundOf, withClock, withWindow}
-use Rattle.display.specs.Hear.{ANNC, Hearing, hearing, noneLost, passedOver, isOriginal, isRepair, isAnnounced, startAt, heardIn}
+use Rattle.display.specs.Hear.{Hearing, hearing, noneLost, passedOver, isOriginal, isRepair, isAnnounced, startAt, heardIn}
 use Rattle.display.specs.Request.{lowestClear, lowestMissing, requestIf, stepOf}
 use Rattle.display.specs.Call.{Event, Hear, Step, questionOf, actOf, eventOf, gives, leaves}
 use Rattle.display.specs.Frame.{shownOf, firstOf, Ready, isStarted, saying, laterOf, clearOf, missingOf}

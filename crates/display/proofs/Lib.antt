@@ -6,4 +6,6 @@ pub mod Moves
 pub mod StepLaws
 pub mod History
 pub mod StaysSound
+pub mod Asks
+pub mod Foyer
 pub mod Rows

@@ -13,19 +13,19 @@ use Rattle.message.specs.Limit.{numberLimit}
 use Rattle.message.specs.Section.{all, rises}
 use Rattle.message.specs.Entry.{blankName}
 use Rattle.message.specs.declared.NameEntry.{NameEntry}
-use Rattle.message.specs.Message.{Meaning, kindByte, mostNumber, countsOf, meaningFrom, datagramFrom}
-use Rattle.message.specs.Question.{ask, firstNo, hostIn, ticksIn, nameIn, kindHasCounts, inRange, hostFits, notFrom, reportSource, echoHost, hostsFit, sameHost, messageQuestions, readQuestions, readRefusal}
+use Rattle.message.specs.Message.{ANNC, Meaning, kindByte, mostNumber, countsOf, meaningFrom, datagramFrom}
+use Rattle.message.specs.Question.{ask, firstNo, hostIn, ticksIn, nameIn, kindHasCounts, inRange, hostFits, notFrom, reportSource, echoHost, windowFits, hostsFit, sameHost, messageQuestions, readQuestions, readRefusal}
 use Rattle.message.proofs.QuestionLaws.{and-both, all-passed, counted, most-below}
 use Rattle.roundtrip.proofs.RoundTrip.{accepted, kind-from}
 use Rattle.end.specs.Messages.{messageName}
 use Rattle.end.specs.Answer.{classOf, classIn}
-use Rattle.end.proofs.Tools.{byCond, clash′}
+use Rattle.end.proofs.Tools.{byCond}
 use Rattle.display.specs.declared.Window.{Window}
 use Rattle.display.specs.declared.Window.the-variants.{Unstarted, Started}
 use Rattle.display.specs.declared.Display.{Display}
 use Rattle.display.specs.declared.Lost.{Lost}
 use Rattle.display.specs.Display.{withClock}
-use Rattle.display.specs.Hear.{ANNC, raised, isNew, startAt, taken, noneLost, lostBy, isOriginal, isRepair, isAnnounced, trailIn, leadIn, Hearing, heardIn, hearOf}
+use Rattle.display.specs.Hear.{raised, isNew, startAt, taken, noneLost, lostBy, isOriginal, isRepair, isAnnounced, trailIn, leadIn, Hearing, heardIn, hearOf}
 use Rattle.display.specs.Request.{lowestMissing, requestIf, stepOf}
 use Rattle.display.specs.Call.{Event, Hear, Step, questionOf, actOf, Result, eventOf}
 use Rattle.display.specs.History.{handedIn}
@@ -47,14 +47,38 @@ Does w h = Went w (handedIn (classOf (h .effect))) (h .lost) (h .left .window)
 abbrev Fitting : Meaning → Type 0
 Fitting m = (trailIn m ≤ leadIn m) × (leadIn m ≤ trailIn m + 63)
 
--- a kind without a row in the table has no counts, so the reader does not accept it
-announced-fits : (m : Meaning) → kindHasCounts (m .kind) (countsOf m) ≡ true → m .kind ≡ ANNC → Fitting m
-announced-fits m c k = clash′ (subst (λ (i : ℕ). kindHasCounts i (countsOf m) ≡ true) k c)
+-- question 9 has it that there are two, question 11 how they stand
+window-fits : (m : Meaning) → hostsFit m ≡ true → windowFits (m .names) ≡ true
+unfolding hostsFit
+window-fits m h =
+    let a = and-both (all (hostFits (m .kind) (m .sender)) (m .names)) _ h in
+    let b = and-both (rises reportSource (m .reports)) _ (a .1) in
+    let c = and-both (rises echoHost (m .echoes)) _ (b .1) in
+    and-both (all (notFrom (m .sender)) (m .echoes)) _ (c .1) .1
+
+two-fit : (names : List NameEntry) → length names ≡ 2 → windowFits names ≡ true
+    → let numberAt : ℕ → ℕ = λ i. getD names i blankName .name .number .0 in
+    (numberAt 0 ≤ numberAt 1) × (numberAt 1 ≤ numberAt 0 + 63)
+unfolding windowFits
+two-fit [] e h = absurd (omega arith)
+two-fit (a ∷ []) e h = absurd (omega arith)
+two-fit (a ∷ b ∷ names) e h =
+    let low = a .name .number .0 in
+    let high = b .name .number .0 in
+    let t = and-both (leb low high) (leb high (low + 63)) h in
+    (leb-true low high (t .0), leb-true high (low + 63) (t .1))
+
+announced-fits : (m : Meaning) → kindHasCounts (m .kind) (countsOf m) ≡ true → hostsFit m ≡ true → m .kind ≡ ANNC → Fitting m
+announced-fits m c h k =
+    let two = counted ANNC (countsOf m) (subst (λ (i : ℕ). kindHasCounts i (countsOf m) ≡ true) k c) .names in
+    two-fit (m .names) two (window-fits m h)
 
 read-fits : (s : List ℕ) → firstNo (messageQuestions s) ≡ 0 → eqb (meaningFrom s .kind) ANNC ≡ true → Fitting (meaningFrom s)
 read-fits s h k =
     let M = meaningFrom s in
-    announced-fits M (subst (λ (i : ℕ). kindHasCounts i (countsOf M) ≡ true) (sym (kind-from s)) (accepted s h .counts)) (eqb-true (M .kind) ANNC k)
+    let ten = all-passed (inRange (mostNumber (kindByte s)) M) 10 (ask (hostsFit M) 11 ∷ []) (omega arith) (accepted s h .rest) in
+    let eleven = all-passed (hostsFit M) 11 [] (omega arith) (ten .1) .0 in
+    announced-fits M (subst (λ (i : ℕ). kindHasCounts i (countsOf M) ≡ true) (sym (kind-from s)) (accepted s h .counts)) eleven (eqb-true (M .kind) ANNC k)
 
 -- and of any number in it
 all-small : (most : ℕ) (l : List NameEntry) (i : ℕ) → all (nameIn most) l ≡ true → getD l i blankName .name .number .0 ≤ most

@@ -90,7 +90,7 @@ pub clear-none : (set k : ℕ) → lowestClear set k ≡ none → bit set k ≡ 
 unfolding lowestClear
 clear-none set k h b = rw (h, b)
 
-clear-keeps : (set k i : ℕ) → lowestClear set k ≡ some i → lowestClear set (suc k) ≡ some i
+pub clear-keeps : (set k i : ℕ) → lowestClear set k ≡ some i → lowestClear set (suc k) ≡ some i
 unfolding lowestClear
 clear-keeps set k i h = rw h
 

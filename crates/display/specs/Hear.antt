@@ -6,7 +6,7 @@ use lib.ListN.{getD}
 use lib.Dec.{leb, ltb, eqb}
 use Rattle.numbers.specs.Bits.{bit, withBit}
 use Rattle.message.specs.Entry.{asNumber, blankName}
-use Rattle.message.specs.Message.{DATA, REPL, Meaning, Datagram, Probe, Saying}
+use Rattle.message.specs.Message.{DATA, REPL, ANNC, Meaning, Datagram, Probe, Saying}
 use Rattle.message.specs.Question.{sameHost}
 use Rattle.end.specs.Messages.{messageName, messageCue}
 use Rattle.end.specs.Answer.{Effect, Got, Done, Ignored}
@@ -17,10 +17,6 @@ use Rattle.display.specs.declared.Above.{Above}
 use Rattle.display.specs.declared.Above.the-variants.{NoneAbove, Between}
 use Rattle.display.specs.declared.Lost.{Lost}
 use Rattle.display.specs.Display.{withWindow}
-
--- the kind of an announcement. It has no row in the table of kinds yet, so the reader refuses it as 9
-abbrev pub ANNC : ℕ
-ANNC = 24
 
 -- ---- trail and lead
 

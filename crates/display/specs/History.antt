@@ -2,22 +2,26 @@
 -- from the start to lead was handed out once, is missing, or was reported lost once." The history is the list of a display's calls with their
 -- answers and losses; any bytes may be heard, and refused calls are among them.
 use mathlib.Core.Path.{_≡_}
-use Prim.Native.Nat.{ℕ, _+_, _-_, _≤_}
+use Prim.Native.Nat.{ℕ, _+_, _-_, _≤_, _<_}
 use mathlib.Core.Bool.{Bool, true, false, cond, not, _&&_}
 use mathlib.Core.List.{List, [], _∷_, _++_}
 use mathlib.Core.Option.{Option, none, some}
+use mathlib.Core.Logic.{_⊎_}
 use lib.Dec.{leb, eqb}
 use Rattle.numbers.specs.Bits.{bit}
 use Rattle.message.specs.declared.Host.{Host}
-use Rattle.end.specs.Answer.{Class, PutsOut, HandsOut, HandsLate, Untouched, classIn, Outcome}
+use Rattle.message.specs.Message.{bytesOf}
+use Rattle.end.specs.Answer.{Effect, Out, Nothing, Did, Class, PutsOut, HandsOut, HandsLate, Untouched, classIn, Outcome}
 use Rattle.display.specs.declared.Window.{Window}
 use Rattle.display.specs.declared.Window.the-variants.{Unstarted, Started}
 use Rattle.display.specs.declared.Display.{Display}
 use Rattle.display.specs.declared.Above.{Above}
 use Rattle.display.specs.declared.Above.the-variants.{NoneAbove, Between}
 use Rattle.display.specs.declared.Lost.{Lost}
-use Rattle.display.specs.Display.{soundOf, openingOf}
-use Rattle.display.specs.Call.{Event, questionOf, eventOf}
+use Rattle.display.specs.Display.{soundOf, openingOf, withClock}
+use Rattle.display.specs.Hear.{noneLost}
+use Rattle.display.specs.Request.{requestFor}
+use Rattle.display.specs.Call.{Event, Step, questionOf, Result, eventOf}
 
 -- ---- the history
 pub record Call : Type 0 where
@@ -136,6 +140,22 @@ abbrev pub MissingIs : Type 0
 MissingIs = (own sender : Host) (cs : List Call) (n : ℕ) → let d = openingOf own sender .display in
     let w = afterAll d cs .window in
     isMissing w n ≡ (isBetween w n && eqb (handedOut (told d cs) n) 0)
+
+-- "A step puts out RQST of the lowest missing number, or gives Nothing": one that is not refused does the first where a number is missing, and
+-- gives Nothing where none is; either way it sets the clock and changes nothing else. Of any display.
+abbrev pub noneMissing : Window → ℕ → Type 0
+noneMissing w n = (k : ℕ) → k < n → isMissing w k ≡ false
+
+abbrev pub stepped : Effect → Display → Result
+stepped effect d = record { outcome = Did effect; lost = noneLost; left = d }
+
+abbrev pub StepAsksLowest : Type 0
+StepAsksLowest = (d : Display) (clock room : ℕ) → questionOf d Step clock room ≡ 0 → let after = withClock d clock in
+    ((n : ℕ)
+    × (eventOf d Step clock room ≡ stepped (Out (bytesOf (requestFor after n))) after)
+    × (isMissing (d .window) n ≡ true)
+    × noneMissing (d .window) n)
+    ⊎ ((eventOf d Step clock room ≡ stepped Nothing after) × ((n : ℕ) → noneMissing (d .window) n))
 
 -- A number that was handed out is never reported lost, before or after.
 abbrev pub ReceivedNeverReported : Type 0

@@ -4,4 +4,5 @@ pub mod Request
 pub mod Call
 pub mod Frame
 pub mod History
+pub mod Foyer
 pub mod Rows

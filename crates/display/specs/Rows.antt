@@ -3,7 +3,7 @@ use Prim.Native.Nat.{ℕ}
 use mathlib.Core.List.{List, [], _∷_}
 use Rattle.message.specs.declared.Name.{Name}
 use Rattle.message.specs.Entry.{asHost, asNumber, blankCue}
-use Rattle.message.specs.Message.{DATA, REPL, Meaning}
+use Rattle.message.specs.Message.{DATA, REPL, ANNC, Meaning}
 use Rattle.end.specs.Answer.{Effect, Got, Done, Ignored}
 use Rattle.display.specs.declared.Window.{Window}
 use Rattle.display.specs.declared.Window.the-variants.{Unstarted, Started}
@@ -11,7 +11,7 @@ use Rattle.display.specs.declared.Display.{Display}
 use Rattle.display.specs.declared.Above.{Above}
 use Rattle.display.specs.declared.Above.the-variants.{NoneAbove, Between}
 use Rattle.display.specs.declared.Lost.{Lost}
-use Rattle.display.specs.Hear.{ANNC, noneLost, Hearing, hearing, heardIn}
+use Rattle.display.specs.Hear.{noneLost, Hearing, hearing, heardIn}
 use Rattle.display.specs.Frame.{saying}
 
 abbrev pub displayAt : Window → Display

@@ -1,7 +1,8 @@
 // Foyer displays: document 02, P11. A display sends no cues and follows one sender, by the simplified PGM of source document 003. The
 // definitions are in specs/: Display (the state), Hear (messages, losses), Request (what a step puts out), Call (questions, and what a call
-// gives), History (every number once), Frame (what the functions below the calls are given).
+// gives), History (every number once), Foyer (lists with ends and displays), Frame (what the functions below the calls are given), Rows (cases).
 use end::Answer;
+use message::ANNC;
 use message::Counts;
 use message::CueNumber;
 use message::DATA;
@@ -35,9 +36,6 @@ ghost use Rattle.display.specs.Request.{lowestClear, lowestMissing, requ
 ghost use Rattle.display.specs.Call.{Hear, Step, gives, leaves};
 ghost use Rattle.display.specs.Frame.{shownOf, firstOf, Ready, isStarted, places, aboveTrail, saying, laterOf, clearOf, missingOf};
 
-// The kind of an announcement. (It has no row in the table of kinds yet, so the reader refuses it as 9.)
-const ANNC: u8 = 24;
-
 // Trail and lead, and which of the numbers from trail on were received: bit i stands for trail + i. Before its sender's first DATA a display
 // has none of them.
 pub enum Window {
@@ -66,7 +64,7 @@ pub struct Lost {
     pub above: Above,
 }
 
-// What a call gives: its answer (of the five of document 01), the numbers that became lost, and the display that it leaves.
+// What a call gives: its answer (Refused, Out, Got, Done, Ignored or Nothing), the numbers that became lost, and the display that it leaves.
 pub struct Shown {
     pub answer: Answer,
     pub lost: Lost,
@@ -504,10 +502,10 @@ fn heard(
     let window = d.window;
     let sender = d.sender;
     let source = name.source;
-    let own = same_host(from, sender);
-    let original = (kind == DATA) & own;
+    let by_sender = same_host(from, sender);
+    let original = (kind == DATA) & by_sender;
     let repair = (kind == REPL) & same_host(source, sender);
-    let tells = (kind == ANNC) & own;
+    let tells = (kind == ANNC) & by_sender;
     if is_started(window) {
         heard_later(d, original | repair, tells, name, lead, cue, out)
     } else if original {

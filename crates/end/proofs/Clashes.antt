@@ -8,7 +8,7 @@ use lib.Seq.{set-getD}
 use lib.Dec.{eqb}
 use borrow.Author.Tests.{eqb-true, eq-eqb}
 use Rattle.message.specs.declared.Name.{Name}
-use Rattle.message.specs.Message.{DATA, RQST, REPL, XPRS, FTCH, LATE, Meaning, meaningFrom}
+use Rattle.message.specs.Message.{DATA, RQST, REPL, XPRS, FTCH, LATE, ANNC, Meaning, meaningFrom}
 use Rattle.message.specs.Question.{sameHost, messageQuestions, readQuestions}
 use Rattle.end.specs.declared.Move.{Move}
 use Rattle.end.specs.declared.Slot.{Slot}
@@ -18,6 +18,9 @@ use Rattle.end.specs.declared.Says.{Says}
 use Rattle.end.specs.declared.Says.the-variants.{Data, Rqst, Repl, Xprs}
 use Rattle.end.specs.declared.Decision.{Decision}
 use Rattle.end.specs.declared.Decision.the-variants.{Ignores, Opens, Takes, Repairs, Hushes, Replies, Learns, BacksOff, Clashes, Expresses}
+use Rattle.end.specs.declared.Span.{Span}
+use Rattle.end.specs.declared.Span.the-variants.{Closed, Open}
+use Rattle.end.specs.declared.Moment.{Moment}
 use Rattle.end.specs.declared.Earliest.{Earliest}
 use Rattle.end.specs.declared.Earliest.the-variants.{NoWait, First}
 use Rattle.end.specs.declared.Nearest.{Nearest}
@@ -30,7 +33,7 @@ use Rattle.end.specs.Session.{sessionOf}
 use Rattle.end.specs.Arrival.{messageName, wordOf, wordStep, messageStep, arrivalOf}
 use Rattle.end.specs.Fire.{expressRank, fireAt, fired, earliest}
 use Rattle.end.specs.Fetch.{mayFetch, nearest, tryOf, fetchOf, mayAnswer, fetchedOf, mayHand, lateOf}
-use Rattle.end.specs.Event.{Other, Fire, Report, Fetch, Action, Moves, Send, Arrival, Else, moves, moveOf, otherOf, ifMember, actOf, stepOf}
+use Rattle.end.specs.Event.{Other, Fire, Report, Announce, Fetch, announced, Action, Moves, Send, Arrival, Else, moves, moveOf, otherOf, ifMember, actOf, stepOf}
 use Rattle.end.specs.Clashes.{SameCueIsSameBytes, namedRecord, Clashing}
 use Rattle.end.proofs.Tools.{byCond, clash, clash′, and-left, and-right}
 use Rattle.end.proofs.Grounds.{isRequest, Grounds, grounds}
@@ -90,10 +93,15 @@ unfolding tryOf
 try-calm name e Nobody = refl
 try-calm name e (Found h d) = refl
 
+announced-calm : (t : Moment) (x : Span) (e : End) → isClash (announced t x e .effect) ≡ false
+announced-calm t Closed e = refl
+announced-calm t (Open first last) e = refl
+
 other-calm : (us : List ℕ) (o : Other) (e : End) → isClash (otherOf us o e .effect) ≡ false
 unfolding fetchOf
 other-calm us Fire e = fired-calm us e (earliest e 8)
 other-calm us Report e = refl
+other-calm us Announce e = announced-calm (momentOf e) (sourceAt e (e .host) .span) e
 other-calm us (Fetch name) e =
     byCond (λ (r : Step). isClash (r .effect) ≡ false) (mayFetch e name) (λ _. try-calm name e (nearest e name 8)) (λ _. refl)
 
@@ -135,7 +143,8 @@ message-clashed us m e member another =
     (λ _. byCond (Clashed e m) (eqb (m .kind) XPRS) (λ k. word-clashed us Xprs m e member another (λ q. clash q))
     (λ _. byCond (Clashed e m) (eqb (m .kind) FTCH) (λ _. byCond (Clashed e m) (mayAnswer e m) (λ _. never e m _ refl) (λ _. never e m _ refl))
     (λ _. byCond (Clashed e m) (eqb (m .kind) LATE) (λ _. byCond (Clashed e m) (mayHand e m) (λ _. never e m _ refl) (λ _. never e m _ refl))
-    (λ _. never e m _ refl))))))
+    (λ _. byCond (Clashed e m) (eqb (m .kind) ANNC) (λ _. never e m _ refl)
+    (λ _. never e m _ refl)))))))
 
 arrival-clashed : (us : List ℕ) (m : Meaning) (e : End) → Clashed e m (ifMember e (arrivalOf us m e))
 unfolding arrivalOf

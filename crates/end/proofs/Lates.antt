@@ -5,7 +5,7 @@ use mathlib.Core.List.{List, [], _∷_}
 use Prim.Native.Nat.{ℕ}
 use lib.Dec.{eqb}
 use Rattle.message.specs.declared.Name.{Name}
-use Rattle.message.specs.Message.{DATA, RQST, REPL, XPRS, FTCH, LATE, Meaning, meaningFrom}
+use Rattle.message.specs.Message.{DATA, RQST, REPL, XPRS, FTCH, LATE, ANNC, Meaning, meaningFrom}
 use Rattle.message.specs.Question.{sameHost, messageQuestions, readQuestions}
 use Rattle.end.specs.declared.Move.{Move}
 use Rattle.end.specs.declared.Slot.{Slot}
@@ -18,6 +18,8 @@ use Rattle.end.specs.declared.Word.{Word}
 use Rattle.end.specs.declared.Record.{Record}
 use Rattle.end.specs.declared.Decision.{Decision}
 use Rattle.end.specs.declared.Decision.the-variants.{Ignores, Opens, Takes, Repairs, Hushes, Replies, Learns, BacksOff, Clashes, Expresses}
+use Rattle.end.specs.declared.Span.{Span}
+use Rattle.end.specs.declared.Span.the-variants.{Closed, Open}
 use Rattle.end.specs.declared.Earliest.{Earliest}
 use Rattle.end.specs.declared.Earliest.the-variants.{NoWait, First}
 use Rattle.end.specs.declared.Nearest.{Nearest}
@@ -30,7 +32,7 @@ use Rattle.end.specs.Session.{sessionOf}
 use Rattle.end.specs.Fetch.{mayFetch, nearest, tryOf, fetchOf, mayAnswer, fetchedOf, mayHand, handsLate, lateOf}
 use Rattle.end.specs.Arrival.{messageName, messageCue, wordOf, wordStep, messageStep, arrivalOf}
 use Rattle.end.specs.Fire.{expressRank, fireAt, fired, earliest}
-use Rattle.end.specs.Event.{Other, Fire, Report, Fetch, Action, Moves, Send, Arrival, Else, moves, moveOf, otherOf, ifMember, actOf, stepOf}
+use Rattle.end.specs.Event.{Other, Fire, Report, Announce, Fetch, announced, Action, Moves, Send, Arrival, Else, moves, moveOf, otherOf, ifMember, actOf, stepOf}
 use Rattle.end.proofs.Tools.{byCond, clash}
 
 -- ---- the steps that hand no fetched cue out
@@ -69,10 +71,15 @@ unfolding tryOf
 try-plain name e Nobody = refl
 try-plain name e (Found h d) = refl
 
+announced-plain : (t : Moment) (x : Span) (e : End) → Plain (announced t x e)
+announced-plain t Closed e = refl
+announced-plain t (Open first last) e = refl
+
 other-plain : (us : List ℕ) (o : Other) (e : End) → Plain (otherOf us o e)
 unfolding fetchOf
 other-plain us Fire e = fired-plain us e (earliest e 8)
 other-plain us Report e = refl
+other-plain us Announce e = announced-plain (momentOf e) (sourceAt e (e .host) .span) e
 other-plain us (Fetch name) e = byCond Plain (mayFetch e name) (λ _. try-plain name e (nearest e name 8)) (λ _. refl)
 
 decided-plain : (t : Moment) (w : Word) (r : Record) (d : Decision) → isLate (effectOf t w r d) ≡ false
@@ -125,7 +132,8 @@ module _ (us : List ℕ) (m : Meaning) (e : End) (name : Name) (cue : List ℕ) 
       (λ k. byCond Comes (mayHand e m)
       (λ t p. record { member = member; another = another; kind = k; hands = t; named = cc; carried = cc; leaves = refl })
       (λ _. plain _ refl))
-      (λ _. plain _ refl))))))
+      (λ _. byCond Comes (eqb (m .kind) ANNC) (λ _. plain _ refl)
+      (λ _. plain _ refl)))))))
 
   pub arrival-late : Comes (ifMember e (arrivalOf us m e))
   unfolding arrivalOf

@@ -11,7 +11,7 @@ use borrow.Author.Tests.{eqb-true, eq-eqb, ltb-true, leb-true}
 use Rattle.message.specs.Section.{all}
 use Rattle.message.specs.Cue.{cueIn}
 use Rattle.message.specs.Entry.{blankName}
-use Rattle.message.specs.Message.{DATA, RQST, REPL, SESS, XPRS, FTCH, LATE, isOld, kindOf, numberWidth, mostNumber, Meaning, meaningFrom, bytesOf, countsOf}
+use Rattle.message.specs.Message.{DATA, RQST, REPL, SESS, XPRS, FTCH, LATE, ANNC, isOld, kindOf, numberWidth, mostNumber, Meaning, meaningFrom, bytesOf, countsOf}
 use Rattle.message.specs.Question.{ask, firstNo, messageQuestions, meaningQuestions, kindHasCounts, inRange, hostsFit, hostIn, numberIn, ticksIn, nameIn, reportIn, hostFits, sameHost, readRefusal}
 use Rattle.message.specs.declared.NameEntry.{NameEntry}
 use Rattle.message.specs.declared.Counts.{Counts}
@@ -127,5 +127,5 @@ module _ (x : List ℕ) (m : Meaning) (p : readAs x ≡ some m) where
 
   -- a message that is about no name is a SESS
   pub session-kind : eqb (m .kind) DATA ≡ false → eqb (m .kind) RQST ≡ false → eqb (m .kind) REPL ≡ false → eqb (m .kind) XPRS ≡ false
-      → eqb (m .kind) FTCH ≡ false → eqb (m .kind) LATE ≡ false → eqb (m .kind) SESS ≡ true
-  session-kind a b c d f l = byTest (eqb (m .kind) SESS) (λ s. s) (λ s. clash′ (sym (rw (a, b, c, d, f, l, s)) ∙ counted))
+      → eqb (m .kind) FTCH ≡ false → eqb (m .kind) LATE ≡ false → eqb (m .kind) ANNC ≡ false → eqb (m .kind) SESS ≡ true
+  session-kind a b c d f l n = byTest (eqb (m .kind) SESS) (λ s. s) (λ s. clash′ (sym (rw (a, b, c, d, f, l, n, s)) ∙ counted))

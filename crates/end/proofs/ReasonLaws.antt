@@ -9,14 +9,14 @@ use lib.ListN.{length, getD}
 use lib.Dec.{eqb, leb}
 use borrow.Author.Tests.{le-leb, eq-eqb, eqb-true}
 use Rattle.message.specs.Limit.{roomNeeded}
-use Rattle.message.specs.Message.{Meaning, DATA, RQST, REPL, XPRS, FTCH, LATE, Datagram, Probe, Saying, datagramFrom}
+use Rattle.message.specs.Message.{Meaning, DATA, RQST, REPL, XPRS, FTCH, LATE, ANNC, Datagram, Probe, Saying, datagramFrom}
 use Rattle.message.specs.Question.{sameHost}
 use Rattle.end.specs.declared.Slot.{Slot}
 use Rattle.end.specs.declared.Slot.the-variants.{Empty, Held, Waiting}
 use Rattle.end.specs.declared.Reply.the-variants.{No, Due}
 use Rattle.end.specs.declared.Record.{Record}
 use Rattle.end.specs.declared.Span.{Span}
-use Rattle.end.specs.declared.Span.the-variants.{Closed}
+use Rattle.end.specs.declared.Span.the-variants.{Closed, Open}
 use Rattle.end.specs.declared.Says.{Says}
 use Rattle.end.specs.declared.Says.the-variants.{Data, Rqst, Repl, Xprs}
 use Rattle.end.specs.declared.Moment.{Moment}
@@ -46,7 +46,7 @@ use Rattle.end.specs.Session.{sessionOf}
 use Rattle.end.specs.Arrival.{wordOf, namedIn, messageStep, arrivalOf}
 use Rattle.end.specs.Fire.{expressRank, fireAt, fired, earliest}
 use Rattle.end.specs.Fetch.{mayFetch, nearest, tryOf, fetchOf, mayAnswer, fetchedOf, mayHand, lateOf}
-use Rattle.end.specs.Event.{Other, Fire, Report, Fetch, Action, Moves, Send, Arrival, Else, moves, moveOf, otherOf, hearingOf, actOf, stepOf, questionOf, eventOf}
+use Rattle.end.specs.Event.{Other, Fire, Report, Announce, Fetch, announced, Action, Moves, Send, Arrival, Else, moves, moveOf, otherOf, hearingOf, actOf, stepOf, questionOf, eventOf}
 use Rattle.end.specs.Why.{wrongStatus, isOwn, ownMessage, namedOf, namedBy, holdsOf, noFetchIn, noFetchOf, noFetchFor, noFetch, reasonHolds, refusedAs, because, whyOf, reasonNumber, isIgnored, ReasonIsFirst, NoneHolds, NumberExactly, ReasonExactly, NoneExactly}
 use Rattle.end.proofs.Tools.{byCond, byTest, clash, clash′}
 use Rattle.end.proofs.RecordLaws.{at-outside}
@@ -176,11 +176,11 @@ orElse (some reason) other = some reason
 abbrev pub ifNoFetch : Bool → Option Reason
 ifNoFetch b = cond b (some NoFetch) none
 
-or-none : (o : Option Reason) → orElse o none ≡ o
+pub or-none : (o : Option Reason) → orElse o none ≡ o
 or-none none = refl
 or-none (some reason) = refl
 
-first-of-both : (f : Reason → Bool) (l k : List Reason) → firstThat f (l ++ k) ≡ orElse (firstThat f l) (firstThat f k)
+pub first-of-both : (f : Reason → Bool) (l k : List Reason) → firstThat f (l ++ k) ≡ orElse (firstThat f l) (firstThat f k)
 first-of-both f [] k = refl
 first-of-both f (x ∷ l) k = byTest (f x) (λ t. rw t) (λ t. rw t (first-of-both f l k))
 
@@ -218,7 +218,8 @@ module _ (us : List ℕ) (m : Meaning) (e : End) where
       (λ f. byTest (mayAnswer e m) (λ t. rw (d, r, p, x, f, t) (_, refl, refl)) (λ t. rw (d, r, p, x, f, t)))
       (λ f. byTest (eqb (m .kind) LATE)
       (λ l. byTest (mayHand e m) (λ t. rw (d, r, p, x, f, l, t) (_, refl, refl)) (λ t. rw (d, r, p, x, f, l, t)))
-      (λ l. rw (d, r, p, x, f, l) (_, refl, refl)))))))
+      (λ l. byTest (eqb (m .kind) ANNC) (λ a. rw (d, r, p, x, f, l, a) (_, refl, refl))
+      (λ a. rw (d, r, p, x, f, l, a) (_, refl, refl))))))))
 
   arrival-told : Foretells (because (cond (sameHost (m .sender) (e .host)) (some OwnMessage) (orElse (later e (namedIn m e)) (ifNoFetch (noFetchIn m e)))))
       (Did (arrivalOf us m e .effect))
@@ -250,10 +251,16 @@ unfolding tryOf
 try-at name e Nobody = refl
 try-at name e (Found h d) = refl
 
+-- nor is an Announce
+announced-at : (t : Moment) (x : Span) (e : End) → isIgnored (announced t x e .effect) ≡ false
+announced-at t Closed e = refl
+announced-at t (Open first last) e = refl
+
 other-told : (us : List ℕ) (o : Other) (e : End) → Foretells (because (ifNoFetch (noFetchFor o e))) (Did (otherOf us o e .effect))
 unfolding fetchOf
 other-told us Fire e = (_, refl, fire-at us e (earliest e 8))
 other-told us Report e = (_, refl, refl)
+other-told us Announce e = (_, refl, announced-at (momentOf e) (sourceAt e (e .host) .span) e)
 other-told us (Fetch name) e = byTest (mayFetch e name) (λ t. rw t (_, refl, try-at name e (nearest e name 8))) (λ t. rw t)
 
 -- an event on an end that is not crashed and whose clock is set

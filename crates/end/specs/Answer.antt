@@ -6,7 +6,7 @@
 use Prim.Native.Nat.{ℕ}
 use mathlib.Core.Bool.{Bool, true, false}
 use mathlib.Core.List.{List, [], _∷_, _++_}
-use lib.ListN.{length, drop}
+use lib.ListN.{length, take, drop}
 use Rattle.message.specs.declared.Name.{Name}
 use Rattle.end.specs.declared.Answer.{Answer}
 use Rattle.end.specs.declared.Answer.the-variants as answer
@@ -96,6 +96,19 @@ answerOf (Did Nothing) = answer.Nothing
 answerOf (Did (Clash name)) = answer.Clash name
 answerOf (Did (Late name cue)) = answer.Late name
 answerOf (Did Exhausted) = answer.Exhausted
+
+-- what an onlooker reads off an answer and an output: "Out (length, the message in the first output bytes), Got (name, and its cue in the
+-- first 24), Done, Ignored, Nothing"; document 02, P4: "Clash, with the name"; P9: "Late, written as Got is", and "exhausted"
+unfoldable pub readOff : Answer → List ℕ → Outcome
+readOff (answer.Refused k) output = Refused k
+readOff (answer.Out n) output = Did (Out (take n output))
+readOff (answer.Got name) output = Did (Got name (take 24 output))
+readOff answer.Done output = Did Done
+readOff answer.Ignored output = Did Ignored
+readOff answer.Nothing output = Did Nothing
+readOff (answer.Clash name) output = Did (Clash name)
+readOff (answer.Late name) output = Did (Late name (take 24 output))
+readOff answer.Exhausted output = Did Exhausted
 
 -- what a call gives, refused or not: its answer, and the end that it leaves
 abbrev pub calledOf : Result → Stepped

@@ -1,18 +1,18 @@
--- What a member does with a message, by its kind. Document 01, "Events": DATA, RQST, REPL, SESS; document 02, P8 and P9: the kinds 21 to 23.
+-- What a member does with a message, by its kind. Document 01, "Events": DATA, RQST, REPL, SESS; document 02, P8, P9 and P11: the kinds 21 to 24.
 use Prim.Native.Nat.{ℕ}
 use mathlib.Core.Bool.{cond}
 use mathlib.Core.List.{List}
 use mathlib.Core.Option.{Option, none, some}
 use lib.Dec.{eqb}
 use Rattle.message.specs.declared.Host.{Host}
-use Rattle.message.specs.Message.{DATA, RQST, REPL, XPRS, FTCH, LATE, Meaning}
+use Rattle.message.specs.Message.{DATA, RQST, REPL, XPRS, FTCH, LATE, ANNC, Meaning}
 use Rattle.message.specs.Question.{sameHost}
 use Rattle.end.specs.declared.Says.{Says}
 use Rattle.end.specs.declared.Says.the-variants.{Data, Rqst, Repl, Xprs}
 use Rattle.end.specs.declared.Word.{Word}
 use Rattle.end.specs.declared.End.{End}
 use Rattle.end.specs.State.{distanceTo, momentOf}
-use Rattle.end.specs.Answer.{Ignored, Step, give}
+use Rattle.end.specs.Answer.{Done, Ignored, Step, give}
 use Rattle.end.specs.Decide.{stepAt}
 pub use Rattle.end.specs.Messages.{messageName, messageHost, messageCue}
 use Rattle.end.specs.Session.{sessionOf}
@@ -38,7 +38,8 @@ wordOf says m e = record {
   cue = messageCue m;
 }
 
--- the word of a message about a name, by its kind; a SESS is about none, and the kinds 22 and 23 go by rules of their own (Fetch.antt)
+-- the word of a message about a name, by its kind; a SESS is about none, the kinds 22 and 23 go by rules of their own (Fetch.antt), and
+-- kind 24 tells a member nothing
 abbrev pub namedIn : Meaning → End → Option Word
 namedIn m e =
     cond (eqb (m .kind) DATA) (some (wordOf Data m e))
@@ -51,6 +52,7 @@ namedIn m e =
 abbrev pub wordStep : List ℕ → Says → Meaning → End → Step
 wordStep us says m e = stepAt (momentOf e) us (wordOf says m e) e
 
+-- document 02, P11: "Members answer kind 24 Done"
 unfoldable pub messageStep : List ℕ → Meaning → End → Step
 messageStep us m e =
     cond (eqb (m .kind) DATA) (wordStep us Data m e)
@@ -59,7 +61,8 @@ messageStep us m e =
     (cond (eqb (m .kind) XPRS) (wordStep us Xprs m e)
     (cond (eqb (m .kind) FTCH) (fetchedOf m e)
     (cond (eqb (m .kind) LATE) (lateOf m e)
-    (sessionOf (momentOf e) us m e))))))
+    (cond (eqb (m .kind) ANNC) (give Done e)
+    (sessionOf (momentOf e) us m e)))))))
 
 -- "an arrival whose sender is oneself: Ignored"
 unfoldable pub arrivalOf : List ℕ → Meaning → End → Step

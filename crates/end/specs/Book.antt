@@ -59,7 +59,7 @@ abbrev pub number : Meaning → ℕ
 number m = messageName m .number .0
 
 -- ---- the numbers that a message brings of a source: the number in the name of a DATA, RQST or REPL, and of "what later counts as RQST", an
--- XPRS; the reported last ones of a SESS. The kinds 22 and 23 (P9) bring none
+-- XPRS; the reported last ones of a SESS. The kinds 22 and 23 (P9) and 24 (P11) bring none
 
 -- after a number: "the highest number L", once there is one
 unfoldable pub raisedTo : ℕ → Option ℕ → Option ℕ

@@ -34,6 +34,7 @@ pub record Clashing (e : End) (m : Meaning) : Type 0 where
   pub held : isHeld (namedRecord e m .slot) ≡ true
   pub differs : sameCue (messageCue m) (namedRecord e m .cue) ≡ false
 
--- "In runs where the network invents nothing, Clash is shown never to come up": no call of a list that demand 3 speaks of answers it.
+-- "In runs where the network invents nothing, Clash is shown never to come up": no call of a list that demand 3 speaks of answers it, though any
+-- RQST may arrive there (Run.antt).
 abbrev pub NeverClashes : Type 0
 NeverClashes = (w : World) → Fresh w → (cs : List Call) → Allowed w cs → (x : Entry) → List·Memᴰ x (seen w cs) → (name : Name) → x .outcome ≡ Did (Clash name) → ⊥

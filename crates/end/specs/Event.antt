@@ -1,4 +1,4 @@
--- The ten events, their questions, and what a call gives. Document 01, "The questions, in this order" and "Events".
+-- The eleven events, their questions, and what a call gives. Document 01, "The questions, in this order" and "Events".
 use Prim.Native.Nat.{ℕ, _+_}
 use mathlib.Core.Bool.{Bool, true, false, cond, not, _||_}
 use mathlib.Core.List.{List, [], _∷_, _++_}
@@ -22,12 +22,12 @@ use Rattle.end.specs.declared.Event.the-variants as event
 use Rattle.end.specs.declared.Stepped.{Stepped}
 use Rattle.end.specs.declared.End.{End}
 use Rattle.end.specs.declared.Moment.{Moment}
-use Rattle.end.specs.State.{unheardSources, isMember, isCrashed, momentOf, withClock, withStatus, withNext, withSources, onSource}
+use Rattle.end.specs.State.{unheardSources, sourceAt, isMember, isCrashed, momentOf, withClock, withStatus, withNext, withSources, onSource}
 use Rattle.end.specs.Sound.{soundOf}
 use Rattle.end.specs.Round.{drawCount}
 use Rattle.end.specs.Names.{hold, rise, openAt}
-use Rattle.end.specs.Answer.{Out, Done, Ignored, Step, give, Refused, Result, done, calledOf, bufferOf}
-use Rattle.end.specs.Messages.{dataMessage, sessionMessage}
+use Rattle.end.specs.Answer.{Out, Done, Ignored, Nothing, Step, give, Refused, Result, done, calledOf, bufferOf}
+use Rattle.end.specs.Messages.{dataMessage, announceMessage, sessionMessage}
 use Rattle.end.specs.Arrival.{arrivalOf}
 use Rattle.end.specs.Fire.{fireOf}
 use Rattle.end.specs.Fetch.{fetchOf}
@@ -36,7 +36,7 @@ use Rattle.end.specs.Fetch.{fetchOf}
 
 -- the events of which the book only says that they hand nothing out; events added later join them
 pub data Other : Type 0 where
-  Fire Report : Other
+  Fire Report Announce : Other
   Fetch : Name → Other
 
 -- an event with its arguments: the cue of a Send is the 24 bytes of its declared type, and a message is any bytes
@@ -54,6 +54,7 @@ actionOf event.Arrival cue bytes = Arrival bytes
 actionOf event.Fire cue bytes = Else Fire
 actionOf event.Report cue bytes = Else Report
 actionOf (event.Fetch name) cue bytes = Else (Fetch name)
+actionOf event.Announce cue bytes = Else Announce
 
 -- ---- the moves: "Join: idle to joining. Joined: joining to member. Leave: joining or member to leaving. Left: leaving to idle.
 -- Crash: to crashed. These give Done, from any other status Ignored."
@@ -129,10 +130,20 @@ sentEnd us cue e = withNext (onSource e (e .host) (sentSource (momentOf e) us (e
 abbrev pub sendOf : List ℕ → List ℕ → End → Step
 sendOf us cue e = give (Out (bytesOf (dataMessage (momentOf e) (ownName e) cue))) (sentEnd us cue e)
 
+-- ---- Announce. Document 02, P11: "has a member put out its own first and last as trail and lead in kind 24 ..; without a first it gives
+-- Nothing, outside membership Ignored"
+abbrev pub announced : Moment → Span → End → Step
+announced t Closed e = give Nothing e
+announced t (Open first last) e = give (Out (bytesOf (announceMessage t first last))) e
+
+abbrev pub announceOf : End → Step
+announceOf e = announced (momentOf e) (sourceAt e (e .host) .span) e
+
 -- ---- Fire; Report: "Out SESS with all firsts' sources and all heard stamps."; Fetch: document 02, P9
 abbrev pub otherOf : List ℕ → Other → End → Step
 otherOf us Fire e = fireOf us e
 otherOf us Report e = give (Out (bytesOf (sessionMessage e))) e
+otherOf us Announce e = announceOf e
 otherOf us (Fetch name) e = fetchOf name e
 
 -- ---- Arrival. Document 02, P5: "A message of no bytes is now taken by a member as a Report event at that clock, and by any other status as
@@ -141,7 +152,8 @@ abbrev pub hearingOf : List ℕ → Datagram Meaning → End → Step
 hearingOf us Probe e = otherOf us Report e
 hearingOf us (Saying m) e = arrivalOf us m e
 
--- ---- "Send, Fire, Report, Arrival outside membership ..: Ignored."; P9: "A member may fetch"
+-- ---- "Send, Fire, Report, Arrival outside membership ..: Ignored."; P9: "A member may fetch"; P11: "outside membership
+-- Ignored"
 abbrev pub ifMember : End → Step → Step
 ifMember e step = cond (isMember (e .status)) step (give Ignored e)
 

@@ -1,14 +1,16 @@
 -- What a message about a name says, and the messages that an end puts out. Document 01, "Messages" (the table) and "Events": "Out DATA", "goes
--- out as RQST", "goes out as REPL", "Out SESS with all firsts' sources and all heard stamps"; document 02, P8 and P9: the kinds 21 to 23.
+-- out as RQST", "goes out as REPL", "Out SESS with all firsts' sources and all heard stamps"; document 02, P8, P9 and P11: the kinds 21 to 24.
 use Prim.Native.Nat.{ℕ, zero, suc, _-_}
 use mathlib.Core.List.{List, [], _∷_, _++_}
 use lib.ListN.{getD}
 use Rattle.message.specs.declared.Host.{Host}
+use Rattle.message.specs.declared.CueNumber.{CueNumber}
 use Rattle.message.specs.declared.Name.{Name}
+use Rattle.message.specs.declared.NameEntry.{NameEntry}
 use Rattle.message.specs.declared.Report.{Report}
 use Rattle.message.specs.declared.Echo.{Echo}
 use Rattle.message.specs.Entry.{asHost, blankName, blankCue}
-use Rattle.message.specs.Message.{DATA, RQST, REPL, SESS, XPRS, FTCH, LATE, Meaning}
+use Rattle.message.specs.Message.{DATA, RQST, REPL, SESS, XPRS, FTCH, LATE, ANNC, Meaning}
 use Rattle.end.specs.declared.Span.{Span}
 use Rattle.end.specs.declared.Span.the-variants.{Closed, Open}
 use Rattle.end.specs.declared.Heard.{Heard}
@@ -61,6 +63,21 @@ fetchMessage t name tried = aboutName FTCH t name tried []
 
 abbrev pub fetchedMessage : Moment → Name → Host → List ℕ → Meaning
 fetchedMessage t name requester cue = aboutName LATE t name requester (cue ∷ [])
+
+-- document 02, P11: "its own first and last as trail and lead in kind 24, two names laid out as kind 18's with the sender as source and host"
+abbrev pub ownEntry : Moment → CueNumber → NameEntry
+ownEntry t n = record { name = record { source = t .me; number = n }; host = t .me }
+
+abbrev pub announceMessage : Moment → CueNumber → CueNumber → Meaning
+announceMessage t first last = record {
+  kind = ANNC;
+  sender = t .me;
+  stamp = t .clock;
+  names = ownEntry t first ∷ ownEntry t last ∷ [];
+  cues = [];
+  reports = [];
+  echoes = [];
+}
 
 -- the report of a source that has a first, and the echo of a host that was heard: its stamp, and the ticks since
 abbrev pub reportOn : Host → Span → List Report

@@ -1,16 +1,19 @@
 -- The lists of calls that demand 3 speaks of, and demand 3. Document 01, "The service's book", first paragraph.
 use mathlib.Core.Path.{_≡_}
 use mathlib.Core.List.{List, [], _∷_, List·Memᴰ}
+use mathlib.Core.Option.{some}
+use mathlib.Core.Logic.{_⊎_}
 use Prim.Native.Nat.{ℕ, _<_}
 use lib.ListN.{length}
 use Rattle.message.specs.Entry.{asHost}
+use Rattle.message.specs.Message.{RQST, Meaning}
 use Rattle.message.specs.declared.Verdict.the-variants.{Accepted}
 use Rattle.end.specs.declared.Params.{Params}
 use Rattle.end.specs.declared.End.{End}
 use Rattle.end.specs.Answer.{Class, PutsOut, HandsOut, HandsLate, Untouched, classIn, Outcome, Refused, Did, Result}
 use Rattle.end.specs.Event.{Action, Moves, Send, Arrival, Else, eventOf}
 use Rattle.end.specs.Opening.{openingOf}
-use Rattle.end.specs.Book.{put, Entry, RunFrom, emptyBook}
+use Rattle.end.specs.Book.{put, Entry, RunFrom, emptyBook, readAs}
 
 -- A call: the host whose end it is made on, the event with its arguments, the clock, the output that is lent and the draws; any of
 -- them may be such that the call is refused.
@@ -49,11 +52,16 @@ seen w (c ∷ cs) =
     record { host = c .host; action = c .action; outcome = resultOf w c .outcome; status = resultOf w c .left .status }
     ∷ seen (worldAfter w (c .host) (resultOf w c)) cs
 
+-- document 02, P11, of a display: "In the service's runs its RQSTs may arrive." Here any accepted RQST may, whoever asks by it and for
+-- whatever, which is more than is asked: a display's are among them (`display`: Foyer.antt)
+abbrev pub AnyRequest : List ℕ → Type 0
+AnyRequest bytes = (m : Meaning) × (readAs bytes ≡ some m) × (m .kind ≡ RQST)
+
 -- "An unrefused Arrival brings the bytes that an earlier Out of the list, any end's, put out." An empty datagram, by document 02, P5, "may
 -- come from anywhere"
 abbrev pub FromOut : List (List ℕ) → List ℕ → Type 0
 FromOut l [] = Unit {0}
-FromOut l (b ∷ s) = List·Memᴰ (b ∷ s) l
+FromOut l (b ∷ s) = List·Memᴰ (b ∷ s) l ⊎ AnyRequest (b ∷ s)
 
 abbrev pub Brought : List (List ℕ) → Action → Outcome → Type 0
 Brought l (Moves m) o = Unit {0}

@@ -26,11 +26,11 @@ use Rattle.end.specs.Decide.{known}
 use Rattle.end.specs.Reasons.{holds, reasons, firstThat}
 use Rattle.end.specs.Fetch.{mayFetch, mayAnswer, mayHand}
 use Rattle.end.specs.Arrival.{namedIn}
-use Rattle.end.specs.Event.{Other, Fire, Report, Fetch, Action, Moves, Send, Arrival, Else, moves, stateQuestions, ownQuestions, eventOf}
+use Rattle.end.specs.Event.{Other, Fire, Report, Announce, Fetch, Action, Moves, Send, Arrival, Else, moves, stateQuestions, ownQuestions, eventOf}
 
 -- ---- the reasons
 
--- "wrong status": a move "from any other status"; "Send, Fire, Report, Arrival outside membership", and a Fetch (P9)
+-- "wrong status": a move "from any other status"; "Send, Fire, Report, Arrival outside membership", a Fetch (P9) and an Announce (P11)
 abbrev pub wrongStatus : Action → Status → Bool
 wrongStatus (Moves m) status = not (moves m status)
 wrongStatus (Send cue) status = not (isMember status)
@@ -71,6 +71,7 @@ noFetchOf (Saying m) e = noFetchIn m e
 abbrev pub noFetchFor : Other → End → Bool
 noFetchFor Fire e = false
 noFetchFor Report e = false
+noFetchFor Announce e = false
 noFetchFor (Fetch name) e = not (mayFetch e name)
 
 abbrev pub noFetch : Action → End → Bool

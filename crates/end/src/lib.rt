@@ -150,6 +150,7 @@ pub enum Event {
     Fire,
     Report,
     Fetch(Name),
+    Announce,
 }
 
 // What a step on one source takes of the end: one's own host, the parameters, and the clock, which is the call's by then.

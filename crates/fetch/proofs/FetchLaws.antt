@@ -45,14 +45,14 @@ nearer-hosted : (best : Nearest) (h : Host) (d : ℕ) → h .0 < 8 → Hosted be
 nearer-hosted Nobody h d l b = l
 nearer-hosted (Found k least) h d l b = byCond Hosted (ltb d least) (λ t. l) (λ t. b)
 
-pub nearest-hosted : (e : End) (source : Host) (tried k : ℕ) → k ≤ 8 → Hosted (nearestOf e source tried k)
+pub nearest-hosted : (me : Host) (sources : List Source) (source : Host) (tried k : ℕ) → k ≤ 8 → Hosted (nearestOf me sources source tried k)
 unfolding nearestOf foldUp
-nearest-hosted e source tried zero l = tt
-nearest-hosted e source tried (suc k) l =
-    let s = sourceAt e (asHost k) in
-    let before = nearest-hosted e source tried k (omega arith) in
-    byCond Hosted ((not (eqb k (e .host .0)) && reportedBy (s .heard) source) && not (bit tried k))
-    (λ t. nearer-hosted (nearestOf e source tried k) (asHost k) (s .distance) (omega arith) before)
+nearest-hosted me sources source tried zero l = tt
+nearest-hosted me sources source tried (suc k) l =
+    let s = getD sources k noSource in
+    let before = nearest-hosted me sources source tried k (omega arith) in
+    byCond Hosted ((not (eqb k (me .0)) && reportedBy (s .heard) source) && not (bit tried k))
+    (λ t. nearer-hosted (nearestOf me sources source tried k) (asHost k) (s .distance) (omega arith) before)
     (λ t. before)
 
 -- ---- the event
@@ -67,7 +67,7 @@ module _ (e : End) (name : Name) where
 
   -- what the code has found by then
   abbrev Tried : Host → Nearest
-  Tried from = nearestOf e from (attemptAt (sourceAt e from) (name .number .0) .tried) 8
+  Tried from = nearestOf (e .host) (e .sources) from (attemptAt (sourceAt e from) (name .number .0) .tried) 8
 
   abbrev Taken : Host → Bool → Nearest → Step
   Taken from may best = give (fetchEffect (momentOf e) name may best) (onSource e from (triedSource (name .number .0) may best))
@@ -97,7 +97,7 @@ module _ (e : End) (name : Name) where
     pub source : from ≡ From
     pub allowed : may ≡ mayOn name (sourceAt e from)
     pub done-so : was ≡ attemptAt (sourceAt e from) (name .number .0)
-    pub chosen : best ≡ nearestOf e from (was .tried) 8
+    pub chosen : best ≡ nearestOf (t .me) (e .sources) from (was .tried) 8
 
   pub fetch-gives : {t : Moment} {from : Host} {may : Bool} {was : Attempt} {best : Nearest} → Looked t from may was best
       → (answer : Answer) (to : Source) (out last : List ℕ) → Answers (fetchEffect t name may best) answer out last
@@ -105,7 +105,7 @@ module _ (e : End) (name : Name) where
       → let r : Stepped = record { answer = answer; end = withSource e from to } in
       (r ≡ calledOf (done (fetchOf name e))) × (last ≡ bufferOf (Did (fetchOf name e .effect)) out)
   fetch-gives {t} {from} {may} {was} {best} k answer to out last w p =
-      let best-is : best ≡ Tried from = k .chosen ∙ ap (λ (x : Attempt). nearestOf e from (x .tried) 8) (k .done-so) in
+      let best-is : best ≡ Tried from = k .chosen ∙ (λ i. nearestOf (k .moment i .me) (e .sources) from (k .done-so i .tried) 8) in
       let same : give (fetchEffect t name may best) (onSource e from (triedSource (name .number .0) may best)) ≡ fetchOf name e =
       (λ i. give (fetchEffect (k .moment i) name (k .allowed i) (best-is i)) (onSource e from (triedSource (name .number .0) (k .allowed i) (best-is i))))
       ∙ ap (λ (h : Host). Taken h (mayOn name (sourceAt e h)) (Tried h)) (k .source)

@@ -3,6 +3,7 @@
 use Prim.Native.Nat.{ℕ, _<_}
 use mathlib.Core.Bool.{Bool, cond, not, _&&_}
 use mathlib.Core.List.{List}
+use lib.ListN.{getD}
 use lib.Dec.{eqb}
 use Rattle.numbers.specs.Bits.{bit}
 use Rattle.message.specs.declared.Host.{Host}
@@ -15,8 +16,7 @@ use Rattle.end.specs.declared.Nearest.{Nearest}
 use Rattle.end.specs.declared.Nearest.the-variants.{Nobody, Found}
 use Rattle.end.specs.declared.Moment.{Moment}
 use Rattle.end.specs.declared.Source.{Source}
-use Rattle.end.specs.declared.End.{End}
-use Rattle.end.specs.State.{sourceAt}
+use Rattle.end.specs.State.{noSource}
 use Rattle.end.specs.Records.{recordAt, fetchable, attemptAt}
 use Rattle.end.specs.Names.{holdsCue}
 use Rattle.end.specs.Messages.{fetchMessage, fetchedMessage}
@@ -36,8 +36,8 @@ offered me source tried h s best =
     cond ((not (eqb (h .0) (me .0)) && reportedBy (s .heard) source) && not (bit tried (h .0))) (nearer best h (s .distance)) best
 
 -- of the first k hosts, those that reported the source and are not among the tried
-unfoldable pub nearestOf : End → Host → ℕ → ℕ → Nearest
-nearestOf e source tried k = foldUp (λ h best. offered (e .host) source tried (asHost h) (sourceAt e (asHost h)) best) Nobody k
+unfoldable pub nearestOf : Host → List Source → Host → ℕ → ℕ → Nearest
+nearestOf me sources source tried k = foldUp (λ h best. offered me source tried (asHost h) (getD sources h noSource) best) Nobody k
 
 -- who is found is a host
 abbrev pub Hosted : Nearest → Type 0

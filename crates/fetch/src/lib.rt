@@ -103,22 +103,19 @@ fn offer(me: Host, source: Host, tried: Hosts, h: Host, s: Source, best: Nearest
     }
 }
 
-// The nearest host that reported a source and was not tried. By constant places: a variable one would copy the whole end first.
-fn nearest(e: End, source: Host, tried: Hosts) -> Nearest
+// The nearest host that reported a source and was not tried.
+fn nearest(me: Host, sources: [Source; 8], source: Host, tried: Hosts) -> Nearest
     requires { ⌜ source .0 < hostLimit ⌝ }
-    ensures { λ r. ⌜ r ≡ nearestOf e source tried hostLimit ⌝ }
+    ensures { λ r. ⌜ r ≡ nearestOf me sources source tried hostLimit ⌝ }
 {
-    let me = e.host;
-    let none = Nearest::Nobody;
-    let b0 = offer(me, source, tried, Host(0), e.sources[0], none);
-    let b1 = offer(me, source, tried, Host(1), e.sources[1], b0);
-    let b2 = offer(me, source, tried, Host(2), e.sources[2], b1);
-    let b3 = offer(me, source, tried, Host(3), e.sources[3], b2);
-    let b4 = offer(me, source, tried, Host(4), e.sources[4], b3);
-    let b5 = offer(me, source, tried, Host(5), e.sources[5], b4);
-    let b6 = offer(me, source, tried, Host(6), e.sources[6], b5);
-    let b7 = offer(me, source, tried, Host(7), e.sources[7], b6);
-    b7
+    let mut best = Nearest::Nobody;
+    let mut h: usize = 0;
+    while h < 8 {
+        let s = sources[h];
+        best = offer(me, source, tried, Host(h as u8), s, best);
+        h += 1;
+    }
+    best
 }
 
 // ---- the event
@@ -169,7 +166,8 @@ fn put_fetch(t: Moment, name: Name, may: bool, best: Nearest, out: &mut [u8]) ->
     }
 }
 
-// The nearest host that was not tried yet is asked for the cue.
+// The nearest host that was not tried yet is asked for the cue. The sources are read from an array of their own, the name's own one by its
+// place: without that the compiler takes the whole end apart, here and in every call above, and copies it part by part.
 pub fn fetch(e: End, name: Name, out: &mut [u8]) -> Stepped
     requires { ⌜ roomNeeded ≤ length (now out) ⌝ }
     ensures { λ r. ⌜ r ≡ calledOf (done (fetchOf name e)) ⌝ }
@@ -179,10 +177,11 @@ pub fn fetch(e: End, name: Name, out: &mut [u8]) -> Stepped
     let t = state::moment_of(e);
     let from = source_of(name.source);
     let at = from.0 as usize;
-    let s = end.sources[at];
+    let sources = e.sources;
+    let s = sources[at];
     let may = may_on(name, s);
     let was = state::attempt_at(s, name.number);
-    let best = nearest(e, from, was.tried);
+    let best = nearest(t.me, sources, from, was.tried);
     let answer = put_fetch(t, name, may, best, out);
     let s1 = tried_source(name.number, may, best, s);
     end.sources[at] = s1;

@@ -13,7 +13,7 @@ use Rattle.message.specs.declared.CueNumber.{CueNumber}
 use Rattle.message.specs.declared.Host.{Host}
 use Rattle.message.specs.declared.Report.{Report}
 use Rattle.message.specs.Entry.{asHost, asNumber}
-use Rattle.message.specs.Message.{DATA, RQST, REPL, XPRS, FTCH, LATE, Meaning, meaningFrom}
+use Rattle.message.specs.Message.{DATA, RQST, REPL, XPRS, FTCH, LATE, ANNC, Meaning, meaningFrom}
 use Rattle.message.specs.Question.{sameHost}
 use Rattle.message.proofs.QuestionLaws.{and-both}
 use Rattle.end.specs.declared.Express.the-variants.{Unset}
@@ -43,7 +43,7 @@ use Rattle.invariants.proofs.Facts.{SoundState, facts, span-in}
 use Rattle.invariants.proofs.Questions.{Passed}
 use Rattle.guarantees.specs.Calls.{momentAt}
 use Rattle.guarantees.specs.Records.{recordOf, StayOrRise, retires, retired}
-use Rattle.guarantees.specs.Arrivals.{SameEnd, asks, expressBy, risen, reportedUp, hasName, isFetched, touches, SpanAs, isDataOf, isSessionOf, hear, ProbeIsReport, ProbesAnswered, RefusedChangesNothing, ArrivalKeepsStatusAndNext, HeldStays, UntouchedStays, OtherSourcesStay, SlotsAsHeard, HeldIsCarried, RepliesAsHeard, ReplyQuietStays, SpansAsHeard, DistancesStay}
+use Rattle.guarantees.specs.Arrivals.{SameEnd, asks, expressBy, risen, reportedUp, hasName, isFetched, isAnnounced, touches, SpanAs, isDataOf, isSessionOf, hear, ProbeIsReport, ProbesAnswered, RefusedChangesNothing, ArrivalKeepsStatusAndNext, HeldStays, UntouchedStays, OtherSourcesStay, SlotsAsHeard, HeldIsCarried, RepliesAsHeard, ReplyQuietStays, SpansAsHeard, DistancesStay}
 use Rattle.guarantees.proofs.Calls.{call-cases, member-not-crashed}
 use Rattle.guarantees.proofs.Names.{held-inside, above-blank, source-of}
 use Rattle.guarantees.proofs.Retired.{rise-moves, moves-on, last-rises, retires-is, none-retired, retired-below, outside-before, inside-unretired, risen-above, risen-below}
@@ -181,10 +181,10 @@ module _ (us : List ℕ) (m : Meaning) (e : End) (f : SoundState e) (unnamed : h
       q)
 
 -- then the sender's distance and stamp are new; first, last and records are not
-session-heard : (us : List ℕ) (m : Meaning) (e : End) → SoundState e → hasName m ≡ false → isFetched m ≡ false
+session-heard : (us : List ℕ) (m : Meaning) (e : End) → SoundState e → hasName m ≡ false → isFetched m ≡ false → isAnnounced m ≡ false
     → HeardEnd (momentOf e) us m e (sessionOf (momentOf e) us m e .left)
 unfolding sessionOf isSessionOf touches recordAt
-session-heard us m e f unnamed unfetched =
+session-heard us m e f unnamed unfetched unannounced =
     let t = momentOf e in
     let now = allReported t us (m .reports) e in
     let kept = reported-same t us (m .reports) e in
@@ -195,7 +195,7 @@ session-heard us m e f unnamed unfetched =
           set-elim (HeardSource t us m (distanceTo e) h (source-of e h)) (now .sources) (m .sender .0) h (heardFrom t m (sourceAt now (m .sender))) noSource
           (λ i. subst (λ k. HeardSource t us m (distanceTo e) h (source-of e h) (heardFrom t m (source-of now k))) i
           (record {
-            rest = (q .span, λ x. clash (sym (λ k. not (unnamed k || unfetched k) && eq-eqb (m .sender .0) h (sym i) k) ∙ x));
+            rest = (q .span, λ x. clash (sym (λ k. not (unnamed k || (unfetched k || unannounced k)) && eq-eqb (m .sender .0) h (sym i) k) ∙ x));
             gone = q .gone;
             each = q .each;
           }))
@@ -229,7 +229,8 @@ module _ (us : List ℕ) (m : Meaning) (e : End) (f : SoundState e) (hs : messag
       (λ q. byCond Hears (eqb (m .kind) XPRS) (λ x. word-heard us m e f Xprs x hs)
       (λ x. byCond Hears (eqb (m .kind) FTCH) (λ _. fetched-cases Hears m e ignored (λ bytes. ignored))
       (λ t. byCond Hears (eqb (m .kind) LATE) (λ _. late-cases Hears m e ignored (λ l. marked-heard (messageName m .source) l))
-      (λ l. session-heard us m e f (λ i. k i || (r i || (q i || x i))) (λ i. t i || l i)))))))
+      (λ l. byCond Hears (eqb (m .kind) ANNC) (λ _. ignored)
+      (λ n. session-heard us m e f (λ i. k i || (r i || (q i || x i))) (λ i. t i || l i) n)))))))
 
   pub arrival-heard : Hears (ifMember e (arrivalOf us m e))
   unfolding arrivalOf

@@ -12,7 +12,7 @@ use Rattle.numbers.specs.Bits.{bit, withBit, members}
 use Rattle.numbers.proofs.BitLaws.{bit-none, bit-with, bit-other, members-with, members-less}
 use Rattle.message.specs.declared.Host.{Host}
 use Rattle.message.specs.declared.Name.{Name}
-use Rattle.message.specs.Message.{DATA, RQST, REPL, XPRS, FTCH, LATE, Meaning, meaningFrom, bytesOf}
+use Rattle.message.specs.Message.{DATA, RQST, REPL, XPRS, FTCH, LATE, ANNC, Meaning, meaningFrom, bytesOf}
 use Rattle.message.specs.Question.{sameHost}
 use Rattle.message.proofs.QuestionLaws.{and-both}
 use Rattle.end.specs.declared.Params.{Params}
@@ -31,7 +31,7 @@ use Rattle.end.specs.Fetch.{attemptOn, mayFetch, nearest, tryOf, fetchOf, mayHa
 use Rattle.end.specs.Answer.{Ignored, Class, PutsOut, HandsOut, HandsLate, Untouched, classOf, Step, give, Did, Result}
 use Rattle.end.specs.Arrival.{messageStep, arrivalOf}
 use Rattle.end.specs.Fire.{earliest}
-use Rattle.end.specs.Event.{Action, Moves, Send, Arrival, Else, Other, Fire, Report, Fetch, moves, clears, movedEnd, moveOf, otherOf, actOf, eventOf}
+use Rattle.end.specs.Event.{Action, Moves, Send, Arrival, Else, Other, Fire, Report, Announce, Fetch, moves, clears, movedEnd, moveOf, otherOf, actOf, eventOf}
 use Rattle.end.specs.Opening.{openingOf}
 use Rattle.end.specs.Book.{source, among}
 use Rattle.end.proofs.AttemptLaws.{below, attempt-outside, attempt-same, tried-fetchable, late-fetchable}
@@ -49,7 +49,7 @@ use Rattle.guarantees.specs.Fetch.{isName, Fetched, unfetched, afterLate
 use Rattle.guarantees.specs.Fetch.{AttemptsOverHistory, LateAtMostOnce, TriedOnce, BelowFirstGot, FetchableNeverGot, LateNeverGot}
 use Rattle.guarantees.proofs.Calls.{call-cases, changed-at}
 use Rattle.guarantees.proofs.Names.{source-of}
-use Rattle.guarantees.proofs.Fetches.{fetched-cases}
+use Rattle.guarantees.proofs.Fetches.{announce-cases, fetched-cases}
 use Rattle.guarantees.proofs.Slots.{host-and-params-stay}
 use Rattle.guarantees.proofs.History.{kept-from, unheard-bare, aside-bare, opened-bare, count-over-history, handed-least}
 use Rattle.guarantees.proofs.HistoryKept.{among-it, among-other}
@@ -185,7 +185,8 @@ module _ (us : List ℕ) (e : End) (f : SoundState e) (x : Fetched) (s n : ℕ) 
       (λ _. byCond Heard (eqb (m .kind) XPRS) (λ _. unmarked _ (word-marks us m e f Xprs hm))
       (λ _. byCond Heard (eqb (m .kind) FTCH) (λ _. fetched-cases Heard m e q (λ bytes. q))
       (λ _. byCond Heard (eqb (m .kind) LATE) (λ _. late-goes m)
-      (λ _. unmarked _ (session-marks (momentOf e) us m e)))))))
+      (λ _. byCond Heard (eqb (m .kind) ANNC) (λ _. q)
+      (λ _. unmarked _ (session-marks (momentOf e) us m e))))))))
 
   arrival-goes : (m : Meaning) → source m < 8 → Heard (arrivalOf us m e)
   unfolding arrivalOf
@@ -219,6 +220,7 @@ module _ (us : List ℕ) (e : End) (f : SoundState e) (x : Fetched) (s n : ℕ) 
   unfolding fetchedAction fetchedOther
   other-goes Fire = unmarked _ (fire-marks us e (earliest e 8))
   other-goes Report = q
+  other-goes Announce = announce-cases (Goes (Else Announce)) e q (λ bytes. q)
   other-goes (Fetch name) = fetch-goes name
 
   -- ---- the moves
@@ -238,6 +240,7 @@ module _ (us : List ℕ) (e : End) (f : SoundState e) (x : Fetched) (s n : ℕ) 
   ignored-goes (Arrival bytes) = q
   ignored-goes (Else Fire) = q
   ignored-goes (Else Report) = q
+  ignored-goes (Else Announce) = q
   ignored-goes (Else (Fetch name)) = rw (either-way (isName s n name)) q
 
   act-goes : (a : Action) → ((b : ℕ) (l : List ℕ) → a ≡ Arrival (b ∷ l) → source (meaningFrom (b ∷ l)) < 8) → Goes a (actOf us a e)

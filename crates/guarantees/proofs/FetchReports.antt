@@ -41,7 +41,7 @@ use Rattle.end.specs.Session.{allReported, heardFrom, reportedAfter, reportedIn
 use Rattle.end.specs.Arrival.{messageStep, arrivalOf}
 use Rattle.end.specs.Fire.{expressRank, earliest, fireAt, fired}
 use Rattle.end.specs.Fetch.{reportedBy}
-use Rattle.end.specs.Event.{Action, Moves, Send, Arrival, Else, Other, Fire, Report, Fetch, moves, clears, movedEnd, moveOf, extended, otherOf, ifMember, actOf, eventOf}
+use Rattle.end.specs.Event.{Action, Moves, Send, Arrival, Else, Other, Fire, Report, Announce, Fetch, moves, clears, movedEnd, moveOf, extended, otherOf, ifMember, actOf, eventOf}
 use Rattle.end.specs.Opening.{openRefusal, endFor, openingOf}
 use Rattle.end.specs.Book.{source, readAs}
 use Rattle.end.proofs.Readings.{reads, in-range}
@@ -52,12 +52,12 @@ use Rattle.invariants.proofs.Facts.{SoundState, facts}
 use Rattle.invariants.proofs.Ends.{clock-kept}
 use Rattle.invariants.proofs.Questions.{Passed}
 use Rattle.guarantees.specs.Calls.{OneCall, after, afterAll}
-use Rattle.guarantees.specs.Arrivals.{hasName, isFetched, isSessionOf}
+use Rattle.guarantees.specs.Arrivals.{hasName, isFetched, isAnnounced, isSessionOf}
 use Rattle.guarantees.specs.History.{told, isDone}
 use Rattle.guarantees.specs.Fetch.{reports, reportedRead, reportedAction, reportedCall, reportedFrom, ReportedOverHistory}
 use Rattle.guarantees.proofs.Calls.{call-cases, changed-at}
 use Rattle.guarantees.proofs.Names.{source-of}
-use Rattle.guarantees.proofs.Fetches.{fetch-cases, marked-at}
+use Rattle.guarantees.proofs.Fetches.{announce-cases, fetch-cases, marked-at}
 use Rattle.guarantees.proofs.Arrivals.{arrival-heard}
 use Rattle.guarantees.proofs.HistoryMessages.{reported-long, known-session}
 use Rattle.guarantees.proofs.History.{kept-from}
@@ -113,6 +113,7 @@ fire-heard us e (First w) h = go (recordAt (sourceAt e (w .name .source)) (w .na
 other-heard : (us : List ℕ) (o : Other) (e : End) (h : ℕ) → SameHeard h e (otherOf us o e)
 other-heard us Fire e h = fire-heard us e (earliest e 8) h
 other-heard us Report e h = refl
+other-heard us Announce e h = announce-cases (SameHeard h e) e refl (λ bytes. refl)
 other-heard us (Fetch name) e h = fetch-cases (SameHeard h e) name e refl refl
     (λ bytes l. marked-at (λ (y : Source). y .heard ≡ source-of e h .heard) e (name .source) l h refl refl)
 
@@ -123,14 +124,16 @@ module _ (m : Meaning) (h : ℕ) where
   is-session : rowOf (m .kind) .known ≡ true → isSessionOf m h ≡ true → (m .kind ≡ SESS) × (m .sender .0 ≡ h)
   unfolding isSessionOf
   is-session known t =
-      let both = and-both (not (hasName m || isFetched m)) (eqb (m .sender .0) h) t in
-      let neither = not-true (hasName m || isFetched m) (both .0) in
-      let n = or-left (hasName m) (isFetched m) neither in
-      let f = or-right (hasName m) (isFetched m) neither in
+      let unheeded = isFetched m || isAnnounced m in
+      let both = and-both (not (hasName m || unheeded)) (eqb (m .sender .0) h) t in
+      let neither = not-true (hasName m || unheeded) (both .0) in
+      let n = or-left (hasName m) unheeded neither in
+      let u = or-right (hasName m) unheeded neither in
+      let f = or-left (isFetched m) (isAnnounced m) u in
       let d = or-right (eqb (m .kind) DATA) _ n in
       let r = or-right (eqb (m .kind) RQST) _ d in (
         eqb-true (m .kind) SESS (known-session (m .kind) known (or-left (eqb (m .kind) DATA) _ n) (or-left (eqb (m .kind) RQST) _ d)
-            (or-left (eqb (m .kind) REPL) _ r) (or-right (eqb (m .kind) REPL) _ r) (or-left (eqb (m .kind) FTCH) _ f) (or-right (eqb (m .kind) FTCH) _ f)),
+            (or-left (eqb (m .kind) REPL) _ r) (or-right (eqb (m .kind) REPL) _ r) (or-left (eqb (m .kind) FTCH) _ f) (or-right (eqb (m .kind) FTCH) _ f) (or-right (isFetched m) (isAnnounced m) u)),
         eqb-true (m .sender .0) h (both .1),
       )
 

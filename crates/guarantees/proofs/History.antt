@@ -12,7 +12,7 @@ use Rattle.message.specs.declared.Host.{Host}
 use Rattle.message.specs.declared.Name.{Name}
 use Rattle.message.specs.declared.Report.{Report}
 use Rattle.message.specs.Entry.{asHost}
-use Rattle.message.specs.Message.{DATA, RQST, REPL, XPRS, FTCH, LATE, Meaning, meaningFrom, countsOf}
+use Rattle.message.specs.Message.{DATA, RQST, REPL, XPRS, FTCH, LATE, ANNC, Meaning, meaningFrom, countsOf}
 use Rattle.message.specs.Question.{sameHost, readRefusal}
 use Rattle.message.proofs.QuestionLaws.{counted as counted-row}
 use Rattle.roundtrip.proofs.RoundTrip.{accepted, counts-read}
@@ -45,7 +45,7 @@ use Rattle.end.specs.Decide.{stepAt, number, known}
 use Rattle.end.specs.Session.{reportedSource, allReported, sessionOf}
 use Rattle.end.specs.Arrival.{messageStep, arrivalOf}
 use Rattle.end.specs.Fire.{expressRank, earliest, fireAt, fired}
-use Rattle.end.specs.Event.{Action, Moves, Send, Arrival, Else, Other, Fire, Report as Reporting, Fetch, moves, clears, movedEnd, moveOf, extended, sentSource, sendOf, otherOf, ifMember, actOf, eventOf}
+use Rattle.end.specs.Event.{Action, Moves, Send, Arrival, Else, Other, Fire, Report as Reporting, Announce, Fetch, moves, clears, movedEnd, moveOf, extended, sentSource, sendOf, otherOf, ifMember, actOf, eventOf}
 use Rattle.end.specs.Opening.{openRefusal, endFor, openingOf}
 use Rattle.end.specs.Book.{source, readAs, among}
 use Rattle.end.proofs.Tools.{byCond, clash, clash′, set-elim}
@@ -63,7 +63,7 @@ use Rattle.guarantees.specs.Records.{requestIn}
 use Rattle.guarantees.specs.History.{told, Since, nothingYet, sinceRead, sinceAction, sinceCall, sinceFrom, sinceJoining, countOver, counted, spanSince, originOver, CountOverHistory, NonMembersCountNone}
 use Rattle.guarantees.proofs.Calls.{call-cases, crashed-no-member, changed-at}
 use Rattle.guarantees.proofs.Names.{waits-inside, held-inside, source-of, Ends, own-ends}
-use Rattle.guarantees.proofs.Fetches.{fetch-cases, fetched-cases, late-cases, marked-at}
+use Rattle.guarantees.proofs.Fetches.{announce-cases, fetch-cases, fetched-cases, late-cases, marked-at}
 use Rattle.guarantees.proofs.Heard.{replied-held}
 use Rattle.guarantees.proofs.HistoryMessages.{Tells, read-none, closed-none, tells-none, tells-stored, tells-marked, arrival-tells}
 use Rattle.guarantees.proofs.HistoryKept.{Others, rise-origin, others-count, others-span, others-origin, others-least, others-held}
@@ -111,6 +111,7 @@ module _ (us : List ℕ) (e : End) (long : length (e .sources) ≡ 8) (past : �
       go NoWait = told-so s hh
       go (First w) = fire-tells (w .rank) (w .name) _ refl
   other-tells Reporting = told-so s hh
+  other-tells Announce = announce-cases Stays e (told-so s hh) (λ bytes. told-so s hh)
   other-tells (Fetch name) = fetch-cases Stays name e (told-so s hh) (told-so s hh)
       (λ bytes l. marked-at (Tells (eqb s (e .host .0)) (past s)) e (name .source) l s (told-so s hh)
       (tells-marked (eqb s (e .host .0)) (past s) (source-of e s) l (told-so s hh)))
@@ -219,7 +220,8 @@ arrival-frame us m e = byCond (Frame e) (sameHost (m .sender) (e .host)) (λ _. 
     (λ _. byCond (Frame e) (eqb (m .kind) XPRS) (λ _. (refl, refl))
     (λ _. byCond (Frame e) (eqb (m .kind) FTCH) (λ _. fetched-cases (Frame e) m e (refl, refl) (λ bytes. (refl, refl)))
     (λ _. byCond (Frame e) (eqb (m .kind) LATE) (λ _. late-cases (Frame e) m e (refl, refl) (λ l. (refl, refl)))
-    (λ _. reported-frame (momentOf e) us (m .reports) e)))))))
+    (λ _. byCond (Frame e) (eqb (m .kind) ANNC) (λ _. (refl, refl))
+    (λ _. reported-frame (momentOf e) us (m .reports) e))))))))
 
 fire-frame : (us : List ℕ) (e : End) (x : Earliest) → Frame e (fired us e x)
 unfolding fired fireAt
@@ -235,6 +237,7 @@ fire-frame us e (First w) = go (recordAt (sourceAt e (w .name .source)) (w .name
 other-frame : (us : List ℕ) (o : Other) (e : End) → Frame e (otherOf us o e)
 other-frame us Fire e = fire-frame us e (earliest e 8)
 other-frame us Reporting e = (refl, refl)
+other-frame us Announce e = announce-cases (Frame e) e (refl, refl) (λ bytes. (refl, refl))
 other-frame us (Fetch name) e = fetch-cases (Frame e) name e (refl, refl) (refl, refl) (λ bytes l. (refl, refl))
 
 -- Ignored outside membership: no source is open, so nothing is told of any, whatever arrives

@@ -11,7 +11,7 @@ use borrow.Author.Tests.{eqb-true, eq-eqb, ne-eqb}
 use Rattle.message.specs.declared.Name.{Name}
 use Rattle.message.specs.declared.Report.{Report}
 use Rattle.message.specs.Kind.{rowOf}
-use Rattle.message.specs.Message.{DATA, RQST, REPL, SESS, XPRS, FTCH, LATE, Meaning, meaningFrom}
+use Rattle.message.specs.Message.{DATA, RQST, REPL, SESS, XPRS, FTCH, LATE, ANNC, Meaning, meaningFrom}
 use Rattle.message.specs.Question.{sameHost}
 use Rattle.end.specs.declared.Record.{Record}
 use Rattle.end.specs.declared.Span.the-variants.{Closed}
@@ -205,8 +205,8 @@ module _ (us : List ℕ) (m : Meaning) (e : End) (f : SoundState e) (unlooped : 
 
 -- a message that was read and is about no name is a SESS
 pub known-session : (kind : ℕ) → rowOf kind .known ≡ true → eqb kind DATA ≡ false → eqb kind RQST ≡ false → eqb kind REPL ≡ false
-    → eqb kind XPRS ≡ false → eqb kind FTCH ≡ false → eqb kind LATE ≡ false → eqb kind SESS ≡ true
-known-session kind h d r p x f l = byTest (eqb kind SESS) (λ t. t) (λ t. clash′ ((rw (d, r, p, t, x, f, l) refl) ∙ h))
+    → eqb kind XPRS ≡ false → eqb kind FTCH ≡ false → eqb kind LATE ≡ false → eqb kind ANNC ≡ false → eqb kind SESS ≡ true
+known-session kind h d r p x f l n = byTest (eqb kind SESS) (λ t. t) (λ t. clash′ ((rw (d, r, p, t, x, f, l, n) refl) ∙ h))
 
 module _ (us : List ℕ) (e : End) where
   abbrev t₁ : Moment
@@ -287,7 +287,7 @@ module _ (us : List ℕ) (m : Meaning) (e : End) (f : SoundState e) (unlooped : 
   abbrev Went : Step → Type 0
   Went r = Tells (eqb s (e .host .0)) (sinceMessage (e .host .0) s (past s) m (classOf (r .effect))) (source-of (r .left) s)
 
-  -- kinds 22 and 23 bring no number
+  -- kinds 22 to 24 bring no number
   unbrought : (kind : ℕ) → eqb (m .kind) kind ≡ true → eqb kind SESS ≡ false → isAboutName m ≡ false → bringing (e .host .0) m s (past s) ≡ past s
   unfolding broughtTo
   unbrought kind k other unnamed =
@@ -311,8 +311,11 @@ module _ (us : List ℕ) (m : Meaning) (e : End) (f : SoundState e) (unlooped : 
       (λ k. let quiet = unbrought LATE k (ne-eqb LATE SESS (λ i. omega (arith, i))) (λ i. d i || (r i || (p i || x i))) in
       late-cases Went m e (rw quiet (told-so s hh)) (λ l. rw quiet (marked-at (Tells (eqb s (e .host .0)) (past s)) e (messageName m .source) l s (told-so s hh)
       (tells-marked (eqb s (e .host .0)) (past s) (source-of e s) l (told-so s hh)))))
-      (λ l. session-tells us m e (f .sources) unlooped (λ i. d i || (r i || (p i || x i)))
-      (known-session (m .kind) kinds d r p x q l) (past s) s hh (told-so s hh)))))))
+      (λ l. byCond Went (eqb (m .kind) ANNC)
+      (λ k. let quiet = unbrought ANNC k (ne-eqb ANNC SESS (λ i. omega (arith, i))) (λ i. d i || (r i || (p i || x i))) in
+      rw quiet (told-so s hh))
+      (λ n. session-tells us m e (f .sources) unlooped (λ i. d i || (r i || (p i || x i)))
+      (known-session (m .kind) kinds d r p x q l n) (past s) s hh (told-so s hh))))))))
 
 -- looped or not
 pub arrival-tells : (us : List ℕ) (b : ℕ) (bytes : List ℕ) (e : End) → SoundState e → readAs (b ∷ bytes) ≡ some (meaningFrom (b ∷ bytes))

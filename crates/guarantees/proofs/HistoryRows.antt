@@ -10,7 +10,7 @@ use Rattle.numbers.specs.Number.{valueAfter}
 use Rattle.message.specs.Cue.{cueIn}
 use Rattle.message.specs.Section.{sectionFrom, entries, after, all, rises}
 use Rattle.message.specs.Message.{meaningWith}
-use Rattle.message.specs.Question.{readRefusal, inRange, hostsFit}
+use Rattle.message.specs.Question.{readRefusal, inRange, windowFits, hostsFit}
 use Rattle.end.specs.Names.{lacking}
 use Rattle.end.specs.Book.{readAs, raisedTo, reportedTo, broughtTo, higher, among}
 use Rattle.end.proofs.Lacking.{lacking-add, lacking-all}
@@ -19,7 +19,7 @@ use Rattle.guarantees.specs.HistoryRows.{tenToEighty, TenToEighty, LeftA
 
 told-so : sinceJoining 1 0 tenToEighty ≡ record { handed = 10 ∷ []; highest = some 80 }
 unfolding sinceFrom sinceCall sinceAction sinceRead sinceMessage readAs readRefusal broughtTo reportedTo raisedTo higher
-    meaningWith sectionFrom entries after inRange valueAfter all hostsFit rises cueIn
+    meaningWith sectionFrom entries after inRange valueAfter all windowFits hostsFit rises cueIn
 told-so = refl
 
 pub ten-to-eighty : TenToEighty

@@ -25,3 +25,4 @@ pub mod FetchBook
 pub mod FetchMarks
 pub mod FetchHistory
 pub mod FetchReports
+pub mod Announce

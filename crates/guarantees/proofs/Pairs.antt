@@ -10,7 +10,7 @@ use lib.Dec.{eqb}
 use borrow.Author.Tests.{eqb-true, eq-eqb, ne-eqb}
 use Rattle.message.specs.declared.Host.{Host}
 use Rattle.message.specs.declared.Report.{Report}
-use Rattle.message.specs.Message.{DATA, RQST, REPL, XPRS, FTCH, LATE, Meaning, meaningFrom}
+use Rattle.message.specs.Message.{DATA, RQST, REPL, XPRS, FTCH, LATE, ANNC, Meaning, meaningFrom}
 use Rattle.message.specs.Question.{sameHost, readRefusal}
 use Rattle.end.specs.declared.Params.{Params}
 use Rattle.end.specs.declared.Pair.{Pair}
@@ -40,7 +40,7 @@ use Rattle.end.specs.Decide.{known, apply, effectOf, decide, stepAt}
 use Rattle.end.specs.Session.{reportedSource, allReported, heardFrom, sessionOf}
 use Rattle.end.specs.Arrival.{messageName, messageHost, requesterIn, wordOf, wordStep, messageStep, arrivalOf}
 use Rattle.end.specs.Fire.{expressRank, earliest, fireAt, fired}
-use Rattle.end.specs.Event.{Action, Moves, Send, Arrival, Else, Other, Fire, Report as Reporting, Fetch, moves, clears, movedEnd, moveOf, extended, otherOf, actOf}
+use Rattle.end.specs.Event.{Action, Moves, Send, Arrival, Else, Other, Fire, Report as Reporting, Announce, Fetch, moves, clears, movedEnd, moveOf, extended, otherOf, actOf}
 use Rattle.end.specs.Opening.{openRefusal, endFor, openingOf}
 use Rattle.end.specs.Book.{source, isRepair, readAs}
 use Rattle.end.proofs.Grounds.{isRequest, Grounds, grounds}
@@ -53,7 +53,7 @@ use Rattle.guarantees.specs.History.{told}
 use Rattle.guarantees.specs.Express.{isGotOrDone, pairMessage, pairRead, pairAction, pairAfter, PairsMayBecome, pairFrom, PairOverHistory}
 use Rattle.guarantees.proofs.Calls.{call-cases, changed-at}
 use Rattle.guarantees.proofs.Names.{source-of}
-use Rattle.guarantees.proofs.Fetches.{fetch-cases, fetched-cases, late-cases}
+use Rattle.guarantees.proofs.Fetches.{announce-cases, fetch-cases, fetched-cases, late-cases}
 use Rattle.guarantees.proofs.Messages.{kindOf}
 
 -- ---- what leaves the pair
@@ -102,6 +102,7 @@ fire-pair us e (First w) s = go (recordAt (sourceAt e (w .name .source)) (w .nam
 other-pair : (us : List ℕ) (o : Other) (e : End) (s : ℕ) → source-of (otherOf us o e .left) s .pair ≡ source-of e s .pair
 other-pair us Fire e s = fire-pair us e (earliest e 8) s
 other-pair us Reporting e s = refl
+other-pair us Announce e s = announce-cases (λ (r : Step). source-of (r .left) s .pair ≡ source-of e s .pair) e refl (λ bytes. refl)
 other-pair us (Fetch name) e s = fetch-cases (λ (r : Step). source-of (r .left) s .pair ≡ source-of e s .pair) name e refl refl
     (λ bytes l. stored-pair e (name .source) _ refl s)
 
@@ -213,7 +214,8 @@ module _ (us : List ℕ) (m : Meaning) (e : End) (long : length (e .sources) ≡
       (λ _. byCond Kept (eqb (m .kind) LATE)
       (λ _. late-cases Kept m e (sym (other-kind s (source-of e s .pair) m _ r))
       (λ l. stored-pair e (messageName m .source) _ refl s ∙ sym (other-kind s (source-of e s .pair) m _ r)))
-      (λ _. session-pair (momentOf e) us m e s ∙ sym (other-kind s (source-of e s .pair) m _ r)))))))
+      (λ _. byCond Kept (eqb (m .kind) ANNC) (λ _. sym (other-kind s (source-of e s .pair) m _ r))
+      (λ _. session-pair (momentOf e) us m e s ∙ sym (other-kind s (source-of e s .pair) m _ r))))))))
 
   arrival-pair : Kept (arrivalOf us m e)
   unfolding arrivalOf

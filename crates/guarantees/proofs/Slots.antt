@@ -36,7 +36,7 @@ use Rattle.end.specs.Names.{asking, expressed, holding, quieted}
 use Rattle.end.specs.Answer.{Step, Result}
 use Rattle.end.specs.Sound.{soundOf}
 use Rattle.end.specs.Fire.{earliest, fireAt, fired}
-use Rattle.end.specs.Event.{Action, Moves, Send, Arrival, Else, Other, Fire, Report, Fetch, moves, clears, movedEnd, moveOf, extended, sentSource, otherOf, actOf, eventOf}
+use Rattle.end.specs.Event.{Action, Moves, Send, Arrival, Else, Other, Fire, Report, Announce, Fetch, moves, clears, movedEnd, moveOf, extended, sentSource, otherOf, actOf, eventOf}
 use Rattle.end.proofs.Facts.{unheard-at, narrow}
 use Rattle.end.proofs.RecordLaws.{Narrow, at-outside, read-same, read-other, store-elim}
 use Rattle.end.proofs.RiseLaws.{rise-span}
@@ -53,7 +53,7 @@ use Rattle.guarantees.specs.BackOff.{causeOf, SpansMayBecome, RetiredAre
 use Rattle.guarantees.proofs.Names.{waits-as, waits-inside, held-inside, source-of, Ends, own-ends, next-outside, next-inside, extended-narrow, extended-length, extended-elim}
 use Rattle.guarantees.proofs.Retired.{span-stay, rise-moves, retired-outside, retired-below, outside-before, below-stays}
 use Rattle.guarantees.proofs.Heard.{carriedBy}
-use Rattle.guarantees.proofs.Fetches.{fetch-cases, marked-at}
+use Rattle.guarantees.proofs.Fetches.{announce-cases, fetch-cases, marked-at}
 use Rattle.guarantees.proofs.Messages.{span-may, HeardEnd}
 use Rattle.guarantees.proofs.Calls.{call-cases}
 use Rattle.guarantees.proofs.Arrivals.{passed-heard}
@@ -290,6 +290,9 @@ other-may : (us : List ℕ) (o : Other) (e : End) → SoundState e → MayEnd (E
 unfolding recordAt
 other-may us Fire e f = fired-may us e f (earliest e 8) refl
 other-may us Report e f = may-stay (Else Report) (momentOf e) us e
+other-may us Announce e f =
+    let stay = may-stay (Else Announce) (momentOf e) us e in
+    announce-cases (λ (r : Step). MayEnd (Else Announce) (momentOf e) us e (r .left)) e stay (λ bytes. stay)
 other-may us (Fetch name) e f =
     let t = momentOf e in
     let stay = may-stay (Else (Fetch name)) t us e in

@@ -9,7 +9,7 @@ use lib.ListN.{length}
 use lib.Dec.{ltb, leb, eqb}
 use Rattle.message.specs.declared.Report.{Report}
 use Rattle.message.specs.Entry.{asHost}
-use Rattle.message.specs.Message.{DATA, RQST, REPL, XPRS, FTCH, LATE, Meaning, meaningFrom, bytesOf}
+use Rattle.message.specs.Message.{DATA, RQST, REPL, XPRS, FTCH, LATE, ANNC, Meaning, meaningFrom, bytesOf}
 use Rattle.message.specs.Question.{sameHost}
 use Rattle.end.specs.declared.Express.{Express}
 use Rattle.end.specs.declared.Express.the-variants.{Unset, Soon}
@@ -116,7 +116,7 @@ hasName m = eqb (m .kind) DATA || (eqb (m .kind) RQST || (eqb (m .kind) REPL || 
 
 -- Which names of a source h, whose first and last are `span`, a message may at most change. DATA, RQST, REPL and XPRS: of the source that they
 -- name, the named number, those from last + 1 up to it and those more than 63 below it. SESS: of each source that is reported, those from
--- last + 1 up to the reported and those more than 63 below it. FTCH and LATE report nothing, and change none.
+-- last + 1 up to the reported and those more than 63 below it. FTCH, LATE and ANNC report nothing, and change none.
 unfoldable pub touches : Meaning → ℕ → Span → ℕ → Bool
 touches m h span j =
     cond (hasName m)
@@ -190,9 +190,13 @@ SpansAsHeard = (e : End) (bytes : List ℕ) (clock room : ℕ) (draws : List ℕ
 abbrev pub isFetched : Meaning → Bool
 isFetched m = eqb (m .kind) FTCH || eqb (m .kind) LATE
 
+-- the kind of P11, whose names are for displays: Announce.antt
+abbrev pub isAnnounced : Meaning → Bool
+isAnnounced m = eqb (m .kind) ANNC
+
 -- a message of host h with no name: a SESS, if it is accepted
 unfoldable pub isSessionOf : Meaning → ℕ → Bool
-isSessionOf m h = not (hasName m || isFetched m) && eqb (m .sender .0) h
+isSessionOf m h = not (hasName m || (isFetched m || isAnnounced m)) && eqb (m .sender .0) h
 
 -- .. and a probe, which has no sender, is none
 abbrev pub isSessionFrom : List ℕ → ℕ → Bool

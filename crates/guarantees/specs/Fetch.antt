@@ -26,7 +26,7 @@ use Rattle.end.specs.Messages.{messageName, messageHost}
 use Rattle.end.specs.Fetch.{attemptOn, mayFetch, reportedBy, untried}
 use Rattle.end.specs.Answer.{Class, PutsOut, HandsOut, HandsLate, Untouched, classOf, classIn, handsOut}
 use Rattle.end.specs.Answer.{Effect, Out, Ignored, Exhausted, Outcome, Refused, Did, Result, bufferOf}
-use Rattle.end.specs.Event.{Action, Moves, Send, Arrival, Else, Other, Fire, Report, Fetch, questionOf, eventOf}
+use Rattle.end.specs.Event.{Action, Moves, Send, Arrival, Else, Other, Fire, Report, Announce, Fetch, questionOf, eventOf}
 use Rattle.end.specs.Opening.{openingOf}
 use Rattle.end.specs.Book.{Book, NeverGot, readAs, broughtTo, among, due, after}
 use Rattle.guarantees.specs.Calls.{OneCall, afterAll}
@@ -170,6 +170,7 @@ afterLate s n x Untouched = x
 unfoldable pub fetchedOther : ℕ → ℕ → Fetched → Other → Class → Fetched
 fetchedOther s n x Fire c = x
 fetchedOther s n x Report c = x
+fetchedOther s n x Announce c = x
 fetchedOther s n x (Fetch name) c = cond (isName s n name) (afterTry x c) x
 
 -- a move that is Done begins membership, ends it or lies outside it, as in History.antt

@@ -12,3 +12,4 @@ pub mod Express
 pub mod Rises
 pub mod HistoryRows
 pub mod Fetch
+pub mod Announce

@@ -25,7 +25,7 @@ use Rattle.end.specs.State.{sourceAt}
 use Rattle.end.specs.Records.{recordAt, isHeld}
 use Rattle.end.specs.Round.{requestAt, nextRound, replyDue}
 use Rattle.end.specs.Names.{firstAfter}
-use Rattle.end.specs.Event.{Action, Moves, Send, Arrival, Else, Other, Fire, Report, Fetch, clears}
+use Rattle.end.specs.Event.{Action, Moves, Send, Arrival, Else, Other, Fire, Report, Announce, Fetch, clears}
 
 -- the record under source h and number n, any number: outside first..last it is blank
 abbrev pub recordOf : End → ℕ → ℕ → Record
@@ -53,6 +53,7 @@ clearing (Else o) = false
 abbrev pub isFire : Other → Bool
 isFire Fire = true
 isFire Report = false
+isFire Announce = false
 isFire (Fetch name) = false
 
 abbrev pub firing : Action → Bool

@@ -8,11 +8,13 @@ use lib.Dec.{eqb}
 use borrow.Author.Tests.{eqb-true, leb-true}
 use Rattle.message.specs.declared.Name.{Name}
 use Rattle.message.specs.declared.Report.{Report as ReportEntry}
-use Rattle.message.specs.Message.{DATA, RQST, REPL, XPRS, FTCH, LATE, Meaning, meaningFrom}
+use Rattle.message.specs.Message.{DATA, RQST, REPL, XPRS, FTCH, LATE, ANNC, Meaning, meaningFrom}
 use Rattle.message.specs.Question.{sameHost}
 use Rattle.end.specs.declared.Slot.{Slot}
 use Rattle.end.specs.declared.Slot.the-variants.{Empty, Held, Waiting}
 use Rattle.end.specs.declared.Reply.the-variants.{No, Due}
+use Rattle.end.specs.declared.Span.{Span}
+use Rattle.end.specs.declared.Span.the-variants.{Closed, Open}
 use Rattle.end.specs.declared.Heard.{Heard}
 use Rattle.end.specs.declared.Heard.the-variants.{At}
 use Rattle.end.specs.declared.Moment.{Moment}
@@ -31,7 +33,7 @@ use Rattle.end.specs.Session.{reportedSource, allReported, sessionOf}
 use Rattle.end.specs.Arrival.{messageStep, arrivalOf}
 use Rattle.end.specs.Fire.{expressRank, earliest, fireAt, fired}
 use Rattle.end.specs.Fetch.{mayFetch, nearest, tryOf, fetchOf, mayAnswer, fetchedOf, mayHand, lateOf}
-use Rattle.end.specs.Event.{Action, Moves, Send, Arrival, Else, Other, Fire, Report, Fetch, moves, clears, movedEnd, moveOf, otherOf, actOf, stepOf}
+use Rattle.end.specs.Event.{Action, Moves, Send, Arrival, Else, Other, Fire, Report, Announce, Fetch, announced, moves, clears, movedEnd, moveOf, otherOf, actOf, stepOf}
 use Rattle.end.specs.Event.{questionOf, eventOf}
 use Rattle.end.proofs.SoundLaws.{nth}
 use Rattle.end.proofs.Tools.{byCond}
@@ -63,7 +65,8 @@ module _ (us : List ℕ) (e : End) where
       (λ _. byCond (Keeps e) (eqb (m .kind) XPRS) (λ _. refl)
       (λ _. byCond (Keeps e) (eqb (m .kind) FTCH) (λ _. byCond (Keeps e) (mayAnswer e m) (λ _. refl) (λ _. refl))
       (λ _. byCond (Keeps e) (eqb (m .kind) LATE) (λ _. byCond (Keeps e) (mayHand e m) (λ _. refl) (λ _. refl))
-      (λ _. reported-clock (momentOf e) us (m .reports) e))))))
+      (λ _. byCond (Keeps e) (eqb (m .kind) ANNC) (λ _. refl)
+      (λ _. reported-clock (momentOf e) us (m .reports) e)))))))
 
   fire-clock : (rank : ℕ) (name : Name) (x : Slot) → Keeps e (fireAt us rank name e x)
   unfolding fireAt
@@ -82,10 +85,15 @@ module _ (us : List ℕ) (e : End) where
   tried-clock name Nobody = refl
   tried-clock name (Found h d) = refl
 
+  announced-clock : (t : Moment) (x : Span) → Keeps e (announced t x e)
+  announced-clock t Closed = refl
+  announced-clock t (Open first last) = refl
+
   other-clock : (o : Other) → Keeps e (otherOf us o e)
   unfolding fetchOf
   other-clock Fire = fired-clock (earliest e 8)
   other-clock Report = refl
+  other-clock Announce = announced-clock (momentOf e) (sourceAt e (e .host) .span)
   other-clock (Fetch name) = byCond (Keeps e) (mayFetch e name) (λ _. tried-clock name (nearest e name 8)) (λ _. refl)
 
   pub act-clock : (a : Action) → Keeps e (actOf us a e)

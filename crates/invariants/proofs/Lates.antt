@@ -9,7 +9,7 @@ use lib.ListN.{length, drop}
 use lib.Dec.{eqb}
 use borrow.Author.Tests.{eqb-true, eq-eqb}
 use Rattle.message.specs.declared.Name.{Name}
-use Rattle.message.specs.Message.{DATA, RQST, REPL, XPRS, FTCH, LATE, Meaning, meaningFrom}
+use Rattle.message.specs.Message.{DATA, RQST, REPL, XPRS, FTCH, LATE, ANNC, Meaning, meaningFrom}
 use Rattle.message.specs.Question.{firstNo, messageQuestions, sameHost}
 use Rattle.end.specs.declared.Slot.{Slot}
 use Rattle.end.specs.declared.Slot.the-variants.{Empty, Held, Waiting}
@@ -18,6 +18,9 @@ use Rattle.end.specs.declared.Says.{Says}
 use Rattle.end.specs.declared.Decision.{Decision}
 use Rattle.end.specs.declared.Decision.the-variants.{Ignores, Opens, Takes, Repairs, Hushes, Replies, Learns, BacksOff, Clashes, Expresses}
 use Rattle.end.specs.declared.Says.the-variants.{Data, Rqst, Repl, Xprs}
+use Rattle.end.specs.declared.Span.{Span}
+use Rattle.end.specs.declared.Span.the-variants.{Closed, Open}
+use Rattle.end.specs.declared.Moment.{Moment}
 use Rattle.end.specs.declared.Earliest.{Earliest}
 use Rattle.end.specs.declared.Earliest.the-variants.{NoWait, First}
 use Rattle.end.specs.declared.Nearest.{Nearest}
@@ -32,7 +35,7 @@ use Rattle.end.specs.Session.{sessionOf}
 use Rattle.end.specs.Arrival.{messageName, messageCue, wordOf, wordStep, messageStep, arrivalOf}
 use Rattle.end.specs.Fire.{expressRank, earliest, fireAt, fired}
 use Rattle.end.specs.Fetch.{mayFetch, nearest, tryOf, fetchOf, mayAnswer, fetchedOf, mayHand, lateOf}
-use Rattle.end.specs.Event.{Action, Moves, Send, Arrival, Else, Other, Fire, Report, Fetch, moves, moveOf, otherOf, ifMember, actOf, stepOf}
+use Rattle.end.specs.Event.{Action, Moves, Send, Arrival, Else, Other, Fire, Report, Announce, Fetch, announced, moves, moveOf, otherOf, ifMember, actOf, stepOf}
 use Rattle.end.specs.Event.{ownQuestions, questionOf, eventOf}
 use Rattle.end.proofs.Tools.{byCond, clash}
 use Rattle.end.proofs.AttemptLaws.{tried-fetchable}
@@ -92,6 +95,10 @@ module _ (us : List ℕ) (e : End) where
   fired-prompt NoWait = refl
   fired-prompt (First w) = fire-prompt (w .rank) (w .name) (recordAt (sourceAt e (w .name .source)) (w .name .number .0) .slot)
 
+  announced-prompt : (t : Moment) (x : Span) → Prompt (announced t x e)
+  announced-prompt t Closed = refl
+  announced-prompt t (Open first last) = refl
+
 -- ---- what a step hands out as Late is right, and it is "exhausted" only by a Fetch
 record Handed (e : End) (a : Action) (r : Step) : Type 0 where
   late : (name : Name) (cue : List ℕ) → r .effect ≡ Late name cue → RightLate e a name cue (Did (Late name cue))
@@ -111,6 +118,7 @@ module _ (us : List ℕ) (e : End) where
   unfolding fetchOf
   other-handed Fire = prompt-handed e (Else Fire) _ (fired-prompt us e (earliest e 8))
   other-handed Report = prompt-handed e (Else Report) _ refl
+  other-handed Announce = prompt-handed e (Else Announce) _ (announced-prompt us e (momentOf e) (sourceAt e (e .host) .span))
   other-handed (Fetch name) = byCond (Handed e (Else (Fetch name))) (mayFetch e name)
       (λ _. try-handed name (nearest e name 8)) (λ _. prompt-handed e (Else (Fetch name)) _ refl)
 
@@ -162,7 +170,8 @@ module _ (us : List ℕ) (e : End) (f : SoundState e) (member : isMember (e .sta
         (λ _. byCond H (eqb (m .kind) XPRS) (λ _. word Xprs)
         (λ _. byCond H (eqb (m .kind) FTCH)
         (λ _. byCond H (mayAnswer e m) (λ _. prompt-handed e _ _ refl) (λ _. prompt-handed e _ _ refl))
-        (λ _. byCond H (eqb (m .kind) LATE) (late-handed another) (λ _. prompt-handed e _ _ refl))))))
+        (λ _. byCond H (eqb (m .kind) LATE) (late-handed another)
+        (λ _. byCond H (eqb (m .kind) ANNC) (λ _. prompt-handed e _ _ refl) (λ _. prompt-handed e _ _ refl)))))))
 
     arrival-handed : Handed e (Arrival (b ∷ s)) (arrivalOf us m e)
     unfolding arrivalOf

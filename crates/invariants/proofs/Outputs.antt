@@ -1,17 +1,17 @@
 -- What goes out is right: the statement of specs/Outputs.antt.
 use mathlib.Core.Path.{_≡_, refl, sym, ap, _∙_, subst}
-use Prim.Native.Nat.{ℕ, _≤_, _<_}
+use Prim.Native.Nat.{ℕ, _+_, _≤_, _<_}
 use native.Mathlib.Omega.{arith}
 use mathlib.Core.Bool.{Bool, true, false, not}
 use mathlib.Core.List.{List, [], _∷_}
 use lib.ListN.{length}
 use lib.Dec.{eqb}
-use borrow.Author.Tests.{eqb-true, not-true}
+use borrow.Author.Tests.{eqb-true, leb-true, ltb-true, not-true}
 use Rattle.message.specs.declared.Host.{Host}
 use Rattle.message.specs.declared.Name.{Name}
 use Rattle.message.specs.Cue.{cueIn}
 use Rattle.message.specs.Kind.{rowOf, mostNumber}
-use Rattle.message.specs.Message.{DATA, RQST, REPL, XPRS, FTCH, LATE, Meaning, meaningFrom, bytesOf, countsOf}
+use Rattle.message.specs.Message.{DATA, RQST, REPL, XPRS, FTCH, LATE, ANNC, Meaning, meaningFrom, bytesOf, countsOf}
 use Rattle.message.specs.declared.Row.{Row}
 use Rattle.message.specs.Question.{firstNo, messageQuestions, meaningQuestions, hasCounts, kindHasCounts, sameHost, readOf}
 use Rattle.message.specs.declared.Reading.{Reading}
@@ -29,6 +29,7 @@ use Rattle.end.specs.declared.Slot.the-variants.{Empty, Held, Waiting}
 use Rattle.end.specs.declared.Reply.the-variants.{No, Due}
 use Rattle.end.specs.declared.Record.{Record}
 use Rattle.end.specs.declared.Span.{Span}
+use Rattle.end.specs.declared.Span.the-variants.{Closed, Open}
 use Rattle.end.specs.declared.Says.{Says}
 use Rattle.end.specs.declared.Says.the-variants.{Data, Rqst, Repl, Xprs}
 use Rattle.end.specs.declared.Decision.{Decision}
@@ -41,20 +42,21 @@ use Rattle.end.specs.declared.Nearest.{Nearest}
 use Rattle.end.specs.declared.Nearest.the-variants.{Nobody, Found}
 use Rattle.end.specs.State.{sourceAt, isMember, isCrashed, momentOf, withClock}
 use Rattle.end.specs.Records.{isHeld, replyIn, expressIn}
-use Rattle.end.specs.Sound.{timeIn, isNoPair, expressSound}
-use Rattle.end.specs.Messages.{aboutName, fetchMessage, dataMessage, requestMessage, expressMessage, repairMessage, sessionMessage}
+use Rattle.end.specs.Sound.{allOf, timeIn, isNoPair, expressSound, spanTests}
+use Rattle.end.specs.Messages.{aboutName, fetchMessage, dataMessage, requestMessage, expressMessage, repairMessage, announceMessage, sessionMessage}
 use Rattle.end.specs.Answer.{Effect, Out, Ignored, Nothing, Step, give, Class, PutsOut, HandsOut, HandsLate, Untouched, classOf, Did, Result}
 use Rattle.end.specs.Decide.{effectOf, stepBy, stepAt}
 use Rattle.end.specs.Session.{sessionOf}
 use Rattle.end.specs.Arrival.{messageName, messageHost, messageCue, wordOf, wordStep, messageStep, arrivalOf}
 use Rattle.end.specs.Fire.{expressRank, earliest, keptSender, fireAt, fired}
 use Rattle.end.specs.Fetch.{mayFetch, untried, nearest, tryOf, fetchOf, mayAnswer, fetchedOf, mayHand, lateOf}
-use Rattle.end.specs.Event.{Action, Moves, Send, Arrival, Else, Other, Fire, Report, Fetch, moves, moveOf, ownName, sendOf, otherOf, ifMember, actOf, stepOf}
+use Rattle.end.specs.Event.{Action, Moves, Send, Arrival, Else, Other, Fire, Report, Announce, Fetch, announced, moves, moveOf, ownName, sendOf, otherOf, ifMember, actOf, stepOf}
 use Rattle.end.specs.Event.{ownQuestions, questionOf, eventOf}
 use Rattle.end.specs.Run.{CueArray}
 use Rattle.end.proofs.Tools.{byCond, clash, clash′, eqb-flip}
+use Rattle.end.proofs.SoundLaws.{nth}
 use Rattle.end.proofs.Grounds.{Grounds, grounds}
-use Rattle.invariants.specs.Outputs.{keptUnder, pairOf, AtOnce, Answered, atOnce, fetched, MayTry, Fetches, RightMessage, RightOut, GoesOutRight}
+use Rattle.invariants.specs.Outputs.{keptUnder, pairOf, AtOnce, Answered, atOnce, fetched, MayTry, Fetches, Announces, RightMessage, RightOut, GoesOutRight}
 use Rattle.invariants.proofs.Facts.{SoundState, facts}
 use Rattle.invariants.proofs.Records.{held-is, WaitingIn, waiting-in, held-in, reply-from, sender-in}
 use Rattle.invariants.proofs.Readings.{message-in, express-source, fetch-source}
@@ -63,7 +65,7 @@ use Rattle.invariants.proofs.Fetches.{Fetchable, fetchable-in, may-try,
 use Rattle.invariants.proofs.Stays.{kindOf}
 use Rattle.invariants.proofs.Chosen.{isSoon, Chosen, earliest-chosen}
 use Rattle.invariants.proofs.Questions.{passes, send-asked}
-use Rattle.invariants.proofs.Written.{data-passes, request-passes, asking-passes, carrying-passes, session-counts, session-passes}
+use Rattle.invariants.proofs.Written.{data-passes, request-passes, asking-passes, carrying-passes, announce-passes, session-counts, session-passes}
 
 -- ---- a message that passes its questions is read as it was written
 pub record Written (y : Meaning) : Type 0 where
@@ -182,6 +184,8 @@ module _ (e : End) (f : SoundState e) where
         answered = λ b s p. let z : _≡_ {A = ℕ} 0 1 = cc in absurd (omega arith);
         fetches = λ name p. let z : _≡_ {A = ℕ} 0 1 = cc in absurd (omega arith);
         fetched = λ k. absurd (omega arith);
+        announces = λ p. let z : _≡_ {A = ℕ} 0 1 = cc in absurd (omega arith);
+        announced = λ k. absurd (omega arith);
         lacks = λ k. absurd (omega arith);
         express = λ k. absurd (omega arith);
         holds = λ k. absurd (omega arith);
@@ -204,6 +208,8 @@ module _ (e : End) (f : SoundState e) where
     answered = λ b s u. unheard Fire (b ∷ s) u;
     fetches = λ name u. let z : _≡_ {A = ℕ} 0 1 = cc in absurd (omega arith);
     fetched = λ k. absurd (omega (arith, old));
+    announces = λ u. let z : _≡_ {A = ℕ} 0 1 = cc in absurd (omega arith);
+    announced = λ k. absurd (omega (arith, old));
     lacks = lacks;
     express = express;
     holds = holds;
@@ -232,8 +238,8 @@ module _ (e : End) (f : SoundState e) where
 
   -- Report, and a probe that arrives
   report-right : (a : Action) → ((cue : List ℕ) → a ≡ Send cue → ⊥) → ((b : ℕ) (s : List ℕ) → a ≡ Arrival (b ∷ s) → ⊥)
-      → ((name : Name) → a ≡ Else (Fetch name) → ⊥) → (us : List ℕ) → Right e a (otherOf us Report e)
-  report-right a no-send no-message no-fetch us =
+      → ((name : Name) → a ≡ Else (Fetch name) → ⊥) → (a ≡ Else Announce → ⊥) → (us : List ℕ) → Right e a (otherOf us Report e)
+  report-right a no-send no-message no-fetch no-announce us =
       out-right e a (sessionMessage e) e (written (sessionMessage e) (session-counts e f) (session-passes e f) none) (record {
         sender = refl;
         stamp = refl;
@@ -242,6 +248,8 @@ module _ (e : End) (f : SoundState e) where
         answered = λ b s p. absurd (no-message b s p);
         fetches = λ name p. absurd (no-fetch name p);
         fetched = λ k. absurd (omega arith);
+        announces = λ p. absurd (no-announce p);
+        announced = λ k. absurd (omega arith);
         lacks = λ k. absurd (omega arith);
         express = λ k. absurd (omega arith);
         holds = λ k. absurd (omega arith);
@@ -279,6 +287,8 @@ module _ (e : End) (f : SoundState e) where
         answered = λ b s p. unheard (Fetch name) (b ∷ s) p;
         fetches = λ k p. let same : name ≡ k = cc in subst (λ (k : Name). Fetches e k y) same fetches;
         fetched = λ _. refl;
+        announces = λ p. let z : _≡_ {A = ℕ} 0 1 = cc in absurd (omega arith);
+        announced = λ k. absurd (omega arith);
         lacks = λ k. absurd (omega arith);
         express = λ k. absurd (omega arith);
         holds = λ k. absurd (omega arith);
@@ -292,16 +302,48 @@ module _ (e : End) (f : SoundState e) where
       byCond (Right e (Else (Fetch name))) (mayFetch e name)
       (λ t. try-right name (fetchable-in e f name t) (nearest e name 8) (nearest-is e name 8)) (λ _. silent-right e _ _ refl)
 
+  -- by an Announce goes out a kind 24 where there is a first
+  announced-right : (missed : ℕ) (x : Span) → sourceAt e (e .host) .span ≡ x → allOf (spanTests (sameHost (e .host) (e .host)) (e .next) missed x) ≡ true
+      → Right e (Else Announce) (announced (momentOf e) x e)
+  announced-right missed Closed p h = silent-right e (Else Announce) (give Nothing e) refl
+  announced-right missed (Open first last) p h =
+      let y = announceMessage (momentOf e) first last in
+      let tests = spanTests (sameHost (e .host) (e .host)) (e .next) missed (Open first last) in
+      let rising = leb-true (first .0) (last .0) (nth tests 0 h) in
+      let below = ltb-true (last .0) 65536 (nth tests 1 h) in
+      let window = leb-true (last .0) (first .0 + 63) (nth tests 3 h) in
+      out-right e (Else Announce) y e (written y refl (announce-passes e f first last rising window below) none) (record {
+        sender = refl;
+        stamp = refl;
+        sent = λ c u. unsent Announce c u;
+        probed = λ u. unheard Announce [] u;
+        answered = λ b s u. unheard Announce (b ∷ s) u;
+        fetches = λ name u. let z : _≡_ {A = ℕ} 0 1 = cc in absurd (omega arith);
+        fetched = λ k. absurd (omega arith);
+        announces = λ _. record { kind = refl; first = first; last = last; own = p; names = refl; rising = rising; window = window };
+        announced = λ _. refl;
+        lacks = λ k. absurd (omega arith);
+        express = λ k. absurd (omega arith);
+        holds = λ k. absurd (omega arith);
+        given = λ k. absurd (omega arith);
+        late = λ k. absurd (omega arith);
+      })
+
+  announce-right : Right e (Else Announce) (announced (momentOf e) (sourceAt e (e .host) .span) e)
+  announce-right = let s = sourceAt e (e .host) in announced-right (s .missed) (s .span) refl (f .each (e .host .0) (f .host) .span)
+
   other-right : (us : List ℕ) (o : Other) → Right e (Else o) (otherOf us o e)
   other-right us Fire = fired-right us (earliest e 8) (earliest-chosen e 8)
   other-right us Report =
-      report-right (Else Report) (λ c p. unsent Report c p) (λ b s p. unheard Report (b ∷ s) p) (λ name p. let z : _≡_ {A = ℕ} 0 1 = cc in omega arith) us
+      report-right (Else Report) (λ c p. unsent Report c p) (λ b s p. unheard Report (b ∷ s) p) (λ name p. let z : _≡_ {A = ℕ} 0 1 = cc in omega arith)
+      (λ p. let z : _≡_ {A = ℕ} 0 1 = cc in omega arith) us
+  other-right us Announce = announce-right
   other-right us (Fetch name) = fetch-right name
 
   probe-right : (us : List ℕ) → Right e (Arrival []) (otherOf us Report e)
   probe-right =
       report-right (Arrival []) (λ c p. let z : _≡_ {A = ℕ} 0 1 = cc in omega arith) (λ b s p. let z : _≡_ {A = ℕ} 0 1 = cc in omega arith)
-      (λ name p. let z : _≡_ {A = ℕ} 0 1 = cc in omega arith)
+      (λ name p. let z : _≡_ {A = ℕ} 0 1 = cc in omega arith) (λ p. let z : _≡_ {A = ℕ} 0 1 = cc in omega arith)
 
   -- ---- messages: only an XPRS and a kind 22 are answered by what goes out
   module _ (us : List ℕ) (b : ℕ) (s : List ℕ) (read : firstNo (messageQuestions (b ∷ s)) ≡ 0)
@@ -314,8 +356,8 @@ module _ (e : End) (f : SoundState e) where
 
     -- what is answered carries the held cue
     answer-out : (kind : ℕ) (left : End) → isHeld (held .slot) ≡ true → let y = aboutName kind (momentOf e) (messageName m) (m .sender) (held .cue ∷ []) in
-        Written y → RQST < kind → (kind ≡ XPRS → ⊥) → (kind ≡ FTCH → ⊥) → Answered e (e .clock) m y → Right e (Arrival (b ∷ s)) (give (Out (bytesOf y)) left)
-    answer-out kind left h w above no-express no-fetch for =
+        Written y → RQST < kind → (kind ≡ XPRS → ⊥) → (kind ≡ FTCH → ⊥) → kind < ANNC → Answered e (e .clock) m y → Right e (Arrival (b ∷ s)) (give (Out (bytesOf y)) left)
+    answer-out kind left h w above no-express no-fetch below for =
         let y = aboutName kind (momentOf e) (messageName m) (m .sender) (held .cue ∷ []) in
         out-right e (Arrival (b ∷ s)) y left w (record {
           sender = refl;
@@ -327,6 +369,8 @@ module _ (e : End) (f : SoundState e) where
               subst (λ (x : List ℕ). Answered e (e .clock) (meaningFrom x) y) same for;
           fetches = λ name p. let z : _≡_ {A = ℕ} 0 1 = cc in absurd (omega arith);
           fetched = λ i. absurd (no-fetch i);
+          announces = λ p. let z : _≡_ {A = ℕ} 0 1 = cc in absurd (omega arith);
+          announced = λ i. absurd (omega (arith, below));
           lacks = λ i. absurd (omega (arith, above));
           express = λ i. absurd (no-express i);
           holds = λ _. (h, refl);
@@ -340,7 +384,7 @@ module _ (e : End) (f : SoundState e) where
         let y = repairMessage (momentOf e) (messageName m) (m .sender) (held .cue) in
         let w = held-written REPL refl refl (messageName m) (m .sender) h (message-in (b ∷ s) read .sender) other (express-source (b ∷ s) read k) in
         let kind = eqb-true (m .kind) XPRS k in
-        answer-out REPL left h w (omega arith) (λ i. omega arith) (λ i. omega arith)
+        answer-out REPL left h w (omega arith) (λ i. omega arith) (λ i. omega arith) (omega arith)
         (atOnce (record { express = kind; named = named; over = over; repair = refl; name = refl; requester = refl }))
 
     expresses-right : (says : Says) → eqb (m .kind) (kindOf says) ≡ true → says ≡ Xprs → isHeld (held .slot) ≡ true → held .hush ≤ e .clock
@@ -379,7 +423,7 @@ module _ (e : End) (f : SoundState e) where
         (λ t.
         let both = and-both (sameHost (messageHost m) (e .host)) (isHeld (held .slot)) t in
         let w = held-written LATE refl refl (messageName m) (m .sender) (both .1) (message-in (b ∷ s) read .sender) other (fetch-source (b ∷ s) read k) in
-        answer-out LATE e (both .1) w (omega arith) (λ i. omega arith) (λ i. omega arith)
+        answer-out LATE e (both .1) w (omega arith) (λ i. omega arith) (λ i. omega arith) (omega arith)
         (fetched (record { fetch = eqb-true (m .kind) FTCH k; tried = both .0; late = refl; name = refl; asker = refl })))
         (λ _. silent-right e _ _ refl)
 
@@ -398,7 +442,8 @@ module _ (e : End) (f : SoundState e) where
         (λ _. byCond R (eqb (m .kind) XPRS) (word-right Xprs)
         (λ _. byCond R (eqb (m .kind) FTCH) fetched-right
         (λ _. byCond R (eqb (m .kind) LATE) (λ _. silent-right e _ _ handed-silent)
-        (λ _. silent-right e _ _ refl))))))
+        (λ _. byCond R (eqb (m .kind) ANNC) (λ _. silent-right e _ _ refl)
+        (λ _. silent-right e _ _ refl)))))))
 
   arrival-right : (us : List ℕ) (b : ℕ) (s : List ℕ) → firstNo (messageQuestions (b ∷ s)) ≡ 0 → Right e (Arrival (b ∷ s)) (arrivalOf us (meaningFrom (b ∷ s)) e)
   unfolding arrivalOf
@@ -450,6 +495,10 @@ fetches-clock e t name y r = record {
   lower = λ k l m. r .lower k l (may-clock e t name k m);
 }
 
+announces-clock : (e : End) (t : ℕ) (y : Meaning) → Announces (withClock e t) y → Announces e y
+announces-clock e t y r =
+    record { kind = r .kind; first = r .first; last = r .last; own = r .own; names = r .names; rising = r .rising; window = r .window }
+
 before-clock : (e : End) (a : Action) (t : ℕ) (x : List ℕ) → RightOut (withClock e t) a t x → RightOut e a t x
 before-clock e a t x r =
     let y = r .message in
@@ -463,6 +512,8 @@ before-clock e a t x r =
         answered = λ b s p. answered-clock e t (meaningFrom (b ∷ s)) (meaningFrom x) (y .answered b s p);
         fetches = λ name p. fetches-clock e t name (meaningFrom x) (y .fetches name p);
         fetched = y .fetched;
+        announces = λ p. announces-clock e t (meaningFrom x) (y .announces p);
+        announced = y .announced;
         lacks = y .lacks;
         express = y .express;
         holds = y .holds;

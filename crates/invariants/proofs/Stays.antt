@@ -9,21 +9,23 @@ use lib.Dec.{eqb}
 use borrow.Author.Tests.{eqb-true, ltb-true}
 use Rattle.message.specs.declared.Host.{Host}
 use Rattle.message.specs.Entry.{asHost}
-use Rattle.message.specs.Message.{DATA, RQST, REPL, XPRS, FTCH, LATE, meaningFrom}
+use Rattle.message.specs.Message.{DATA, RQST, REPL, XPRS, FTCH, LATE, ANNC, meaningFrom}
 use Rattle.message.specs.Question.{ask, firstNo, hostIn, messageQuestions, sameHost}
 use Rattle.message.proofs.QuestionLaws.{and-both, all-passed}
 use Rattle.end.specs.declared.Params.{Params}
 use Rattle.end.specs.declared.Status.the-variants.{Idle, Crashed}
 use Rattle.end.specs.declared.Says.{Says}
 use Rattle.end.specs.declared.Says.the-variants.{Data, Rqst, Repl, Xprs}
+use Rattle.end.specs.declared.Span.{Span}
+use Rattle.end.specs.declared.Span.the-variants.{Closed, Open}
 use Rattle.end.specs.declared.End.{End}
-use Rattle.end.specs.State.{freshEnd, isMember, isCrashed, withClock}
+use Rattle.end.specs.State.{freshEnd, sourceAt, isMember, isCrashed, momentOf, withClock}
 use Rattle.end.specs.Round.{Drawn}
 use Rattle.end.specs.Sound.{allOf, paramsTests, delayIn, soundOf}
 use Rattle.end.specs.Answer.{Step, Result}
 use Rattle.end.specs.Arrival.{messageName, requesterIn, wordOf, wordStep, messageStep, arrivalOf}
 use Rattle.end.specs.Fire.{earliest}
-use Rattle.end.specs.Event.{Action, Moves, Send, Arrival, Else, Other, Fire, Report, Fetch, otherOf, actOf, stepOf, ownQuestions, questionOf, eventOf}
+use Rattle.end.specs.Event.{Action, Moves, Send, Arrival, Else, Other, Fire, Report, Announce, Fetch, announced, otherOf, actOf, stepOf, ownQuestions, questionOf, eventOf}
 use Rattle.end.specs.Opening.{constrainedTests, openRefusal, houseParams, endFor, openingOf}
 use Rattle.end.specs.Run.{CueArray}
 use Rattle.end.proofs.Tools.{byCond, clash′}
@@ -121,15 +123,21 @@ module _ (e : End) (f : SoundState e) (us : List ℕ) (drawn : Drawn us) (member
         (λ _. byCond Leaves (eqb (m .kind) XPRS) (word-kept Xprs)
         (λ _. byCond Leaves (eqb (m .kind) FTCH) (λ _. fetched-kept e f m)
         (λ _. byCond Leaves (eqb (m .kind) LATE) (λ _. handed-kept e f m (v .source))
-        (λ _. session-kept us drawn m (v .sender) (v .stamp) e f member other (v .reports)))))))
+        (λ _. byCond Leaves (eqb (m .kind) ANNC) (λ _. f)
+        (λ _. session-kept us drawn m (v .sender) (v .stamp) e f member other (v .reports))))))))
 
   arrival-kept : (x : List ℕ) → firstNo (messageQuestions x) ≡ 0 → Leaves (arrivalOf us (meaningFrom x) e)
   unfolding arrivalOf
   arrival-kept x read = byCond Leaves (sameHost (meaningFrom x .sender) (e .host)) (λ _. f) (message-kept x read)
 
+  announced-kept : (x : Span) → Leaves (announced (momentOf e) x e)
+  announced-kept Closed = f
+  announced-kept (Open first last) = f
+
   other-kept : (o : Other) → Leaves (otherOf us o e)
   other-kept Fire = fired-kept e f member us drawn (earliest e 8)
   other-kept Report = f
+  other-kept Announce = announced-kept (sourceAt e (e .host) .span)
   other-kept (Fetch name) = fetch-kept e f name
 
 -- ---- every event

@@ -1,6 +1,6 @@
 -- The messages that a sound end puts out pass questions 9, 10 and 11.
 use mathlib.Core.Path.{_≡_, refl, sym, ap, _∙_}
-use Prim.Native.Nat.{ℕ, zero, suc, _-_, _≤_, _<_}
+use Prim.Native.Nat.{ℕ, zero, suc, _+_, _-_, _≤_, _<_}
 use native.Mathlib.Omega.{arith}
 use mathlib.Core.Bool.{Bool, true, false, not, _&&_}
 use mathlib.Core.List.{List, [], _∷_}
@@ -8,6 +8,7 @@ use lib.ListN.{length, getD, length-append}
 use borrow.Author.Tests.{eq-eqb, lt-ltb, le-leb, ltb-true}
 use Rattle.numbers.proofs.Cases.{by-order}
 use Rattle.message.specs.declared.Host.{Host}
+use Rattle.message.specs.declared.CueNumber.{CueNumber}
 use Rattle.message.specs.declared.Name.{Name}
 use Rattle.message.specs.declared.Echo.{Echo}
 use Rattle.message.specs.Cue.{cueIn}
@@ -15,8 +16,8 @@ use Rattle.message.specs.Section.{all, rises}
 use Rattle.message.specs.Entry.{asHost}
 use Rattle.message.specs.declared.HostRule.the-variants.{NeitherSenderNorSource, AnotherOfAnother}
 use Rattle.message.specs.Kind.{rowOf, mostNumber}
-use Rattle.message.specs.Message.{DATA, RQST, SESS, countsOf}
-use Rattle.message.specs.Question.{firstNo, meaningQuestions, kindHasCounts, inRange, hostsFit, hostIn, reportIn, echoIn, notFrom, reportSource, echoHost, sameHost, ticksIn}
+use Rattle.message.specs.Message.{DATA, RQST, SESS, ANNC, countsOf}
+use Rattle.message.specs.Question.{firstNo, meaningQuestions, kindHasCounts, inRange, windowFits, hostsFit, hostIn, reportIn, echoIn, notFrom, reportSource, echoHost, sameHost, ticksIn}
 use Rattle.message.proofs.QuestionLaws.{and-both}
 use Rattle.end.specs.declared.Span.{Span}
 use Rattle.end.specs.declared.Span.the-variants.{Closed, Open}
@@ -25,7 +26,7 @@ use Rattle.end.specs.declared.Heard.the-variants.{Never, At}
 use Rattle.end.specs.declared.End.{End}
 use Rattle.end.specs.State.{noSource, momentOf}
 use Rattle.end.specs.Sound.{allOf, spanTests, heardTests}
-use Rattle.end.specs.Messages.{aboutName, dataMessage, requestMessage, sessionMessage, reportOn, echoOn, reportsBelow, echoesBelow}
+use Rattle.end.specs.Messages.{aboutName, dataMessage, requestMessage, announceMessage, sessionMessage, reportOn, echoOn, reportsBelow, echoesBelow}
 use Rattle.end.specs.Event.{ownName}
 use Rattle.end.proofs.SoundLaws.{nth}
 use Rattle.end.proofs.Tools.{clash′}
@@ -41,12 +42,12 @@ module _ (e : End) (f : SoundState e) where
   clock-in = lt-ltb (e .clock) 281474976710656 (f .clock)
 
   pub data-passes : (cue : List ℕ) → e .next < 65536 → cueIn cue ≡ true → firstNo (meaningQuestions DATA (dataMessage (momentOf e) (ownName e) cue)) ≡ 0
-  unfolding inRange hostsFit all rises
+  unfolding inRange hostsFit windowFits all rises
   data-passes cue l fits = rw (host-in, clock-in, le-leb (e .next) 65535 (omega arith), fits, eq-eqb (e .host .0) (e .host .0) refl)
 
   pub request-passes : (name : Name) → name .source .0 < 8 → name .number .0 < 65536 → sameHost (e .host) (name .source) ≡ false
       → firstNo (meaningQuestions RQST (requestMessage (momentOf e) name)) ≡ 0
-  unfolding inRange hostsFit all rises
+  unfolding inRange hostsFit windowFits all rises
   request-passes name hs hn other =
       rw (host-in, clock-in, lt-ltb (name .source .0) 8 hs, le-leb (name .number .0) 65535 (omega arith), eq-eqb (e .host .0) (e .host .0) refl, other)
 
@@ -54,7 +55,7 @@ module _ (e : End) (f : SoundState e) where
   pub asking-passes : (kind : ℕ) → mostNumber kind ≡ 65535 → rowOf kind .host ≡ AnotherOfAnother → (name : Name) (k : Host) → name .source .0 < 8
       → name .number .0 < 65536 → k .0 < 8 → sameHost k (e .host) ≡ false → sameHost (name .source) (e .host) ≡ false
       → firstNo (meaningQuestions kind (aboutName kind (momentOf e) name k [])) ≡ 0
-  unfolding inRange hostsFit all rises
+  unfolding inRange hostsFit windowFits all rises
   asking-passes kind most rule name k hs hn hk a b =
       rw (most, rule, host-in, clock-in, lt-ltb (name .source .0) 8 hs, le-leb (name .number .0) 65535 (omega arith), lt-ltb (k .0) 8 hk, a, b)
 
@@ -62,9 +63,18 @@ module _ (e : End) (f : SoundState e) where
   pub carrying-passes : (kind : ℕ) → mostNumber kind ≡ 65535 → rowOf kind .host ≡ NeitherSenderNorSource → (name : Name) (k : Host) (cue : List ℕ)
       → name .source .0 < 8 → name .number .0 < 65536 → k .0 < 8 → cueIn cue ≡ true → sameHost k (e .host) ≡ false → sameHost k (name .source) ≡ false
       → firstNo (meaningQuestions kind (aboutName kind (momentOf e) name k (cue ∷ []))) ≡ 0
-  unfolding inRange hostsFit all rises
+  unfolding inRange hostsFit windowFits all rises
   carrying-passes kind most rule name k cue hs hn hk fits a b =
       rw (most, rule, host-in, clock-in, lt-ltb (name .source .0) 8 hs, le-leb (name .number .0) 65535 (omega arith), lt-ltb (k .0) 8 hk, fits, a, b)
+
+  -- ---- kind 24, whose last is from its first to 63 above it
+  pub announce-passes : (first last : CueNumber) → first .0 ≤ last .0 → last .0 ≤ first .0 + 63 → last .0 < 65536
+      → firstNo (meaningQuestions ANNC (announceMessage (momentOf e) first last)) ≡ 0
+  unfolding inRange hostsFit windowFits all rises
+  announce-passes first last low most below =
+      let lowest = le-leb (first .0) 65535 (omega arith) in
+      let highest = le-leb (last .0) 65535 (omega arith) in
+      rw (host-in, clock-in, lowest, highest, eq-eqb (e .host .0) (e .host .0) refl, le-leb (first .0) (last .0) low, le-leb (last .0) (first .0 + 63) most)
 
   -- ---- SESS: the reports
   report-one : (k : ℕ) → k < 8 → (own : Bool) (next missed : ℕ) (x : Span) → allOf (spanTests own next missed x) ≡ true
@@ -131,7 +141,7 @@ module _ (e : End) (f : SoundState e) where
       λ i. le-leb (length (reportsBelow e 8)) 8 (reports 8 (omega arith) .short) i && le-leb (length (echoesBelow e 8)) 7 less i
 
   pub session-passes : firstNo (meaningQuestions SESS (sessionMessage e)) ≡ 0
-  unfolding inRange hostsFit all rises isEcho
+  unfolding inRange hostsFit windowFits all rises isEcho
   session-passes =
       let r = reports 8 (omega arith) in
       let x = echoes 8 (omega arith) in

@@ -2,24 +2,27 @@
 use mathlib.Core.Path.{_≡_}
 use mathlib.Core.Bool.{true, false}
 use mathlib.Core.List.{List, [], _∷_}
-use Prim.Native.Nat.{ℕ, _≤_, _<_}
+use Prim.Native.Nat.{ℕ, _+_, _≤_, _<_}
 use Rattle.numbers.specs.Bits.{bit}
 use Rattle.message.specs.declared.Host.{Host}
+use Rattle.message.specs.declared.CueNumber.{CueNumber}
 use Rattle.message.specs.declared.Name.{Name}
-use Rattle.message.specs.Message.{DATA, RQST, REPL, SESS, XPRS, FTCH, LATE, Meaning, meaningFrom}
+use Rattle.message.specs.Message.{DATA, RQST, REPL, SESS, XPRS, FTCH, LATE, ANNC, Meaning, meaningFrom}
 use Rattle.message.specs.Question.{sameHost, readOf}
 use Rattle.message.specs.declared.Verdict.the-variants.{Accepted}
+use Rattle.end.specs.declared.Span.the-variants.{Open}
 use Rattle.end.specs.declared.Pair.{Pair}
 use Rattle.end.specs.declared.Record.{Record}
 use Rattle.end.specs.declared.End.{End}
-use Rattle.end.specs.State.{sourceAt, distanceTo}
+use Rattle.end.specs.State.{sourceAt, distanceTo, momentOf}
 use Rattle.end.specs.Records.{recordAt, isHeld, fetchable}
 use Rattle.end.specs.Sound.{isNoPair}
 use Rattle.end.specs.Answer.{Out, Did}
+use Rattle.end.specs.Messages.{ownEntry}
 use Rattle.end.specs.Arrival.{messageName, messageHost, messageCue}
 use Rattle.end.specs.Fire.{keptSender}
 use Rattle.end.specs.Fetch.{attemptOn, reportedBy}
-use Rattle.end.specs.Event.{Action, Send, Arrival, Else, Fetch, ownName, eventOf}
+use Rattle.end.specs.Event.{Action, Send, Arrival, Else, Announce, Fetch, ownName, eventOf}
 use Rattle.end.specs.Run.{CueArray}
 
 -- what an end keeps under a name, and the pair that it keeps of the name's source
@@ -72,6 +75,17 @@ pub record Fetches (e : End) (asked : Name) (out : Meaning) : Type 0 where
   pub least : (k : Host) → k .0 < 8 → MayTry e asked k → distanceTo e (messageHost out) ≤ distanceTo e k
   pub lower : (k : Host) → k .0 < messageHost out .0 → MayTry e asked k → distanceTo e (messageHost out) < distanceTo e k
 
+-- what goes out by an Announce. Document 02, P11: "has a member put out its own first and last as trail and lead in kind 24, two names .. with
+-- the sender as source and host"; "lead is from trail to trail+63"
+pub record Announces (e : End) (out : Meaning) : Type 0 where
+  pub kind : out .kind ≡ ANNC
+  pub first : CueNumber
+  pub last : CueNumber
+  pub own : sourceAt e (e .host) .span ≡ Open first last
+  pub names : out .names ≡ ownEntry (momentOf e) first ∷ ownEntry (momentOf e) last ∷ []
+  pub rising : first .0 ≤ last .0
+  pub window : last .0 ≤ first .0 + 63
+
 -- a message that is right to put out in a call with this action and this clock, on this end
 pub record RightMessage (e : End) (a : Action) (clock : ℕ) (m : Meaning) : Type 0 where
   -- the sender is the end's own host, and the stamp is the clock
@@ -85,6 +99,9 @@ pub record RightMessage (e : End) (a : Action) (clock : ℕ) (m : Meaning) : Typ
   -- by a Fetch goes out a kind 22 for its name, and by nothing else
   pub fetches : (name : Name) → a ≡ Else (Fetch name) → Fetches e name m
   pub fetched : m .kind ≡ FTCH → a ≡ Else (Fetch (messageName m))
+  -- by an Announce goes out a kind 24 with the own first and last, and by nothing else
+  pub announces : a ≡ Else Announce → Announces e m
+  pub announced : m .kind ≡ ANNC → a ≡ Else Announce
   -- a RQST names a cue that the end lacks
   pub lacks : m .kind ≡ RQST → isHeld (keptUnder e (messageName m) .slot) ≡ false
   -- an XPRS too, and its host is the sender of the pair that the end keeps of the source

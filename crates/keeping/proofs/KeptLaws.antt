@@ -83,6 +83,7 @@ moved-anyway h event.Arrival cue = refl
 moved-anyway h event.Fire cue = refl
 moved-anyway h event.Report cue = refl
 moved-anyway h (event.Fetch name) cue = refl
+moved-anyway h event.Announce cue = refl
 
 -- the first bytes, of those that there are
 pub first-bytes : (n k : ℕ) (s : List ℕ) → k ≡ min n (length s) → take k s ≡ take n s

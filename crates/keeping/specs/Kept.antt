@@ -1,16 +1,16 @@
 -- The line that a call leaves in a run's record, as the functions here have it: by the declared event, and by the answer and the output of the
--- call. Which lines these are is `linesOf` of the crate record, what an answer and an output say is `readOff` of the crate cases.
+-- call. Which lines these are is `linesOf` of the crate record, what an answer and an output say is `readOff` of the crate end.
 use mathlib.Core.List.{List, [], _∷_}
 use Prim.Native.Nat.{ℕ}
 use Rattle.message.specs.declared.Host.{Host}
 use Rattle.end.specs.declared.Event.{Event}
 use Rattle.end.specs.declared.Answer.{Answer}
+use Rattle.end.specs.Answer.{readOff}
 use Rattle.end.specs.Event.{actionOf}
 use Rattle.record.specs.declared.Said.{Said}
 use Rattle.record.specs.declared.Said.the-variants.{Malformed, Moved, Sent, Got}
 use Rattle.record.specs.declared.Line.{Line}
 use Rattle.record.specs.Kept.{linesOf}
-use Rattle.cases.specs.Shown.{readOff}
 
 -- a call leaves one line or none; for none a malformed one stands, which no call leaves
 abbrev pub keptBy : Said → Line → List Line

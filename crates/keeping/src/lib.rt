@@ -55,6 +55,7 @@ fn moved_line(host: Host, what: Event) -> Line
         Event::Fire => none(),
         Event::Report => none(),
         Event::Fetch(_) => none(),
+        Event::Announce => none(),
     }
 }
 
@@ -97,6 +98,7 @@ fn out_line(host: Host, what: Event, cue: [u8; 24], bytes: &[u8]) -> Line
         Event::Fire => none(),
         Event::Report => none(),
         Event::Fetch(_) => none(),
+        Event::Announce => none(),
     }
 }
 

@@ -15,7 +15,7 @@ use Rattle.message.specs.Question.{ask, firstNo, verdictFor, refusalOf, ticksIn
 use Rattle.message.proofs.QuestionLaws.{all-passed, most-below, range-rises, counts-fit, number-of-verdict}
 use Rattle.message.proofs.LayoutLaws.{held-back}
 use Rattle.end.specs.declared.Event.{Event}
-use Rattle.end.specs.declared.Event.the-variants.{Moves, Send, Arrival, Fire, Report, Fetch}
+use Rattle.end.specs.declared.Event.the-variants.{Moves, Send, Arrival, Fire, Report, Fetch, Announce}
 use Rattle.end.specs.declared.End.{End}
 use Rattle.end.specs.State.{isMember, withClock}
 use Rattle.end.specs.Sound.{soundOf}
@@ -41,6 +41,7 @@ read-verdict Arrival bytes = read-number bytes
 read-verdict Fire bytes = tt
 read-verdict Report bytes = tt
 read-verdict (Fetch name) bytes = tt
+read-verdict Announce bytes = tt
 
 -- the message that is read from accepted bytes
 pub record Heard (s : List ℕ) (m : Message) : Type 0 where
@@ -118,6 +119,7 @@ module _ (e : End) (clock : ℕ) (cue bytes : List ℕ) (message : Message) wher
   own-given Fire p h t = tt
   own-given Report p h t = tt
   own-given (Fetch name) p h t = tt
+  own-given Announce p h t = tt
 
   -- what the rules do where the event is taken, and where it is not
   pub acts : (us : List ℕ) (what : Event) → message ≡ readingFor what bytes .message → firstNo (ownQuestions (actionOf what cue bytes) e) ≡ 0
@@ -130,6 +132,7 @@ module _ (e : End) (clock : ℕ) (cue bytes : List ℕ) (message : Message) wher
   acts us Fire p h t = member-acts (withClock e clock) _ t
   acts us Report p h t = member-acts (withClock e clock) _ t
   acts us (Fetch name) p h t = member-acts (withClock e clock) _ t
+  acts us Announce p h t = member-acts (withClock e clock) _ t
 
 pub rests : (us : List ℕ) (what : Event) (cue bytes : List ℕ) (x : End) → takes (countsAs what bytes) (x .status) ≡ false
     → actOf us (actionOf what cue bytes) x ≡ give Ignored x
@@ -140,6 +143,7 @@ rests us Arrival cue bytes x t = arrival-rests us bytes x t
 rests us Fire cue bytes x t = rw t
 rests us Report cue bytes x t = rw t
 rests us (Fetch name) cue bytes x t = rw t
+rests us Announce cue bytes x t = rw t
 
 -- ---- the questions
 -- what a call that is not refused has passed

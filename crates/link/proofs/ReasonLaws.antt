@@ -16,7 +16,7 @@ use Rattle.end.specs.declared.Reason.the-variants.{Crashed, WrongStatus, OwnMes
 use Rattle.end.specs.declared.Why.{Why}
 use Rattle.end.specs.declared.Why.the-variants as why
 use Rattle.end.specs.declared.Event.{Event}
-use Rattle.end.specs.declared.Event.the-variants.{Moves, Send, Arrival, Fire, Report, Fetch}
+use Rattle.end.specs.declared.Event.the-variants.{Moves, Send, Arrival, Fire, Report, Fetch, Announce}
 use Rattle.end.specs.declared.End.{End}
 use Rattle.end.specs.State.{isMember, isCrashed, withClock}
 use Rattle.end.specs.Reasons.{nameReasons, reasons, firstThat}
@@ -26,7 +26,7 @@ use Rattle.end.specs.Fetch.{mayFetch}
 use Rattle.end.specs.Why.{noFetchIn, reasonHolds, refusedAs, because, whyOf, whyRefusal}
 use Rattle.end.proofs.Tools.{byTest, byCond}
 use Rattle.end.specs.Arrival.{namedIn}
-use Rattle.end.proofs.ReasonLaws.{later, orElse, ifNoFetch}
+use Rattle.end.proofs.ReasonLaws.{first-of-both, later, orElse, ifNoFetch}
 use Rattle.receive.specs.Reason.{reasonFor}
 use Rattle.receive.proofs.Reasons.{first-later}
 use Rattle.link.specs.Frame.{readingFor}
@@ -55,11 +55,7 @@ module _ (e : End) (cue : List ℕ) {message : Message} where
   given bytes Fire p h = tt
   given bytes Report p h = tt
   given bytes (Fetch name) p h = tt
-
--- the first of two lists' reasons
-both : (f : Reason → Bool) (l k : List Reason) → orElse (firstThat f l) (firstThat f k) ≡ firstThat f (l ++ k)
-both f [] k = refl
-both f (x ∷ l) k = byTest (f x) (λ t. rw t) (λ t. rw t (both f l k))
+  given bytes Announce p h = tt
 
 by-member : (b : Bool) (x y : Option Reason) → x ≡ y → cond b x (some WrongStatus) ≡ cond (not b) (some WrongStatus) y
 by-member true x y p = p
@@ -97,7 +93,7 @@ module _ (e : End) (clock : ℕ) (cue : List ℕ) (message : Message) where
       ∙ ap (λ (m : Meaning). firstReason Arrival m (withClock e clock)) (heard b s message p h .means)
       ∙ message-first (meaningFrom (b ∷ s))
       ∙ ap (λ (o : Option Reason). Heeded (meaningFrom (b ∷ s)) o)
-      (both (reasonHolds e clock (Arrived (b ∷ s))) nameReasons (NoFetch ∷ []))
+      (sym (first-of-both (reasonHolds e clock (Arrived (b ∷ s))) nameReasons (NoFetch ∷ [])))
 
   pub first-is : (what : Event) (bytes : List ℕ) → message ≡ readingFor what bytes .message → firstNo (ownQuestions (actionOf what cue bytes) e) ≡ 0 → First what bytes
   first-is (Moves m) bytes p h = ap Crash (by-member (moves m (e .status)) none none refl)
@@ -107,6 +103,7 @@ module _ (e : End) (clock : ℕ) (cue : List ℕ) (message : Message) where
   first-is Report bytes p h = ap Crash (by-member (isMember (e .status)) none none refl)
   first-is (Fetch name) bytes p h =
       ap Crash (by-member (isMember (e .status)) _ _ (byTest (mayFetch (withClock e clock) name) (λ t. rw t) (λ t. rw t)))
+  first-is Announce bytes p h = ap Crash (by-member (isMember (e .status)) none none refl)
 
 -- ---- what the call promises
 abbrev pub Reasoned : End → ℕ → Action → Why → Type 0

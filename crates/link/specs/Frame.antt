@@ -13,7 +13,7 @@ use Rattle.message.specs.Message.{Meaning, meaningOf}
 use Rattle.message.specs.Question.{blankMessage, readOf, kindHasCounts, inRange}
 use Rattle.end.specs.declared.Status.{Status}
 use Rattle.end.specs.declared.Event.{Event}
-use Rattle.end.specs.declared.Event.the-variants.{Moves, Send, Arrival, Fire, Report, Fetch}
+use Rattle.end.specs.declared.Event.the-variants.{Moves, Send, Arrival, Fire, Report, Fetch, Announce}
 use Rattle.end.specs.declared.End.{End}
 use Rattle.end.specs.State.{isMember}
 use Rattle.end.specs.Round.{drawCount}
@@ -21,7 +21,7 @@ use Rattle.end.specs.Answer.{Ignored, Step, Outcome, Refused, Did}
 use Rattle.end.specs.Arrival.{arrivalOf}
 use Rattle.end.specs.Fire.{fireOf}
 use Rattle.end.specs.Fetch.{fetchOf}
-use Rattle.end.specs.Event.{moveOf, sendOf, otherOf}
+use Rattle.end.specs.Event.{moveOf, sendOf, announceOf, otherOf}
 use Rattle.end.specs.Event as rules
 use Rattle.state.specs.Settled.{Settled}
 
@@ -37,6 +37,7 @@ readingFor Arrival bytes = readOf bytes
 readingFor Fire bytes = nothingRead
 readingFor Report bytes = nothingRead
 readingFor (Fetch name) bytes = nothingRead
+readingFor Announce bytes = nothingRead
 
 -- a reading that some bytes have
 abbrev pub Brought : Event → Reading → Type 0
@@ -59,6 +60,7 @@ takes Arrival status = isMember status
 takes Fire status = isMember status
 takes Report status = isMember status
 takes (Fetch name) status = isMember status
+takes Announce status = isMember status
 
 -- what an event that is taken does, with the meaning of an arrival's bytes
 abbrev pub acted : List ℕ → Event → List ℕ → Meaning → End → Step
@@ -68,6 +70,7 @@ acted us Arrival cue M e = arrivalOf us M e
 acted us Fire cue M e = fireOf us e
 acted us Report cue M e = otherOf us rules.Report e
 acted us (Fetch name) cue M e = fetchOf name e
+acted us Announce cue M e = announceOf e
 
 -- the outcome of a call with the first no q that is not taken
 abbrev pub untakenFor : ℕ → Outcome
@@ -88,6 +91,7 @@ OwnGiven Arrival e message = Passing message
 OwnGiven Fire e message = Unit {0}
 OwnGiven Report e message = Unit {0}
 OwnGiven (Fetch name) e message = Unit {0}
+OwnGiven Announce e message = Unit {0}
 
 pub record Acting (what : Event) (e : End) (message : Message) (drawn bytes : ℕ) : Type 0 where
   pub settled : Settled e

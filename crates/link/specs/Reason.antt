@@ -13,7 +13,7 @@ use Rattle.end.specs.declared.Status.{Status}
 use Rattle.end.specs.declared.Reason.{Reason}
 use Rattle.end.specs.declared.Reason.the-variants.{Crashed, WrongStatus, NoFetch}
 use Rattle.end.specs.declared.Event.{Event}
-use Rattle.end.specs.declared.Event.the-variants.{Moves, Send, Arrival, Fire, Report, Fetch}
+use Rattle.end.specs.declared.Event.the-variants.{Moves, Send, Arrival, Fire, Report, Fetch, Announce}
 use Rattle.end.specs.declared.End.{End}
 use Rattle.end.specs.State.{isMember, isCrashed}
 use Rattle.end.specs.Event.{moves}
@@ -28,6 +28,7 @@ suits Arrival status = isMember status
 suits Fire status = isMember status
 suits Report status = isMember status
 suits (Fetch name) status = isMember status
+suits Announce status = isMember status
 
 -- the message of an arrival has passed question 10
 abbrev pub Heard : Event → Message → Type 0
@@ -37,6 +38,7 @@ Heard Arrival message = inRange (numberLimit - 1) (meaningOf message) ≡ true
 Heard Fire message = Unit {0}
 Heard Report message = Unit {0}
 Heard (Fetch name) message = Unit {0}
+Heard Announce message = Unit {0}
 
 abbrev pub fetchReason : Name → End → Option Reason
 fetchReason name e = cond (mayFetch e name) none (some NoFetch)
@@ -48,6 +50,7 @@ memberReason Arrival M e = reasonFor M e
 memberReason Fire M e = none
 memberReason Report M e = none
 memberReason (Fetch name) M e = fetchReason name e
+memberReason Announce M e = none
 
 abbrev pub firstReason : Event → Meaning → End → Option Reason
 firstReason what M e = cond (isCrashed (e .status)) (some Crashed) (cond (suits what (e .status)) (memberReason what M e) (some WrongStatus))

@@ -1,4 +1,4 @@
-// The calls of the product: opening an end, its ten events, and why one would be ignored. No call asks anything of its caller: what is
+// The calls of the product: opening an end, its eleven events, and why one would be ignored. No call asks anything of its caller: what is
 // bad is refused by its number, and a refusal changes no byte. All events are one call, `event`, and have one `frame`: the questions, the
 // crashed end, the clock, membership. Each contract gives the answer and the end by `gives` and the output by `leaves`:
 // the crate end, specs/Event.antt. The last says document 01's number of the answer, 0 where the call was not refused, and its values:
@@ -29,7 +29,7 @@ ghost use Rattle.message.specs.Question.{refusalOf};
 ghost use Rattle.end.specs.declared.Move.the-variants.{Join, Joined, Leave, Left, Crash};
 ghost use Rattle.end.specs.Answer.{Did, done, answerOf, calledOf, bufferOf};
 ghost use Rattle.end.specs.Opening.{openRefusal, openingOf};
-ghost use Rattle.end.specs.Event.{Moves, Send, Arrival, Else, Fire, Report, Fetch, actionOf, gives, leaves};
+ghost use Rattle.end.specs.Event.{Moves, Send, Arrival, Else, Fire, Report, Fetch, Announce, actionOf, gives, leaves};
 ghost use Rattle.end.specs.State.{withClock};
 ghost use Rattle.end.specs.Why.{refusedAs, because, whyOf, whyRefusal};
 ghost use Rattle.link.specs.Promise.{AnswerIs, Promised};
@@ -66,6 +66,7 @@ fn reading_for(what: Event, bytes: &[u8]) -> Reading
         Event::Fire => unread(),
         Event::Report => unread(),
         Event::Fetch(_) => unread(),
+        Event::Announce => unread(),
     }
 }
 
@@ -99,6 +100,7 @@ fn takes(what: Event, status: Status) -> bool
         Event::Fire => member,
         Event::Report => member,
         Event::Fetch(_) => member,
+        Event::Announce => member,
     }
 }
 
@@ -140,6 +142,7 @@ fn act(
         Event::Fire => transmit::fire(end, draws, out),
         Event::Report => transmit::report(end, out),
         Event::Fetch(name) => fetch::fetch(end, name, out),
+        Event::Announce => transmit::announce(end, out),
     }
 }
 
@@ -207,6 +210,7 @@ fn suits(what: Event, status: Status) -> bool
         Event::Fire => taken,
         Event::Report => taken,
         Event::Fetch(_) => taken,
+        Event::Announce => taken,
     }
 }
 
@@ -233,6 +237,7 @@ fn member_reason(end: End, what: Event, message: Message) -> Why
         Event::Fire => Why::NoReason,
         Event::Report => Why::NoReason,
         Event::Fetch(name) => fetch_reason(end, name),
+        Event::Announce => Why::NoReason,
     }
 }
 
@@ -377,4 +382,14 @@ pub fn fetch(e: End, clock: u64, draws: &[Draw], name: Name, out: &mut [u8]) -> 
 {
     let reading = unread();
     frame(e, clock, draws, Event::Fetch(name), [0; 24], reading, out)
+}
+
+// Announce: the own first and last go out, for displays.
+pub fn announce(e: End, clock: u64, draws: &[Draw], out: &mut [u8]) -> Stepped
+    ensures { λ r. ⌜ r ≡ gives e (Else Announce) clock (now (draws .entry)) (now (out .entry)) ⌝ }
+    ensures { λ _. ⌜ now (out .exit) ≡ leaves e (Else Announce) clock (now (draws .entry)) (now (out .entry)) ⌝ }
+    ensures { λ r. ⌜ AnswerIs e (Else Announce) clock (now (draws .entry)) (now (out .entry)) (r .answer) ⌝ }
+{
+    let reading = unread();
+    frame(e, clock, draws, Event::Announce, [0; 24], reading, out)
 }

@@ -9,8 +9,10 @@
 -- and P9: "Fetch, kind 22, is shaped as kind 21 with the host tried as host; its cue, kind 23, as REPL":
 --   | 22 FTCH | 1,0,0,0       | not the sender; nor is the source        |
 --   | 23 LATE | 1,1,0,0       | the requester, neither sender nor source |
--- Questions 9 (the counts) and 11 (the host) go by a kind's row. A kind that comes later is a line of `table`, and one of
--- `message::row_of`.
+-- and P11: "kind 24, two names laid out as kind 18's with the sender as source and host":
+--   | 24 ANNC | 2,0,0,0       | the source, also the sender              |
+-- Questions 9 (the counts) and 11 (the host) go by a kind's row; of two names question 11 also compares the numbers (Question.antt). A kind
+-- that comes later is a line of `table`, and one of `message::row_of`.
 use Prim.Native.Nat.{ℕ, _+_, _-_}
 use mathlib.Core.Bool.{Bool, true, false, cond, _&&_}
 use mathlib.Core.List.{List, [], _∷_}
@@ -41,6 +43,9 @@ FTCH = 22
 abbrev pub LATE : ℕ
 LATE = 23
 
+abbrev pub ANNC : ℕ
+ANNC = 24
+
 -- a kind's row: so many names and cues, at most so many reports and echoes, the rule of the host
 abbrev pub row : ℕ → ℕ → ℕ → ℕ → HostRule → Row
 row names cues reports echoes host = record { known = true; names = names; cues = cues; reports = reports; echoes = echoes; host = host }
@@ -54,6 +59,7 @@ table =
     ∷ (XPRS, row 1 0 0 0 AnotherOfAnother)
     ∷ (FTCH, row 1 0 0 0 AnotherOfAnother)
     ∷ (LATE, row 1 1 0 0 NeitherSenderNorSource)
+    ∷ (ANNC, row 2 0 0 0 SourceAndSender)
     ∷ []
 
 -- what a byte has that is no kind

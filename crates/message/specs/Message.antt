@@ -13,7 +13,7 @@ use Rattle.message.specs.declared.Report.{Report}
 use Rattle.message.specs.declared.Echo.{Echo}
 use Rattle.message.specs.declared.Counts.{Counts}
 use Rattle.message.specs.declared.Message.{Message}
-pub use Rattle.message.specs.Kind.{DATA, RQST, REPL, SESS, XPRS, FTCH, LATE, isOld, kindOf, kindShift, numberWidth, mostNumber}
+pub use Rattle.message.specs.Kind.{DATA, RQST, REPL, SESS, XPRS, FTCH, LATE, ANNC, isOld, kindOf, kindShift, numberWidth, mostNumber}
 
 -- What a message says.
 pub record Meaning : Type 0 where

@@ -1,6 +1,6 @@
 -- The questions that the reader and the writer ask, and their answers. Document 01, "The questions, in this order".
-use Prim.Native.Nat.{ℕ, zero, suc}
-use mathlib.Core.Bool.{Bool, false, cond, not, _&&_}
+use Prim.Native.Nat.{ℕ, zero, suc, _+_}
+use mathlib.Core.Bool.{Bool, true, false, cond, not, _&&_}
 use mathlib.Core.List.{List, [], _∷_, _++_}
 use mathlib.Core.Option.{Option, none, some}
 use lib.ListN.{length, drop}
@@ -52,8 +52,8 @@ refusalOf verdict.Accepted = 0
 refusalOf verdict.Probe = 0
 refusalOf (verdict.Refused k) = k
 
--- ---- 9: "Is the kind 1..4 with its counts?": the table's second column, of the kinds 17 to 20 that P7 has for 1 to 4, of P8's 21 and of
--- P9's 22 and 23
+-- ---- 9: "Is the kind 1..4 with its counts?": the table's second column, of the kinds 17 to 20 that P7 has for 1 to 4, of P8's 21, P9's 22 and 23
+-- and P11's 24
 
 abbrev pub hasCounts : Row → Counts → Bool
 hasCounts r c =
@@ -95,7 +95,8 @@ sameHost a b = eqb (a .0) (b .0)
 
 -- the host beside a name, by its rule, whether it is the source, whether it is the sender, and whether the source is the sender. DATA: "the
 -- source, also the sender"; RQST: "the sender, not the source"; REPL: "the requester, neither sender nor source"; document 02, P8, kind 21:
--- "host and source differ from its own sender"; P9: kind 22 "is shaped as kind 21", kind 23 "as REPL"; a kind with the host "none" has no names
+-- "host and source differ from its own sender"; P9: kind 22 "is shaped as kind 21", kind 23 "as REPL"; P11, kind 24: "with
+-- the sender as source and host", as DATA; a kind with the host "none" has no names
 abbrev pub ruleHolds : HostRule → Bool → Bool → Bool → Bool
 ruleHolds SourceAndSender source sender own = source && sender
 ruleHolds SenderNotSource source sender own = sender && not source
@@ -118,10 +119,21 @@ echoHost e = e .host .0
 abbrev pub notFrom : Host → Echo → Bool
 notFrom sender e = not (sameHost (e .host) sender)
 
+-- document 02, P11, of kind 24, which alone has two names (question 9 was asked before): "lead is from trail to trail+63, else 11". A kind with
+-- two names that comes later has this test too
+unfoldable pub windowFits : List NameEntry → Bool
+windowFits [] = true
+windowFits (n ∷ []) = true
+windowFits (trail ∷ lead ∷ more) =
+    let low = trail .name .number .0 in
+    let high = lead .name .number .0 in
+    leb low high && leb high (low + 63)
+
 unfoldable pub hostsFit : Meaning → Bool
 hostsFit M =
     all (hostFits (M .kind) (M .sender)) (M .names)
-    && (rises reportSource (M .reports) && (rises echoHost (M .echoes) && all (notFrom (M .sender)) (M .echoes)))
+    && (rises reportSource (M .reports)
+    && (rises echoHost (M .echoes) && (all (notFrom (M .sender)) (M .echoes) && windowFits (M .names))))
 
 -- ---- The reader: questions 8, 9, 10, 11.
 

@@ -10,7 +10,7 @@ ghost use Rattle.message.specs.Cue.{fieldsOf, stepsIn, stepsAt, cueIn, c
 ghost use Rattle.message.specs.Section.{all, rises};
 ghost use Rattle.message.specs.Message.{meaningOf};
 ghost use Rattle.message.specs.Kind.{rowOf, row, isOld, kindOf, numberWidth, widestNumber, mostNumber};
-ghost use Rattle.message.specs.Question.{hasCounts, kindHasCounts, nameIn, reportIn, echoIn, inRange, ruleHolds, hostFits, notFrom, reportSource, echoHost, hostsFit, meaningQuestions, firstNo, blankMessage};
+ghost use Rattle.message.specs.Question.{hasCounts, kindHasCounts, nameIn, reportIn, echoIn, inRange, ruleHolds, hostFits, notFrom, reportSource, echoHost, windowFits, hostsFit, meaningQuestions, firstNo, blankMessage};
 
 // A controller on the network, 0..7.
 pub struct Host(pub u8);
@@ -143,6 +143,8 @@ pub const FTCH: u8 = 22;
 
 pub const LATE: u8 = 23;
 
+pub const ANNC: u8 = 24;
+
 // The old kinds, which are still read: from the first to the last, each so much below the kind that it stands for.
 const OLD_FIRST: u8 = 1;
 
@@ -189,6 +191,7 @@ pub fn row_of(kind: u8) -> Row
         XPRS => known(1, 0, 0, 0, HostRule::AnotherOfAnother),
         FTCH => known(1, 0, 0, 0, HostRule::AnotherOfAnother),
         LATE => known(1, 1, 0, 0, HostRule::NeitherSenderNorSource),
+        ANNC => known(2, 0, 0, 0, HostRule::SourceAndSender),
         _ => Row {
             known: false,
             names: 0,
@@ -455,6 +458,20 @@ fn echoes_not_from(sender: Host, echoes: [Echo; 7], count: usize) -> bool
     ok
 }
 
+// Of two names the second's number is from the first's to 63 above it. The sum is taken in 32 bits, where it fits.
+fn window_fits(names: [NameEntry; 2], count: usize) -> bool
+    ensures { λ r. ⌜ r ≡ windowFits (take count names) ⌝ }
+{
+    if count < NAME_PLACES {
+        return true;
+    }
+    let trail = names[0];
+    let lead = names[1];
+    let low = trail.name.number.0 as u32;
+    let high = lead.name.number.0 as u32;
+    (low <= high) & (high <= low + 63)
+}
+
 // Question 10, with the greatest cue number.
 fn in_range(most: u16, m: Message) -> bool
     ensures { λ r. ⌜ r ≡ inRange most (meaningOf m) ⌝ }
@@ -483,7 +500,8 @@ fn hosts_fit(m: Message) -> bool
     names_fit(m.kind, m.sender, names, counts.names)
         & (reports_rise(reports, counts.reports)
             & (echoes_rise(echoes, counts.echoes)
-                & echoes_not_from(m.sender, echoes, counts.echoes)))
+                & (echoes_not_from(m.sender, echoes, counts.echoes)
+                    & window_fits(names, counts.names))))
 }
 
 // Questions 10 and 11, of any message and the byte that said its kind: the number of the first that is answered no, or 0.

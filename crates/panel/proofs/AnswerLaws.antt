@@ -17,7 +17,7 @@ use Rattle.message.specs.Kind.{mostNumber}
 use Rattle.message.specs.Entry.{cueWidth}
 use Rattle.message.specs.Section.{all, rises, flat, section}
 use Rattle.message.specs.Message.{DATA, Meaning, Saying, bytesOf, bytesWith, heldAs}
-use Rattle.message.specs.Question.{refusalOf, inRange, hostsFit, writeRefusal, writtenOf, outputOf}
+use Rattle.message.specs.Question.{refusalOf, inRange, windowFits, hostsFit, writeRefusal, writtenOf, outputOf}
 use Rattle.message.specs.declared.Written.{Written}
 use Rattle.message.proofs.QuestionLaws.{and-both}
 use Rattle.panel.specs.Answers.{isWhole, cueTestOf, ownData, dataRefusal, dataAnswer, dataOutput}
@@ -98,7 +98,7 @@ module _ (sender number stamp : ℕ) (cue out : List ℕ) where
 
   -- 11 cannot be answered no: host and source are the sender
   hosts-fit : hostsFit said ≡ true
-  unfolding hostsFit all rises
+  unfolding hostsFit windowFits all rises
   hosts-fit = rw (eq-eqb sender sender refl)
 
   -- the first no in plain tests

@@ -16,6 +16,7 @@ pub fn kind_word(kind: u8) -> u64 {
         message::XPRS => words::XPRS,
         message::FTCH => words::FTCH,
         message::LATE => words::LATE,
+        message::ANNC => words::ANNC,
         _ => 0,
     }
 }
@@ -67,7 +68,7 @@ fn echoes(out: &mut [u8; 65536], n: &mut [usize; 20], all: [Echo; 7], count: usi
     }
 }
 
-// The name and the cue, as far as there are any.
+// The names and the cue, as far as there are any.
 fn named(out: &mut [u8; 65536], n: &mut [usize; 20], m: Message) {
     let counts = m.counts;
     let names = m.names;
@@ -75,6 +76,10 @@ fn named(out: &mut [u8; 65536], n: &mut [usize; 20], m: Message) {
     if 0 < counts.names {
         let first = names[0];
         name(out, n, first);
+    }
+    if 1 < counts.names {
+        let second = names[1];
+        name(out, n, second);
     }
     if 0 < counts.cues {
         cue(out, n, &bytes);

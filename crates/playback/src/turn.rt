@@ -1,5 +1,4 @@
 // One line, played.
-use crate::input;
 use crate::play;
 use end::Draw;
 use end::End;
@@ -143,7 +142,7 @@ fn over(
     store: &[u8; 17408],
     text: &mut [u8; 65536],
 ) -> Turn {
-    if got == input::END {
+    if got == intake::END {
         play::last(store, text, n);
     } else {
         desk::count(n, desk::LINES);
@@ -167,7 +166,7 @@ pub fn next(
     if n[desk::LINES] == 0 {
         desk::start(n, draws);
     }
-    let got = input::next(buffer, n, line);
+    let got = intake::next(buffer, n, line);
     let p = trace::cut::cut(line, got);
     if trace::LONGEST < got {
         return over(p, got, n, store, text);

@@ -9,7 +9,7 @@ use lib.Dec.{eqb, lit≤}
 use borrow.Author.Tests.{eqb-true}
 use Rattle.message.specs.Section.{entries, sectionFrom}
 use Rattle.message.specs.Entry.{cueOf, blankCue}
-use Rattle.message.specs.Message.{DATA, RQST, REPL, XPRS, FTCH, LATE, numberWidth, kindByte, Meaning, meaningWith, meaningFrom, sizeFrom, fromCues}
+use Rattle.message.specs.Message.{DATA, RQST, REPL, XPRS, FTCH, LATE, ANNC, numberWidth, kindByte, Meaning, meaningWith, meaningFrom, sizeFrom, fromCues}
 use Rattle.message.specs.Question.{messageQuestions, sameHost, firstNo}
 use Rattle.message.specs.declared.Name.{Name}
 use Rattle.message.proofs.LayoutLaws.{cues-at, cues-count, atCues, countsWith}
@@ -24,6 +24,8 @@ use Rattle.end.specs.declared.Nearest.{Nearest}
 use Rattle.end.specs.declared.Nearest.the-variants.{Nobody, Found}
 use Rattle.end.specs.declared.Says.{Says}
 use Rattle.end.specs.declared.Says.the-variants.{Data, Rqst, Repl, Xprs}
+use Rattle.end.specs.declared.Span.{Span}
+use Rattle.end.specs.declared.Span.the-variants.{Closed, Open}
 use Rattle.end.specs.declared.Moment.{Moment}
 use Rattle.end.specs.declared.Record.{Record}
 use Rattle.end.specs.declared.Word.{Word}
@@ -36,7 +38,7 @@ use Rattle.end.specs.Session.{sessionOf}
 use Rattle.end.specs.Fetch.{mayFetch, nearest, tryOf, fetchOf, mayAnswer, fetchedOf, mayHand, lateOf}
 use Rattle.end.specs.Arrival.{messageCue, wordOf, wordStep, messageStep, arrivalOf}
 use Rattle.end.specs.Fire.{expressRank, earliest, fireAt, fired}
-use Rattle.end.specs.Event.{Action, Moves, Send, Arrival, Else, Fire, Report, Fetch, moves, moveOf, actOf, stepOf, questionOf, ownQuestions, eventOf}
+use Rattle.end.specs.Event.{Action, Moves, Send, Arrival, Else, Fire, Report, Announce, Fetch, announced, moves, moveOf, actOf, stepOf, questionOf, ownQuestions, eventOf}
 use Rattle.end.proofs.Tools.{byCond}
 use Rattle.end.proofs.Service.Frame.{passes}
 
@@ -92,7 +94,8 @@ wide-message us m e h =
     (λ _. byCond WideStep (eqb (m .kind) REPL) (λ _. word Repl)
     (λ _. byCond WideStep (eqb (m .kind) XPRS) (λ _. word Xprs)
     (λ _. byCond WideStep (eqb (m .kind) FTCH) (λ _. byCond WideStep (mayAnswer e m) (λ _. tt) (λ _. tt))
-    (λ _. byCond WideStep (eqb (m .kind) LATE) (λ _. byCond WideStep (mayHand e m) (λ _. h) (λ _. tt)) (λ _. tt))))))
+    (λ _. byCond WideStep (eqb (m .kind) LATE) (λ _. byCond WideStep (mayHand e m) (λ _. h) (λ _. tt))
+    (λ _. byCond WideStep (eqb (m .kind) ANNC) (λ _. tt) (λ _. tt)))))))
 
 wide-fire : (us : List ℕ) (rank : ℕ) (name : Name) (e : End) (slot : Slot) → WideStep (fireAt us rank name e slot)
 unfolding fireAt
@@ -111,6 +114,10 @@ unfolding tryOf
 wide-try name e Nobody = tt
 wide-try name e (Found h d) = tt
 
+wide-announced : (t : Moment) (x : Span) (e : End) → WideStep (announced t x e)
+wide-announced t Closed e = tt
+wide-announced t (Open first last) e = tt
+
 wide-act : (us : List ℕ) (a : Action) (was e : End) → firstNo (ownQuestions a was) ≡ 0 → WideStep (actOf us a e)
 unfolding actOf moveOf arrivalOf fetchOf
 wide-act us (Moves m) was e h = byCond WideStep (moves m (e .status)) (λ _. tt) (λ _. tt)
@@ -123,6 +130,8 @@ wide-act us (Arrival (b ∷ s)) was e h =
     (λ _. tt)
 wide-act us (Else Fire) was e h = byCond WideStep (isMember (e .status)) (λ _. wide-fired us e (earliest e 8)) (λ _. tt)
 wide-act us (Else Report) was e h = byCond WideStep (isMember (e .status)) (λ _. tt) (λ _. tt)
+wide-act us (Else Announce) was e h =
+    byCond WideStep (isMember (e .status)) (λ _. wide-announced (momentOf e) (sourceAt e (e .host) .span) e) (λ _. tt)
 wide-act us (Else (Fetch name)) was e h =
     byCond WideStep (isMember (e .status))
     (λ _. byCond WideStep (mayFetch e name) (λ _. wide-try name e (nearest e name 8)) (λ _. tt))

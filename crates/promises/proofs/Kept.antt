@@ -24,6 +24,12 @@ use Rattle.guarantees.proofs.FetchAnswers.{fetch-moves-nothing, fetched-moves-n
 use Rattle.guarantees.proofs.FetchBook.{fetch-outside-book, fetched-outside-book, brings-nothing}
 use Rattle.guarantees.proofs.FetchHistory.{attempts-over-history, late-at-most-once, tried-once, fetchable-never-got, late-never-got}
 use Rattle.guarantees.proofs.FetchReports.{reported-over-history}
+use Rattle.guarantees.proofs.Announce.{announces-own, out-is-announcement, only-announce-announces, neither-falls, announced-is-done}
+use Rattle.guarantees.proofs.FetchBook.{announce-outside-book, announced-outside-book, announced-brings-nothing}
+use Rattle.display.proofs.History.{each-number-once, stays-so, lost-as-passed, missing-is, received-never-reported}
+use Rattle.display.proofs.StaysSound.{opens-sound as display-opens-sound, stays-sound as display-stays-sound, never-unsound}
+use Rattle.display.proofs.Asks.{step-asks-lowest}
+use Rattle.display.proofs.Foyer.{ends-allowed, foyer-service}
 use Rattle.record.proofs.LinesBack.{lines-back}
 use Rattle.judgement.proofs.Pieces.{judged-in-pieces, too-many-stays}
 use Rattle.fairness.proofs.Judged.{judged-right, judged-only-so}
@@ -42,8 +48,8 @@ use Rattle.end.proofs.Service.Unclashed.{never-clashes}
 use Rattle.end.proofs.Service.Lates.{late-has-the-sources-bytes}
 use Rattle.end.proofs.Reasons.{ignored-for-the-first-reason}
 use Rattle.end.proofs.ReasonLaws.{reason-is-first, none-holds, number-exactly, reason-exactly, none-exactly}
-use Rattle.cases.proofs.Shown.{service-shown, never-returns-clash}
-use Rattle.cases.proofs.Cases.{cases-hold, answers-hold, moves-hold, wire-holds, timed-hold, half-trips-hold, factors-hold, reasons-hold, stage-holds, quiet-holds, clashes-hold, probe-holds, season-holds, express-holds, fetch-holds}
+use Rattle.cases.proofs.Shown.{service-shown, late-shown, never-returns-clash}
+use Rattle.cases.proofs.Cases.{cases-hold, answers-hold, moves-hold, wire-holds, timed-hold, half-trips-hold, factors-hold, reasons-hold, stage-holds, quiet-holds, clashes-hold, probe-holds, season-holds, express-holds, fetch-holds, announced-hold, announces-hold}
 use Rattle.cases.proofs.Turn.{four-rounds, each-is-needed}
 use Rattle.promises.specs.Promises.{Promises}
 
@@ -77,6 +83,7 @@ promises = record {
     never-clashes = never-clashes;
     never-returns-clash = never-returns-clash;
     late-has-the-sources-bytes = late-has-the-sources-bytes;
+    late-shown = late-shown;
   };
   states = record {
     opens-sound = opens-sound;
@@ -189,6 +196,29 @@ promises = record {
     late-never-got = late-never-got;
     reported-over-history = reported-over-history;
   };
+  announce = record {
+    announces-own = announces-own;
+    out-is-announcement = out-is-announcement;
+    only-announce-announces = only-announce-announces;
+    neither-falls = neither-falls;
+    announced-is-done = announced-is-done;
+    announce-outside-book = announce-outside-book;
+    announced-outside-book = announced-outside-book;
+    announced-brings-nothing = announced-brings-nothing;
+  };
+  displays = record {
+    each-number-once = each-number-once;
+    stays-so = stays-so;
+    lost-as-passed = lost-as-passed;
+    missing-is = missing-is;
+    received-never-reported = received-never-reported;
+    step-asks-lowest = step-asks-lowest;
+    display-opens-sound = display-opens-sound;
+    display-stays-sound = display-stays-sound;
+    never-unsound = never-unsound;
+    ends-allowed = ends-allowed;
+    foyer-service = foyer-service;
+  };
   judge = record {
     judged-right = judged-right;
     judged-only-so = judged-only-so;
@@ -220,5 +250,7 @@ promises = record {
     season = season-holds;
     express = express-holds;
     fetch = fetch-holds;
+    announced = announced-hold;
+    announce = announces-hold;
   };
 }

@@ -10,4 +10,6 @@ pub mod Promises
 pub mod Season
 pub mod Express
 pub mod Fetch
+pub mod Announce
+pub mod Displays
 pub mod Judge

@@ -25,6 +25,7 @@ use Rattle.cases.specs.Probe.{probeRows}
 use Rattle.cases.specs.Season.{seasonRows}
 use Rattle.cases.specs.Express.{expressRows}
 use Rattle.cases.specs.Fetch.{fetchRows}
+use Rattle.cases.specs.Announce.{announcedRows, announceRows}
 use Rattle.promises.specs.Wire.{WireKept}
 use Rattle.promises.specs.Service.{ServiceKept}
 use Rattle.promises.specs.States.{StatesKept}
@@ -36,10 +37,12 @@ use Rattle.promises.specs.Reasons.{ReasonsKept}
 use Rattle.promises.specs.Season.{SeasonKept}
 use Rattle.promises.specs.Express.{ExpressKept}
 use Rattle.promises.specs.Fetch.{FetchKept}
+use Rattle.promises.specs.Announce.{AnnounceKept}
+use Rattle.promises.specs.Displays.{DisplaysKept}
 use Rattle.promises.specs.Judge.{JudgeKept}
 
 -- document 01's cases and what else is pinned by computed rows: the answers one by one, the 25 moves by status, messages as bytes, times, a run by answers and
--- buffers, reply-quiet times, clashes, the probe, a season's rises, express repair, fetching
+-- buffers, reply-quiet times, clashes, the probe, a season's rises, express repair, fetching, kind 24 as bytes and Announce
 pub record CasesKept : Type 0 where
   pub starred : Hold rows
   pub answers : Hold answerRows
@@ -56,6 +59,8 @@ pub record CasesKept : Type 0 where
   pub season : Hold seasonRows
   pub express : Hold expressRows
   pub fetch : Hold fetchRows
+  pub announced : Hold announcedRows
+  pub announce : Hold announceRows
 
 pub record Promises : Type 0 where
   -- demand 2, the wire: "Each message written reads back as itself, and each accepted message is the very bytes .."
@@ -84,6 +89,10 @@ pub record Promises : Type 0 where
   pub express : ExpressKept
   -- a controller that joined late fetches what came before: document 02, P9
   pub fetch : FetchKept
+  -- a sender announces its own first and last to the displays: document 02, P11
+  pub announce : AnnounceKept
+  -- a display hands out, misses or reports as lost every number, once, and the service's runs may have displays in them: document 02, P11
+  pub displays : DisplaysKept
   -- a run's record is judged by the book, and an honest link is never accused: document 02, P13
   pub judge : JudgeKept
   -- "Cases (* is proved)"

@@ -23,3 +23,4 @@ pub record ServiceKept : Type 0 where
       → (x : Returned) → List·Memᴰ x (returned w cs) → (name : Name) → x .answer ≡ answer.Clash name → ⊥
   -- P9: a cue that is handed out as Late is "in the service's runs with the source's bytes"
   pub late-has-the-sources-bytes : (w : World) → Fresh w → (cs : List Call) → Allowed w cs → LatesAsFiled emptyBook (seen w cs)
+  pub late-shown : (w : World) → Fresh w → (cs : List Call) → Allowed w cs → LatesAsFiled emptyBook (map onlooked (returned w cs))

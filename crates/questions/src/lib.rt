@@ -57,6 +57,7 @@ fn own_refusal(e: End, what: Event, cue: [u8; 24], verdict: Verdict) -> u8
         Event::Fire => 0,
         Event::Report => 0,
         Event::Fetch(_) => 0,
+        Event::Announce => 0,
     }
 }
 

@@ -26,7 +26,7 @@ use Rattle.end.specs.Arrival.{messageName, messageHost, messageCue, requesterIn
 use Rattle.end.specs.Fetch.{mayAnswer, mayHand}
 use Rattle.end.specs.Why.{noFetchIn}
 use Rattle.end.proofs.Tools.{byTest}
-use Rattle.end.proofs.ReasonLaws.{later, orElse, ifNoFetch, later-decided}
+use Rattle.end.proofs.ReasonLaws.{or-none, later, orElse, ifNoFetch, later-decided}
 use Rattle.fetch.specs.Steps.{answers, hands}
 use Rattle.receive.specs.Steps.{isNamed, entryIn}
 use Rattle.receive.specs.Reason.{namedReason, fetchReason}
@@ -55,11 +55,6 @@ apart t m d k r Repl (Open first last) = refl
 apart t m d k r Xprs Closed = refl
 apart t m d k r Xprs (Open first last) = refl
 
--- no reason is left after none
-alone : (o : Option Reason) → o ≡ orElse o none
-alone none = refl
-alone (some reason) = refl
-
 module _ (m : Meaning) (e : End) where
   decided : (says : Says) → reasonOf (decide (momentOf e) (wordAway says m 0) (sourceAt e (messageName m .source))) ≡ later e (some (wordOf says m e))
   decided says =
@@ -72,7 +67,7 @@ module _ (m : Meaning) (e : End) where
       ≡ orElse (later e (some (wordOf says m e))) (ifNoFetch (noFetchIn m e))
   worded kind says k f l =
       let other : (b : ℕ) → eqb kind b ≡ false → eqb (m .kind) b ≡ false = λ b h. ap (λ (n : ℕ). eqb n b) (eqb-true (m .kind) kind k) ∙ h in
-      rw (other FTCH f, other LATE l) (decided says ∙ alone (later e (some (wordOf says m e))))
+      rw (other FTCH f, other LATE l) (decided says ∙ sym (or-none (later e (some (wordOf says m e)))))
 
   pub first-later : cond (isNamed (m .kind)) (namedReason m e) (fetchReason m e) ≡ orElse (later e (namedIn m e)) (ifNoFetch (noFetchIn m e))
   first-later = byTest (eqb (m .kind) DATA) (λ d. rw d (worded DATA Data d refl refl))

@@ -1,4 +1,4 @@
--- The steps of specs/Steps.antt are `arrivalOf`: a message of one's own, a message with a word, one of the kinds 22 and 23, and a session message.
+-- The steps of specs/Steps.antt are `arrivalOf`: a message of one's own, a message with a word, one of the kinds 22 to 24, and a session message.
 use mathlib.Core.Path.{_≡_, refl, sym, ap, subst, _∙_}
 use Prim.Native.Nat.{ℕ}
 use mathlib.Core.Bool.{Bool, true, false, cond, _||_}
@@ -6,7 +6,7 @@ use mathlib.Core.List.{List}
 use lib.Dec.{eqb}
 use borrow.Author.Tests.{eq-eqb, ne-eqb}
 use Rattle.message.specs.declared.NameEntry.{NameEntry}
-use Rattle.message.specs.Message.{DATA, RQST, REPL, XPRS, FTCH, LATE, Meaning}
+use Rattle.message.specs.Message.{DATA, RQST, REPL, XPRS, FTCH, LATE, ANNC, Meaning}
 use Rattle.message.specs.Question.{sameHost}
 use Rattle.end.specs.declared.Says.{Says}
 use Rattle.end.specs.declared.Says.the-variants.{Data, Rqst, Repl, Xprs}
@@ -16,11 +16,11 @@ use Rattle.end.specs.declared.Source.{Source}
 use Rattle.end.specs.declared.Answer.the-variants as answer
 use Rattle.end.specs.declared.End.{End}
 use Rattle.end.specs.State.{sourceAt, distanceTo, momentOf, onSource}
-use Rattle.end.specs.Answer.{Effect, Did, Step, give, answerOf, bufferOf}
+use Rattle.end.specs.Answer.{Effect, Done, Did, Step, give, answerOf, bufferOf}
 use Rattle.end.specs.Decide.{stepAt}
 use Rattle.end.specs.Session.{allReported, heardFrom, sessionOf}
 use Rattle.end.specs.Fetch.{fetchedOf, lateOf}
-use Rattle.end.specs.Arrival.{messageCue, wordStep, messageStep, arrivalOf}
+use Rattle.end.specs.Arrival.{messageName, messageCue, wordStep, messageStep, arrivalOf}
 use Rattle.end.proofs.Tools.{byTest}
 use Rattle.state.specs.declared.Change.{Change}
 use Rattle.decide.specs.Step.{decidedEffect, stepped}
@@ -40,7 +40,11 @@ choice f x false false false false = refl
 
 -- and the rest have none
 abbrev unnamedStep : List ℕ → Meaning → End → Step
-unnamedStep us m e = cond (eqb (m .kind) FTCH) (fetchedOf m e) (cond (eqb (m .kind) LATE) (lateOf m e) (sessionOf (momentOf e) us m e))
+unnamedStep us m e =
+    cond (eqb (m .kind) FTCH) (fetchedOf m e)
+    (cond (eqb (m .kind) LATE) (lateOf m e)
+    (cond (eqb (m .kind) ANNC) (give Done e)
+    (sessionOf (momentOf e) us m e)))
 
 by-kind : (us : List ℕ) (m : Meaning) (e : End)
     → messageStep us m e ≡ cond (isNamed (m .kind)) (wordStep us (saysIn (m .kind)) m e) (unnamedStep us m e)
@@ -64,7 +68,9 @@ module _ (us : List ℕ) (m : Meaning) (e : End) where
       (λ own. rw own (ap (give _) (sym (unchanged e (subjectOf m)))))
       (λ other. rw (other, by-kind us m e) (byTest (isNamed (m .kind)) (λ named. rw named)
       (λ bare. byTest (eqb (m .kind) FTCH) (λ f. rw (bare, f) (fetched-is m e))
-      (λ f. byTest (eqb (m .kind) LATE) (λ l. rw (bare, f, l) (late-is m e)) (λ l. rw (bare, f, l))))))
+      (λ f. byTest (eqb (m .kind) LATE) (λ l. rw (bare, f, l) (late-is m e))
+      (λ l. byTest (eqb (m .kind) ANNC) (λ a. rw (bare, f, l, a) (ap (give _) (sym (unchanged e (messageName m .source)))))
+      (λ a. rw (bare, f, l, a)))))))
 
 -- ---- the step on one source of a message that has no word, case by case
 module _ (t : Moment) (m : Meaning) (s : Source) (out : List ℕ) where
@@ -91,10 +97,16 @@ module _ (t : Moment) (m : Meaning) (s : Source) (out : List ℕ) where
         rw (ne-eqb (m .kind) FTCH f, eq-eqb (m .kind) LATE k)
         (subst (λ (l : List ℕ). Stepping (lateEffect (t .me) (entryIn m) (m .sender) l s) (lateSource (t .me) (entryIn m) (m .sender) s) r after) q named)
 
-    pub session-gives : (x : Source) → (m .kind ≡ LATE → ⊥) → x ≡ heardFrom t m s → Unnamed (record { answer = answer.Done; source = x }) out
-    unfolding answerOf bufferOf
-    session-gives x l p =
-        rw (ne-eqb (m .kind) FTCH f, ne-eqb (m .kind) LATE l) (ap (λ (y : Source). record { answer = answer.Done; source = y }) p, refl)
+    module _ (l : m .kind ≡ LATE → ⊥) where
+      pub announce-gives : m .kind ≡ ANNC → Unnamed (record { answer = answer.Done; source = s }) out
+      unfolding answerOf bufferOf
+      announce-gives k = rw (ne-eqb (m .kind) FTCH f, ne-eqb (m .kind) LATE l, eq-eqb (m .kind) ANNC k) (refl, refl)
+
+      pub session-gives : (x : Source) → (m .kind ≡ ANNC → ⊥) → x ≡ heardFrom t m s → Unnamed (record { answer = answer.Done; source = x }) out
+      unfolding answerOf bufferOf
+      session-gives x a p =
+          rw (ne-eqb (m .kind) FTCH f, ne-eqb (m .kind) LATE l, ne-eqb (m .kind) ANNC a)
+          (ap (λ (y : Source). record { answer = answer.Done; source = y }) p, refl)
 
 -- ---- and of any message
 module _ (t : Moment) (us : List ℕ) (d : ℕ) (m : Meaning) (s : Source) (out : List ℕ) where

@@ -10,7 +10,7 @@ use Rattle.message.specs.declared.Host.{Host}
 use Rattle.message.specs.declared.NameEntry.{NameEntry}
 use Rattle.message.specs.declared.Report.{Report}
 use Rattle.message.specs.Entry.{blankName}
-use Rattle.message.specs.Message.{DATA, RQST, REPL, XPRS, FTCH, LATE, Meaning}
+use Rattle.message.specs.Message.{DATA, RQST, REPL, XPRS, FTCH, LATE, ANNC, Meaning}
 use Rattle.message.specs.Question.{sameHost}
 use Rattle.end.specs.declared.Says.{Says}
 use Rattle.end.specs.declared.Says.the-variants.{Data, Rqst, Repl, Xprs}
@@ -30,9 +30,9 @@ use Rattle.fetch.specs.Steps.{answeredEffect, lateEffect, lateSource}
 abbrev pub isNamed : ℕ → Bool
 isNamed kind = eqb kind DATA || (eqb kind RQST || (eqb kind REPL || eqb kind XPRS))
 
--- the kinds of messages about a name: the kinds 22 and 23 too
+-- the kinds of messages about names: the kinds 22 to 24 too
 abbrev pub isAbout : ℕ → Bool
-isAbout kind = isNamed kind || (eqb kind FTCH || eqb kind LATE)
+isAbout kind = isNamed kind || (eqb kind FTCH || (eqb kind LATE || eqb kind ANNC))
 
 abbrev pub entryIn : Meaning → NameEntry
 entryIn m = getD (m .names) 0 blankName
@@ -76,7 +76,8 @@ abbrev pub unnamedSource : Moment → Meaning → Source → Source
 unnamedSource t m s =
     cond (eqb (m .kind) FTCH) s
     (cond (eqb (m .kind) LATE) (lateSource (t .me) (entryIn m) (m .sender) s)
-    (heardFrom t m s))
+    (cond (eqb (m .kind) ANNC) s
+    (heardFrom t m s)))
 
 -- its effect, and what it leaves of the source
 unfoldable pub effectOn : Moment → ℕ → Meaning → Source → Effect

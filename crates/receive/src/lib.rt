@@ -16,6 +16,7 @@ use end::Source;
 use end::Stepped;
 use end::Why;
 use end::Word;
+use message::ANNC;
 use message::CueNumber;
 use message::DATA;
 use message::Echo;
@@ -61,11 +62,11 @@ fn is_named(kind: u8) -> bool
     (kind == DATA) | ((kind == RQST) | ((kind == REPL) | (kind == XPRS)))
 }
 
-// Whether a message of this kind is about a name.
+// Whether a message of this kind is about names.
 fn is_about(kind: u8) -> bool
     ensures { λ r. ⌜ r ≡ isAbout kind ⌝ }
 {
-    is_named(kind) | ((kind == FTCH) | (kind == LATE))
+    is_named(kind) | ((kind == FTCH) | ((kind == LATE) | (kind == ANNC)))
 }
 
 fn says_in(kind: u8) -> Says
@@ -276,7 +277,7 @@ fn named_reason(e: End, m: Message) -> Why
     decide::reason_of(d)
 }
 
-// Why a message of the kinds 22 and 23 is ignored, if it is.
+// Why a message of the kinds 22 and 23 is ignored, if it is; a SESS and a kind 24 never are.
 fn fetch_reason(e: End, m: Message) -> Why
     requires { ⌜ inRange (numberLimit - 1) (meaningOf m) ≡ true ⌝ }
     ensures { λ r. ⌜ r ≡ because (fetchReason (meaningOf m) e) ⌝ }
@@ -312,7 +313,7 @@ pub fn reason(e: End, m: Message) -> Why
 
 // ---- a message of any kind
 
-// The step of the kinds 22 and 23 and of SESS on the source that it is about.
+// The step of the kinds 22 to 24 and of SESS on the source that it is about. Kind 24 is for displays, and changes nothing.
 fn step_unnamed(t: Moment, m: Message, s: Source, out: &mut [u8]) -> Change
     requires { ⌜ HeardOn t m (length (now out)) ⌝ }
     ensures { λ r. ⌜ r ≡ record { answer = answerOf (Did (unnamedEffect t (meaningOf m) s)); source = unnamedSource t (meaningOf m) s } ⌝ }
@@ -326,6 +327,12 @@ fn step_unnamed(t: Moment, m: Message, s: Source, out: &mut [u8]) -> Change
     }
     if m.kind == LATE {
         return fetch::hand_late(t.me, entry, sender, cue, s, out);
+    }
+    if m.kind == ANNC {
+        return Change {
+            answer: Answer::Done,
+            source: s,
+        };
     }
     Change {
         answer: Answer::Done,

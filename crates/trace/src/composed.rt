@@ -33,6 +33,7 @@ fn kind_of(word: u64) -> u8 {
         words::XPRS => message::XPRS,
         words::FTCH => message::FTCH,
         words::LATE => message::LATE,
+        words::ANNC => message::ANNC,
         _ => 0,
     }
 }
@@ -79,14 +80,20 @@ fn echo(line: &[u8; 1000], end: usize, at: &mut usize) -> Echo {
     }
 }
 
-fn with_name(m: Message, line: &[u8; 1000], end: usize, at: &mut usize) -> Message {
+fn with_names(m: Message, line: &[u8; 1000], end: usize, at: &mut usize) -> Message {
     let mut t = m;
-    if follows(line, end, at, words::NAME) {
-        let mut c = t.counts;
-        c.names = 1;
-        t.counts = c;
-        t.names[0] = name(line, end, at);
+    let mut n: usize = 0;
+    while n < message::NAME_PLACES {
+        if !follows(line, end, at, words::NAME) {
+            break;
+        }
+        let e = name(line, end, at);
+        t.names[n] = e;
+        n += 1;
     }
+    let mut c = t.counts;
+    c.names = n;
+    t.counts = c;
     t
 }
 
@@ -170,7 +177,7 @@ pub fn composed(line: &[u8; 1000], end: usize, at: &mut usize) -> Message {
     let sender = Host(byte(line, end, at));
     m.sender = sender;
     m.stamp = number(line, end, at);
-    let named = with_name(m, line, end, at);
+    let named = with_names(m, line, end, at);
     let cued = with_cue(named, line, end, at);
     let reported = with_reports(cued, line, end, at);
     let echoed = with_echoes(reported, line, end, at);

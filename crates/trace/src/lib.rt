@@ -80,15 +80,16 @@ pub fn whole(end: usize, at: usize) -> bool {
     at == end
 }
 
-// The bytes from..to as one number, where there are at most eight.
+// The bytes from..to as one number, where there are at most eight, none of them 0: a number does not tell how many zeros stand before it.
 fn key_of(line: &[u8; 1000], from: usize, to: usize) -> u64 {
     let mut key: u64 = 0;
     let mut i = from;
     while i < to {
-        if key >> 56 != 0 {
+        let b = byte_at(line, to, i);
+        if (b == 0) | (key >> 56 != 0) {
             return 0;
         }
-        key = (key << 8) | wide(byte_at(line, to, i));
+        key = (key << 8) | wide(b);
         i += 1;
     }
     key
@@ -98,7 +99,7 @@ fn wide(b: u8) -> u64 {
     b as u64
 }
 
-// The next word as one number, or 0 for one that is longer than any word of the language.
+// The next word as one number, or 0 for one that is longer than any word of the language, or has a byte 0.
 pub fn key(line: &[u8; 1000], end: usize, at: &mut usize) -> u64 {
     let from = take(line, end, at);
     key_of(line, from, *at)
@@ -161,7 +162,7 @@ pub fn count(line: &[u8; 1000], end: usize, at: &mut usize) -> u32 {
 }
 
 // The next word as an offset, -32768..32767.
-fn offset(line: &[u8; 1000], end: usize, at: &mut usize) -> i16 {
+pub fn offset(line: &[u8; 1000], end: usize, at: &mut usize) -> i16 {
     let from = take(line, end, at);
     let s = decimal::read_i16(line, from, *at);
     match s {

@@ -19,6 +19,9 @@ pub const LEFT: u64 = 0x6C656674;
 // crash
 pub const CRASH: u64 = 0x6372617368;
 
+// announce
+pub const ANNOUNCE: u64 = 0x616E6E6F756E6365;
+
 // fetch
 pub const FETCH: u64 = 0x6665746368;
 
@@ -141,6 +144,9 @@ pub const NOPAIR: u64 = 0x6E6F70616972;
 
 // express
 pub const EXPRESS: u64 = 0x65787072657373;
+
+// annc
+pub const ANNC: u64 = 0x616E6E63;
 
 // ftch
 pub const FTCH: u64 = 0x66746368;

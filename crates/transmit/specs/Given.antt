@@ -1,4 +1,4 @@
--- What Send, Fire and Report are given: the call has seen that the end is a member's and sound, has set its clock, and has asked the
+-- What Send, Fire, Report and Announce are given: the call has seen that the end is a member's and sound, has set its clock, and has asked the
 -- questions.
 use Rattle.message.specs.Limit.{numberLimit, roomNeeded}
 use mathlib.Core.Path.{_≡_}
@@ -23,6 +23,7 @@ pub record Firing (e : End) (drawn bytes : ℕ) : Type 0 where
   pub draws : drawn ≡ drawCount
   pub room : roomNeeded ≤ bytes
 
+-- Report, and Announce too
 pub record Reporting (e : End) (bytes : ℕ) : Type 0 where
   pub settled : Settled e
   pub room : roomNeeded ≤ bytes

@@ -1,7 +1,7 @@
-// Send, Fire and Report of a member whose clock is set and whose questions were answered: `sendOf`, `fireOf` and Report's line of
-// `otherOf` of the crate end, specs/Event.antt and specs/Fire.antt. Each takes one working copy of the end, changes one source of it
-// and stores that back, and has one way out: each further one would cost a copy of the end. They are helpers of the crate link and no
-// calls of the product: what they ask for in their `requires`, the records of specs/Given.antt, the call has seen to.
+// Send, Fire, Report and Announce of a member whose clock is set and whose questions were answered: `sendOf`, `fireOf`, Report's line of
+// `otherOf` and `announceOf` of the crate end, specs/Event.antt and specs/Fire.antt. Send and Fire each take one working copy of the end,
+// change one source of it and store that back. Each has one way out: each further one would cost a copy of the end. They are helpers of
+// the crate link and no calls of the product: what they ask for in their `requires`, the records of specs/Given.antt, the call has seen to.
 use end::Answer;
 use end::Draw;
 use end::EXPRESS;
@@ -32,8 +32,9 @@ ghost use Rattle.message.specs.Limit.{roomNeeded};
 ghost use Rattle.end.specs.Ready.{Ranges, Numbered};
 ghost use Rattle.end.specs.Answer.{Did, done, answerOf, calledOf, bufferOf};
 ghost use Rattle.end.specs.Fire.{keptSender, fireOf};
-ghost use Rattle.end.specs.Event.{Report, extended, sentSource, sendOf, otherOf};
+ghost use Rattle.end.specs.Event.{Report, extended, sentSource, sendOf, announceOf, otherOf};
 ghost use Rattle.transmit.specs.Given.{Sending, Rising, Firing, Reporting, Waited};
+ghost use Rattle.transmit.specs.Announced.{announcedEffect};
 ghost use Rattle.transmit.specs.Fired.{nameOf, rankOf, recordOf, askerIn, askedEffect, firedEffect, askedSource, firedSource};
 
 // ---- Send
@@ -252,5 +253,33 @@ pub fn report(e: End, out: &mut [u8]) -> Stepped
 {
     let m = compose::session_message(e);
     let answer = compose::put(m, out);
+    Stepped { answer, end: e }
+}
+
+// ---- Announce
+
+// What goes out where the own numbers are these.
+fn announced_answer(t: Moment, span: Span, out: &mut [u8]) -> Answer
+    requires { ⌜ roomNeeded ≤ length (now out) ⌝ }
+    ensures { λ r. ⌜ r ≡ answerOf (Did (announcedEffect t span)) ⌝ }
+    ensures { λ _. ⌜ now (out .exit) ≡ bufferOf (Did (announcedEffect t span)) (now (out .entry)) ⌝ }
+{
+    match span {
+        Span::Closed => Answer::Nothing,
+        Span::Open(first, last) => compose::put_announce(t, first, last, out),
+    }
+}
+
+// The own first and last go out, if there are any, and nothing else happens.
+pub fn announce(e: End, out: &mut [u8]) -> Stepped
+    requires { ⌜ Reporting e (length (now out)) ⌝ }
+    ensures { λ r. ⌜ r ≡ calledOf (done (announceOf e)) ⌝ }
+    ensures { λ _. ⌜ now (out .exit) ≡ bufferOf (Did (announceOf e .effect)) (now (out .entry)) ⌝ }
+{
+    let t = state::moment_of(e);
+    let at = t.me.0 as usize;
+    let s = e.sources[at];
+    let span = s.span;
+    let answer = announced_answer(t, span, out);
     Stepped { answer, end: e }
 }

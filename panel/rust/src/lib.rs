@@ -26,7 +26,7 @@ pub enum Refusal {
     BadKind = 9,
     /// A host, cue number, cue field, stamp or held ticks is out of range.
     BadRange = 10,
-    /// The kind does not allow these hosts, or reports or echoes do not rise.
+    /// The kind does not allow these hosts, reports or echoes do not rise, or lead is not from trail to trail+63.
     BadHosts = 11,
 }
 
@@ -65,7 +65,7 @@ impl fmt::Display for Refusal {
             Refusal::BadKind => "no kind of message, or not with the counts of its kind",
             Refusal::BadRange => "a host, cue number, cue field, stamp or held ticks out of range",
             Refusal::BadHosts => {
-                "hosts that the kind does not allow, or reports or echoes that do not rise"
+                "hosts that the kind does not allow, reports or echoes that do not rise, or a lead not from trail to trail+63"
             }
         };
         write!(f, "refused {}: {words}", self.number())

@@ -5,8 +5,8 @@ use std::fmt::Write as _;
 use std::io::{self, BufWriter, Write};
 use twin::cue::Cue;
 use twin::message::{
-    put_together, put_together_old, Echo, Message, Name, Report, DATA, FTCH, LATE, REPL, RQST,
-    SESS, XPRS,
+    put_together, put_together_old, Echo, Message, Name, Report, ANNC, ANNC_SPAN, DATA, FTCH, LATE,
+    REPL, RQST, SESS, XPRS,
 };
 use twin::panel::{cue_test, verdict, write_data};
 use twin::CLOCK_MAX;
@@ -109,9 +109,9 @@ fn host_but(dice: &mut Dice, none: &[u8]) -> u8 {
     dice.pick(&hosts)
 }
 
-/// A message of one of the seven kinds, as it should be.
+/// A message of one of the eight kinds, as it should be.
 fn good(dice: &mut Dice) -> Message {
-    let kind = dice.pick(&[DATA, RQST, REPL, SESS, XPRS, FTCH, LATE]);
+    let kind = dice.pick(&[DATA, RQST, REPL, SESS, XPRS, FTCH, LATE, ANNC]);
     let mut message = Message {
         kind,
         sender: host(dice),
@@ -147,9 +147,21 @@ fn name(dice: &mut Dice, message: &mut Message) {
         number,
         host,
     });
-    if ![RQST, XPRS, FTCH].contains(&message.kind) {
-        message.cues.push(cue(dice));
+    match message.kind {
+        RQST | XPRS | FTCH => {}
+        ANNC => lead(dice, message),
+        _ => message.cues.push(cue(dice)),
     }
+}
+
+/// The second name of an ANNC: its number is from the first's to 63 above it.
+fn lead(dice: &mut Dice, message: &mut Message) {
+    let trail = message.names[0];
+    let more = dice.pick(&[0, 1, ANNC_SPAN - 1, ANNC_SPAN]);
+    message.names.push(Name {
+        number: trail.number.saturating_add(more),
+        ..trail
+    });
 }
 
 fn report(dice: &mut Dice, message: &mut Message) {
@@ -182,8 +194,8 @@ fn laid_out(dice: &mut Dice, mut message: Message) -> Vec<u8> {
 type Damage = fn(&mut Dice, &mut Message);
 
 /// What can be wrong with a message's parts.
-const DAMAGES: [Damage; 14] = [
-    |dice, m| m.kind = dice.pick(&[0, 5, 7, 16, 17, 18, 19, 20, 21, 22, 23, 24, 255]),
+const DAMAGES: [Damage; 15] = [
+    |dice, m| m.kind = dice.pick(&[0, 5, 7, 16, 17, 18, 19, 20, 21, 22, 23, 24, 25, 255]),
     |dice, m| m.sender = dice.pick(&[0, 1, 7, 8, 9, 255]),
     |dice, m| {
         m.names
@@ -196,6 +208,12 @@ const DAMAGES: [Damage; 14] = [
             .for_each(|n| n.host = dice.below(10) as u8)
     },
     |dice, m| m.cues.iter_mut().for_each(|c| *c = any_cue(dice)),
+    |dice, m| {
+        if let [trail, lead] = &mut m.names[..] {
+            let above = dice.pick(&[ANNC_SPAN, ANNC_SPAN + 1, u16::MAX]);
+            lead.number = trail.number.wrapping_add(above);
+        }
+    },
     |_, m| m.names.extend(m.names.clone()),
     |_, m| m.cues.extend(m.cues.clone()),
     |_, m| m.names.clear(),

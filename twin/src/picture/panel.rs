@@ -400,7 +400,8 @@ pub fn class_of(kind: u8) -> &'static str {
         // Kinds 21 and 22 ask as RQST does, and have its colour; kind 23 brings a cue as REPL does.
         message::RQST | message::XPRS | message::FTCH => "rqst",
         message::REPL | message::LATE => "repl",
-        message::SESS => "sess",
+        // Kind 24 tells of numbers as SESS does.
+        message::SESS | message::ANNC => "sess",
         _ => "bytes",
     }
 }

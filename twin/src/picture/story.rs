@@ -272,11 +272,13 @@ fn sent(bytes: &[u8]) -> Sent {
         message::XPRS => "XPRS",
         message::FTCH => "FTCH",
         message::LATE => "LATE",
+        message::ANNC => "ANNC",
         _ => "SESS",
     };
-    let words = match name_in(&message) {
-        Some((source, number)) => format!("{kind} {source},{number}"),
-        None => kind.to_string(),
+    let words = match &message.names[..] {
+        [trail, lead] => format!("{kind} {},{}..{}", trail.source, trail.number, lead.number),
+        [name, ..] => format!("{kind} {},{}", name.source, name.number),
+        [] => kind.to_string(),
     };
     Sent {
         kind: message.kind,
@@ -340,6 +342,7 @@ fn verb_of(event: &Event) -> String {
         Event::Send(cue) => return format!("send focus {}", signed(cue.focus())),
         Event::Fire => "fire",
         Event::Report => "report",
+        Event::Announce => "announce",
         Event::Fetch { source, number } => return format!("fetch {source},{number}"),
         Event::Arrival(_) => "",
     };

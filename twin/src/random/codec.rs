@@ -170,5 +170,5 @@ impl Run {
 
 /// Whether a trace can compose it.
 fn fits(m: &Message) -> bool {
-    m.names.len() <= 1 && m.cues.len() <= 1 && m.reports.len() <= 8 && m.echoes.len() <= 7
+    m.names.len() <= 2 && m.cues.len() <= 1 && m.reports.len() <= 8 && m.echoes.len() <= 7
 }

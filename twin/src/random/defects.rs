@@ -3,16 +3,17 @@
 use super::messages::Reader;
 use super::stage::SPARE;
 use super::Run;
-use crate::message::{self, Echo, Message, Name, Report, DATA, FTCH, LATE, REPL, RQST, XPRS};
+use crate::message::{self, Echo, Message, Name, Report};
+use crate::message::{ANNC, DATA, FTCH, LATE, REPL, RQST, XPRS};
 
 type Defect = fn(&mut Run, &mut Message);
 
 /// Each part of questions 9, 10 and 11.
-const DEFECTS: [(u64, Defect); 27] = [
+const DEFECTS: [(u64, Defect); 32] = [
     (1, |run, m| {
-        m.kind = run.dice.pick(&[0, 5, 6, 7, 16, 24, 25, 255])
+        m.kind = run.dice.pick(&[0, 5, 6, 7, 16, 25, 26, 255])
     }),
-    (2, |run, m| m.kind = DATA + run.dice.small(7)),
+    (2, |run, m| m.kind = DATA + run.dice.small(8)),
     (2, |run, m| m.sender = run.dice.pick(&[8, 9, 255])),
     (2, |run, m| name_host(run, m, |name| &mut name.source)),
     (2, |run, m| name_host(run, m, |name| &mut name.host)),
@@ -45,6 +46,17 @@ const DEFECTS: [(u64, Defect); 27] = [
         host_in_name(m, LATE, |name, _| name.host = name.source)
     }),
     (3, |_, m| host_in_name(m, DATA, |name, _| name.host ^= 1)),
+    (3, |run, m| announced(run, m, |name| name.source ^= 1)),
+    (3, |run, m| announced(run, m, |name| name.host ^= 1)),
+    (3, |run, m| {
+        let above = run.dice.pick(&[64, 64, 65, 1000]);
+        lead(m, |trail| trail.checked_add(above))
+    }),
+    (3, |run, m| {
+        let below = run.dice.pick(&[1, 1, 63, 64, 65_000]);
+        lead(m, |trail| trail.checked_sub(below))
+    }),
+    (6, one_of_two),
     (3, |_, m| {
         if m.kind == DATA {
             m.sender ^= 1
@@ -88,6 +100,33 @@ fn name_host(run: &mut Run, m: &mut Message, which: fn(&mut Name) -> &mut u8) {
 fn host_in_name(m: &mut Message, kind: u8, spoil: fn(&mut Name, u8)) {
     if m.kind == kind {
         spoil(&mut m.names[0], m.sender);
+    }
+}
+
+/// One of kind 24's two names spoiled.
+fn announced(run: &mut Run, m: &mut Message, spoil: fn(&mut Name)) {
+    if m.kind == ANNC {
+        spoil(&mut m.names[run.dice.below(2) as usize]);
+    }
+}
+
+/// Another lead, where there is such a number.
+fn lead(m: &mut Message, of_trail: impl Fn(u16) -> Option<u16>) {
+    if let (ANNC, [trail, lead]) = (m.kind, &mut m.names[..]) {
+        lead.number = of_trail(trail.number).unwrap_or(lead.number);
+    }
+}
+
+/// Kind 24 with one name, with none, with a cue, or under the next kind byte.
+fn one_of_two(run: &mut Run, m: &mut Message) {
+    if m.kind != ANNC {
+        return;
+    }
+    match run.dice.below(4) {
+        0 => m.names.truncate(1),
+        1 => m.names.clear(),
+        2 => m.cues.push(run.good_cue()),
+        _ => m.kind = ANNC + 1,
     }
 }
 

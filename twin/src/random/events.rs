@@ -6,7 +6,7 @@ use crate::end::{Body, Record, Status};
 use crate::trace::Verb;
 use crate::CLOCK_MAX;
 
-/// The ten events.
+/// The eleven events.
 #[derive(Clone, Copy)]
 pub enum Kind {
     Join,
@@ -19,12 +19,13 @@ pub enum Kind {
     Fire,
     Report,
     Fetch,
+    Announce,
 }
 
 use Kind::*;
 
 /// Any event.
-pub const ANY: [(u64, Kind); 10] = [
+pub const ANY: [(u64, Kind); 11] = [
     (1, Join),
     (1, Joined),
     (1, Leave),
@@ -35,18 +36,20 @@ pub const ANY: [(u64, Kind); 10] = [
     (2, Fire),
     (2, Report),
     (3, Fetch),
+    (2, Announce),
 ];
 
 /// Those that move the status.
 pub const MOVES: [(u64, Kind); 5] = [(1, Join), (1, Joined), (1, Leave), (1, Left), (1, Crash)];
 
 /// What a member is called with; none for any event.
-const OF_MEMBERS: [(u64, Option<Kind>); 6] = [
+const OF_MEMBERS: [(u64, Option<Kind>); 7] = [
     (44, Some(Hear)),
     (15, Some(Send)),
     (22, Some(Fire)),
     (9, Some(Report)),
     (4, Some(Fetch)),
+    (4, Some(Announce)),
     (6, None),
 ];
 
@@ -131,6 +134,7 @@ impl Run {
             Crash => Verb::Crash,
             Fire => Verb::Fire,
             Report => Verb::Report,
+            Announce => Verb::Announce,
             Send => Verb::Send(self.cue()),
             Fetch => self.fetch_of(place),
             Hear => {

@@ -30,6 +30,20 @@ pub fn about(kind: u8, sender: u8, stamp: u64, name: Spot, host: u8, cue: Cue) -
     }
 }
 
+/// Kind 24 of its sender.
+pub fn announcement(sender: u8, stamp: u64, trail: u16, lead: u16) -> Message {
+    let names = [trail, lead].map(|number| Name {
+        source: sender,
+        number,
+        host: sender,
+    });
+    Message {
+        kind: message::ANNC,
+        names: names.to_vec(),
+        ..session(sender, stamp, vec![], vec![])
+    }
+}
+
 pub fn session(sender: u8, stamp: u64, reports: Vec<Report>, echoes: Vec<Echo>) -> Message {
     Message {
         kind: message::SESS,
@@ -120,7 +134,7 @@ impl Run {
             1 => {
                 message.kind = self
                     .dice
-                    .pick(&[0, 5, 6, 7, 16, 17, 18, 19, 20, 21, 22, 23, 255]);
+                    .pick(&[0, 5, 6, 7, 16, 17, 18, 19, 20, 21, 22, 23, 24, 255]);
                 message::put_together_old(&message)
             }
             _ => message::put_together_old(&message),
@@ -310,6 +324,7 @@ impl Run {
             (3, message::XPRS),
             (3, message::FTCH),
             (3, message::LATE),
+            (3, message::ANNC),
         ]) {
             message::DATA => about(message::DATA, source, stamp, name, source, cue),
             message::RQST => {
@@ -332,8 +347,20 @@ impl Run {
                 about(message::FTCH, sender, stamp, name, host, cue)
             }
             message::LATE => self.compose_late(reader.place, stamp),
+            message::ANNC => self.compose_announce(source, stamp, name.number),
             _ => self.compose_session(reader.place, clock, stamp),
         }
+    }
+
+    /// Kind 24 (document 02, P11): a trail near the reader's span of its sender, and a lead "from trail to trail+63", at both ends often.
+    pub fn compose_announce(&mut self, sender: u8, stamp: u64, near: u16) -> Message {
+        let trail = match self.dice.below(10) {
+            0 => self.dice.pick(&[0, 65_471, 65_472, 65_473, 65_534, 65_535]),
+            _ => near,
+        };
+        let any = self.dice.number(64);
+        let above = self.dice.pick(&[0, 1, any, any, 62, 63, 63]);
+        announcement(sender, stamp, trail, trail.saturating_add(above))
     }
 
     /// Kind 23 (document 02, P9): mostly of a name that its reader has tried to fetch, from a host tried for it, to its reader; now and then

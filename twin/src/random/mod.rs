@@ -4,15 +4,19 @@
 //! A run has eight ends that only events change (places 0 to 7), a spare end whose fields `set` lines change too (place 8), and a copy that
 //! is used for a few calls and dropped (place 9).
 
+mod announcing;
 mod changes;
 mod codec;
 mod defects;
 mod dice;
+pub mod displays;
 mod events;
 mod fetching;
 mod messages;
+mod partition;
 pub mod records;
 mod scenes;
+mod seen;
 mod spare;
 mod stage;
 pub mod turns;
@@ -253,9 +257,10 @@ impl Run {
             let cue = self.good_cue();
             self.plays(who, Verb::Send(cue));
         }
-        match self.dice.below(3) {
+        match self.dice.below(4) {
             0 => {}
             1 => self.plays(who, Verb::Report),
+            2 => self.plays(who, Verb::Announce),
             _ => self.ask_for_latest(who),
         }
         let Some(latest) = self.stage.messages.last().filter(|m| m.real).cloned() else {

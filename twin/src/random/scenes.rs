@@ -3,13 +3,13 @@
 use super::events::MOVES;
 use super::messages::{about, composed, session, Reader};
 use super::stage::{Spot, COPY, SPARE};
-use super::{fetching, Part, Run};
+use super::{announcing, fetching, Part, Run};
 use crate::end::{Heard, Params, Status};
 use crate::message::{self, Echo, Message, Report};
 use crate::trace::{Asked, Brought, Does, Field, Verb};
 use crate::{CLOCK_MAX, NUMBERS, PLACES};
 
-const SCENES: [(u64, Part); 26] = [
+const SCENES: [(u64, Part); 29] = [
     (8, request_quiet),
     (8, reply_quiet),
     (10, ties),
@@ -36,6 +36,9 @@ const SCENES: [(u64, Part); 26] = [
     (12, fetching::late_cue),
     (8, fetching::kind_22),
     (8, fetching::rejoined),
+    (6, announcing::announces),
+    (1, announcing::announces_full),
+    (6, announcing::kind_24),
 ];
 
 impl Run {

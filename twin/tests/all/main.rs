@@ -1,8 +1,10 @@
 //! The twin's tests, by content.
 
+mod announcing;
 mod arbitrary;
 mod book;
 mod cases;
+mod displays;
 mod events;
 mod express;
 mod fetching;

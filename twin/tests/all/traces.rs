@@ -48,7 +48,7 @@ const AT: At = At {
 };
 
 /// One line of each form, each as it is printed.
-const LINES: [&str; 102] = [
+const LINES: [&str; 107] = [
     "start",
     "draws 66 65535 7",
     "draws 0 0 0",
@@ -121,6 +121,11 @@ const LINES: [&str; 102] = [
     "8 hear 9 ftch 1 392 name 0 1 2",
     "write late 1 392 name 0 65535 2 cue -1 2 3 4 5",
     "5 fetch 6 0 0 = late | never so",
+    "5 announce 6",
+    "5 why announce 6 = none",
+    "8 hear 9 annc 1 392 name 1 1 1 name 1 64 1",
+    "write annc 1 392 name 1 0 1 name 1 65535 1",
+    "write data 1 5 name 1 0 1 name 1 0 1 cue 0 0 0 0 0 counts 1 1 0 0",
     "0 set empty 7 63",
     "0 set held 7 63",
     "0 set waits 7 63 255 18446744073709551615 0",
@@ -384,7 +389,7 @@ const MALFORMED: [&str; 134] = [
     "write data 256 0",
     "write data 0 18446744073709551616",
     "write data 0 0 name 0 0",
-    "write data 0 0 name 0 0 0 name 0 0 0",
+    "write data 0 0 name 0 0 0 name 0 0 0 name 0 0 0",
     "write data 0 0 cue 0",
     "write data 0 0 cue 0 0 0 0 0 cuebytes none",
     "write data 0 0 cue 0 0 0 0 0 name 0 0 0",

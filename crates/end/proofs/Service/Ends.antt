@@ -11,8 +11,8 @@ use borrow.Author.Tests.{eqb-true, eqb-false, eq-eqb, ltb-true, lt-ltb, leb-true
 use Rattle.numbers.proofs.Cases.{by-order}
 use Rattle.message.specs.Cue.{cueIn as cueFits}
 use Rattle.message.specs.Section.{all, rises}
-use Rattle.message.specs.Message.{DATA, RQST, REPL, SESS, XPRS, FTCH, LATE, Meaning, meaningFrom, datagramFrom, bytesOf}
-use Rattle.message.specs.Question.{ask, firstNo, messageQuestions, readQuestions, readRefusal, sameHost, inRange, hostsFit}
+use Rattle.message.specs.Message.{DATA, RQST, REPL, SESS, XPRS, FTCH, LATE, ANNC, Meaning, meaningFrom, datagramFrom, bytesOf}
+use Rattle.message.specs.Question.{ask, firstNo, messageQuestions, readQuestions, readRefusal, sameHost, inRange, windowFits, hostsFit}
 use Rattle.message.proofs.QuestionLaws.{all-passed}
 use Rattle.message.proofs.SectionLaws as sections
 use Rattle.end.specs.declared.Status.{Status}
@@ -45,7 +45,7 @@ use Rattle.end.proofs.Facts.{Facts, facts, facts-clock, narrow}
 use Rattle.end.proofs.Readings.{reads, written-reads, in-range, reports-in, original-source, session-kind}
 use Rattle.end.proofs.Grounds.{isData}
 use Rattle.end.proofs.Service.View.{firstIn, lastIn, TookSource, holds, firstAt, lastAt, Same, Rose, Took, Rel, Filed, Right}
-use Rattle.end.proofs.Service.Booked.{rel-same, calm-right, QuietBy, Quiet, quiet-right, fresh, takes, heeds, Hears, arrival-right, Sends, send-right, Moved, move-right}
+use Rattle.end.proofs.Service.Booked.{rel-same, calm-right, QuietBy, Quiet, untouched-quiet, quiet-right, fresh, takes, heeds, Hears, arrival-right, Sends, send-right, Moved, move-right}
 use Rattle.end.proofs.Service.Frame.{Passed, EventsRight, service-from, none-held}
 use Rattle.end.proofs.Service.Sources.{outside-none, took-opened, took-risen}
 use Rattle.end.proofs.Service.Steps.{same-refl, took-source}
@@ -158,7 +158,7 @@ sent-took us c e f o =
 
 -- the DATA is read as itself
 data-reads : (c : List ℕ) (e : End) → Facts e → e .next < 65536 → cueFits c ≡ true → length c ≡ 24 → readAs (bytesOf (dataMessage (momentOf e) (ownName e) c)) ≡ some (dataMessage (momentOf e) (ownName e) c)
-unfolding inRange hostsFit all rises
+unfolding inRange hostsFit windowFits all rises
 data-reads c e f l fits long =
     written-reads (dataMessage (momentOf e) (ownName e) c)
     (record { stamp = f .clock; names = sections.some l sections.none; cues = sections.some long sections.none; reports = sections.none; echoes = sections.none })
@@ -241,7 +241,9 @@ module _ (e : End) (f : Facts e) (us : List ℕ) (member : isMember (e .status) 
       (λ k. brought (fetchedOf m e) (brings-none m e (fetchedOf m e) f (rw (a, c, b, d)) (no-session FTCH k refl) (fetched-quiet m e f)))
       (λ g. byCond (Hears h e m) (eqb (m .kind) LATE)
       (λ k. brought (lateOf m e) (brings-none m e (lateOf m e) f (rw (a, c, b, d)) (no-session LATE k refl) (late-quiet m e)))
-      (λ l. brought _ (session-quiet us m e f (rw (a, c, b, d)) (session-kind x m p a c b d g l) (reports-in x m p))))))))
+      (λ l. byCond (Hears h e m) (eqb (m .kind) ANNC)
+      (λ k. brought (give Done e) (brings-none m e (give Done e) f (rw (a, c, b, d)) (no-session ANNC k refl) (untouched-quiet (Same e) e e Done refl (same-refl e))))
+      (λ n. brought _ (session-quiet us m e f (rw (a, c, b, d)) (session-kind x m p a c b d g l n) (reports-in x m p)))))))))
 
 -- a looped message is passed over, and a non-member gets nothing
 looped-takes : (m : Meaning) (h : ℕ) (e : End) → eqb (m .sender .0) h ≡ true → takes h e m ≡ false

@@ -1,15 +1,16 @@
 -- From one call to the list: if every event is by the book on a sound end, every allowed list of calls is a run of the service.
 use mathlib.Core.Path.{_≡_, refl, sym, ap, _∙_}
-use mathlib.Core.Bool.{true, false}
+use mathlib.Core.Bool.{true, false, _||_}
 use mathlib.Core.List.{List, [], _∷_, List·Memᴰ, List·Memᴰ·cases-cons, List·Memᴰ·not-nil}
 use mathlib.Core.Logic.{⊎-elim}
-use mathlib.Core.Option.{none}
+use mathlib.Core.Option.{none, some}
 use Prim.Native.Nat.{ℕ, zero, suc, _<_}
 use native.Mathlib.Omega.{arith}
 use lib.ListN.{length, getD}
 use lib.Dec.{eqb, leb}
 use borrow.Author.Tests.{eqb-true, ltb-true}
 use Rattle.message.specs.Entry.{asHost}
+use Rattle.message.specs.Message.{DATA, RQST, REPL, LATE, Meaning}
 use Rattle.message.specs.Question.{ask, firstNo, ticksIn, verdictFor}
 use Rattle.message.specs.declared.Verdict.the-variants as verdict
 use Rattle.message.proofs.QuestionLaws.{all-passed}
@@ -24,12 +25,12 @@ use Rattle.end.specs.Round.{drawCount}
 use Rattle.end.specs.Event.{Action, Moves, Send, Arrival, Else, stepOf, ownQuestions, questionOf, eventOf}
 use Rattle.end.specs.Opening.{openRefusal, endFor, openingOf}
 use Rattle.end.specs.Book.{Book, emptyBook, readAs, Answered, RunFrom, bookAfter, after, firstOf, isSome, among}
-use Rattle.end.specs.Run.{World, Call, resultOf, sentBy, sentAfter, worldAfter, seen, CueArray, Brought, Allowed, Fresh, Service}
-use Rattle.end.proofs.Tools.{byCond, put-all}
+use Rattle.end.specs.Run.{World, Call, resultOf, sentBy, sentAfter, worldAfter, seen, CueArray, AnyRequest, Brought, Allowed, Fresh, Service}
+use Rattle.end.proofs.Tools.{byCond, clash, put-all}
 use Rattle.end.proofs.Facts.{unheard-at}
 use Rattle.end.proofs.Readings.{none-read}
 use Rattle.end.proofs.Service.Sources.{outside-none}
-use Rattle.end.proofs.Service.View.{holds, firstIn, lastIn, windowed, firstAt, lastAt, Rel, Filed, Grows, Right, grows-refl}
+use Rattle.end.proofs.Service.View.{carries, holds, firstIn, lastIn, windowed, firstAt, lastAt, Rel, Filed, Grows, Right, grows-refl}
 
 -- the ends against the book; all that was put out carries the filed cues
 pub record Inv (w : World) (b : Book) : Type 0 where
@@ -70,7 +71,7 @@ rel-grows {b} {b′} {h} {k} {e} g d r = record {
 }
 
 -- what was put out before, and what this call put out
-sent-by : (P : List ℕ → Type 0) (o : Class) (l : List (List ℕ)) → ((x : List ℕ) → List·Memᴰ x l → P x) → ((x : List ℕ) → o ≡ PutsOut x → P x)
+pub sent-by : (P : List ℕ → Type 0) (o : Class) (l : List (List ℕ)) → ((x : List ℕ) → List·Memᴰ x l → P x) → ((x : List ℕ) → o ≡ PutsOut x → P x)
     → (x : List ℕ) → List·Memᴰ x (sentBy o l) → P x
 sent-by P (PutsOut y) l old new x m = ⊎-elim (λ e. new x (ap PutsOut (sym e))) (old x) (List·Memᴰ·cases-cons m)
 sent-by P (HandsOut name c) l old new x m = old x m
@@ -95,12 +96,22 @@ abbrev pub EventsRight : Type 0
 EventsRight = (b : Book) (e : End) (h clock : ℕ) (draws : List ℕ) (ev : Action) → h < 8 → CueArray ev → Passed e ev clock → Rel b h e
     → ((x : List ℕ) → ev ≡ Arrival x → Filed b x) → Right b h ev (stepOf clock draws ev e)
 
--- what an Arrival brings carries the filed cue: a probe carries none, and may come from anywhere
+-- a RQST carries no cue
+asked-filed : (b : Book) (x : List ℕ) → AnyRequest x → Filed b x
+asked-filed b x a m r c =
+    let same : a .0 ≡ m = cc in
+    let kind : m .kind ≡ RQST = ap (λ (i : Meaning). i .kind) (sym same) ∙ a .2 in
+    let none : carries m ≡ false = ap (λ (k : ℕ). (eqb k DATA || eqb k REPL) || eqb k LATE) kind in
+    clash (sym c ∙ none)
+
+-- what an Arrival brings carries the filed cue: a probe carries none, and may come from anywhere, as a display's RQST may
 pub brought-filed : (w : World) (b : Book) (ev : Action) (a : Effect) → Inv w b → Brought (w .sent) ev (Did a) → (x : List ℕ) → ev ≡ Arrival x → Filed b x
 brought-filed w b (Moves m) a inv p x e = let z : _≡_ {A = ℕ} 0 1 = cc in absurd (omega arith)
 brought-filed w b (Send c) a inv p x e = let z : _≡_ {A = ℕ} 0 1 = cc in absurd (omega arith)
 brought-filed w b (Arrival []) a inv p x e = let q : [] ≡ x = cc in λ m r. absurd (none-read m (ap readAs q ∙ r))
-brought-filed w b (Arrival (y ∷ s)) a inv p x e = let q : y ∷ s ≡ x = cc in rw q at (inv .sent (y ∷ s) p)
+brought-filed w b (Arrival (y ∷ s)) a inv p x e = let q : y ∷ s ≡ x = cc in
+    let filed : Filed b (y ∷ s) = ⊎-elim (inv .sent (y ∷ s)) (asked-filed b (y ∷ s)) p in
+    rw q at filed
 brought-filed w b (Else o) a inv p x e = let z : _≡_ {A = ℕ} 0 1 = cc in absurd (omega arith)
 
 module _ (events : EventsRight) where

@@ -1,4 +1,4 @@
--- The events that hand nothing out as Got: Fire, Report, SESS, Fetch and the kinds 22 and 23.
+-- The events that hand nothing out as Got: Fire, Report, SESS, Announce, Fetch and the kinds 22 to 24.
 use mathlib.Core.Path.{_≡_, refl, sym, ap, _∙_, subst}
 use mathlib.Core.Bool.{Bool, true, false, not, _&&_, _||_}
 use mathlib.Core.List.{List, [], _∷_}
@@ -39,12 +39,12 @@ use Rattle.end.specs.Records.{within, isAbove, recordAt, withRecord, isH
 use Rattle.end.specs.Round.{requestAt, nextRound, quietAfterReply}
 use Rattle.end.specs.Names.{asking, expressed, quieted, setRound, quietReply, dropExpress, asked}
 use Rattle.end.specs.Answer.{Out, Done, Ignored, Nothing, Exhausted, PutsOut, Step, give}
-use Rattle.end.specs.Messages.{aboutName, requestMessage, repairMessage, expressMessage, sessionMessage, fetchMessage, fetchedMessage}
+use Rattle.end.specs.Messages.{aboutName, requestMessage, repairMessage, expressMessage, announceMessage, sessionMessage, fetchMessage, fetchedMessage}
 use Rattle.end.specs.Session.{reportedSource, allReported, heardFrom, sessionOf}
 use Rattle.end.specs.Fetch.{mayFetch, nearest, tryOf, fetchOf, mayAnswer, fetchedOf, mayHand, lateOf}
 use Rattle.end.specs.Arrival.{messageName, messageHost, messageCue}
 use Rattle.end.specs.Fire.{expressRank, keptSender, fireAt, fired, earliest}
-use Rattle.end.specs.Event.{Other, Fire, Report, Fetch, otherOf}
+use Rattle.end.specs.Event.{Other, Fire, Report, Announce, Fetch, announced, otherOf}
 use Rattle.end.specs.Book.{readAs, source, number, isAboutName, reportedTo, broughtTo, notBelow, isGot}
 use Rattle.end.proofs.Tools.{byCond, byTest, clash, clash′, and-right, set-elim}
 use Rattle.end.proofs.RecordLaws.{Narrow, at-inside, at-outside}
@@ -220,10 +220,16 @@ late-quiet m e = byCond (Quiet e) (mayHand e m)
     })
     (λ _. ignored-quiet e)
 
+-- Announce: what it puts out carries no cue
+announced-quiet : (x : Span) (e : End) → Quiet e (announced (momentOf e) x e)
+announced-quiet Closed e = nothing-quiet e
+announced-quiet (Open first last) e = bare-quiet e e (announceMessage (momentOf e) first last) refl refl (same-refl e)
+
 -- the events that the book says nothing of: one clause each
 pub others : (us : List ℕ) (o : Other) (e : End) → Facts e → Quiet e (otherOf us o e)
 others us Fire e f = fired-quiet us e f (earliest e 8)
 others us Report e f = bare-quiet e e (sessionMessage e) refl refl (same-refl e)
+others us Announce e f = announced-quiet (sourceAt e (e .host) .span) e
 others us (Fetch name) e f = fetch-quiet name e
 
 -- ---- SESS

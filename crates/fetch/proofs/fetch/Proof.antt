@@ -18,8 +18,8 @@ cast-at c = search needs
 mul-s : tie.Need-mul-s
 mul-s c = search needs
 
-element-copy-out-s : tie.Need-element-copy-out-s
-element-copy-out-s c = search needs
+array-copy-out-s : tie.Need-array-copy-out-s
+array-copy-out-s c = search needs
 
 may-on-requires : tie.Need-may-on-requires
 may-on-requires c κs = search needs
@@ -41,7 +41,7 @@ abbrev allowed-at : tie.After-nearest → tie.After-may-on
 allowed-at c = c .before .before
 
 abbrev source-at : tie.After-may-on → tie.After-source-of
-source-at c = c .before .before .before
+source-at c = c .before .before .before .before
 
 abbrev call : tie.After-source-of → tie.Start
 call c = c .before .before .before
@@ -50,7 +50,8 @@ tried-source-requires : tie.Need-tried-source-requires
 tried-source-requires c κs =
     let at = nearest-at (c .before .before) in
     let from = source-at (allowed-at at) in
-    rw (at .nearest .ensures) (nearest-hosted (call from .args .e) (from .source-of .result) (at .before .attempt-at .result .tried) 8 (omega arith))
+    rw (at .nearest .ensures)
+    (nearest-hosted (from .before .moment-of .result .me) (call from .args .e .sources) (from .source-of .result) (at .before .attempt-at .result .tried) 8 (omega arith))
 
 mul-s1 : tie.Need-mul-s1
 mul-s1 c = search needs
@@ -85,7 +86,7 @@ fetch-spec =
     source-of-requires
     cast-at
     mul-s
-    element-copy-out-s
+    array-copy-out-s
     may-on-requires
     attempt-at-requires
     nearest-requires

@@ -7,7 +7,7 @@ use lib.Seq.{length-take-le}
 use Rattle.end.specs.declared.Answer.{Answer}
 use Rattle.end.specs.Answer.{Out}
 use Rattle.end.specs.Event.{actionOf}
-use Rattle.cases.specs.Shown.{readOff}
+use Rattle.end.specs.Answer.{readOff}
 use Rattle.record.specs.declared.Line.{Line}
 use Rattle.record.specs.Kept.{linesFor}
 use Rattle.keeping.specs.Kept.{kept, keptOf}

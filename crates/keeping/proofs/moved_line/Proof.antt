@@ -32,6 +32,9 @@ returns-5 c = ap kept (c .none4 .ensures) ∙ sym (ap (leaves _) (c .before .enu
 returns-6 : tie.Need-returns-6
 returns-6 c = ap kept (c .none5 .ensures) ∙ sym (ap (leaves _) (c .before .enum-told5 .given .1))
 
+returns-7 : tie.Need-returns-7
+returns-7 c = ap kept (c .none6 .ensures) ∙ sym (ap (leaves _) (c .before .enum-told6 .given .1))
+
 pub moved-line-spec : {M : Type 1} → statement M
 moved-line-spec =
     tie.close
@@ -47,9 +50,12 @@ moved-line-spec =
     (λ c κs. search needs)
     (λ c. search needs)
     (λ c κs. search needs)
+    (λ c. search needs)
+    (λ c κs. search needs)
     returns
     returns-2
     returns-3
     returns-4
     returns-5
-    returns-6)
+    returns-6
+    returns-7)

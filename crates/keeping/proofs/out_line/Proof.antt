@@ -40,10 +40,16 @@ returns-6 : tie.Need-returns-6
 unfolding linesFor
 returns-6 c = ap kept (c .none5 .ensures) ∙ sym (ap (leaves _ _ _) (c .before .enum-told6 .given .1))
 
+returns-7 : tie.Need-returns-7
+unfolding linesFor
+returns-7 c = ap kept (c .none6 .ensures) ∙ sym (ap (leaves _ _ _) (c .before .enum-told7 .given .1))
+
 pub out-line-spec : {M : Type 1} → statement M
 out-line-spec =
     tie.close
     (tie.spec
+    (λ c. search needs)
+    (λ c κs. search needs)
     (λ c. search needs)
     (λ c κs. search needs)
     (λ c. search needs)
@@ -61,4 +67,5 @@ out-line-spec =
     returns-3
     returns-4
     returns-5
-    returns-6)
+    returns-6
+    returns-7)

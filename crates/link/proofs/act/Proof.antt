@@ -61,6 +61,14 @@ fetch-requires c κs =
     let told = c .before in
     told .before .before .before .before .before .pre .room
 
+enum-told-5 : tie.Need-enum-told-5
+enum-told-5 c = search needs
+
+announce-requires : tie.Need-announce-requires
+announce-requires c κs =
+    let pre = c .before .before .before .before .before .pre in
+    record { settled = pre .settled; room = pre .room }
+
 returns : tie.Need-returns
 returns c =
     let what = c .before .before in
@@ -107,6 +115,14 @@ returns-6 c =
     let w = c .before .before in
     rw (w .before .before .before .what2 .given .1) (w .fetch .ensures)
 
+same-length-6 : tie.Need-same-length-6
+same-length-6 c = search needs
+
+returns-7 : tie.Need-returns-7
+returns-7 c =
+    let w = c .before .before in
+    rw (w .before .before .enum-told5 .given .1) (w .announce .ensures)
+
 pub act-spec : {M : Type 1} → statement M
 act-spec =
     tie.close
@@ -123,6 +139,8 @@ act-spec =
     report-requires
     enum-known-what-2
     fetch-requires
+    enum-told-5
+    announce-requires
     returns
     same-length
     returns-2
@@ -133,4 +151,6 @@ act-spec =
     same-length-4
     returns-5
     same-length-5
-    returns-6)
+    returns-6
+    same-length-6
+    returns-7)

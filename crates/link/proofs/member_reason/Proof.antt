@@ -32,6 +32,9 @@ enum-known-what c = search needs
 fetch-reason-requires : tie.Need-fetch-reason-requires
 fetch-reason-requires c κs = search needs
 
+enum-told-6 : tie.Need-enum-told-6
+enum-told-6 c = search needs
+
 returns : tie.Need-returns
 returns c = rw (c .enum-told .given .1)
 
@@ -50,6 +53,9 @@ returns-5 c = rw (c .enum-told5 .given .1)
 returns-6 : tie.Need-returns-6
 returns-6 c = rw (c .before .before .what .given .1) (c .fetch-reason .ensures)
 
+returns-7 : tie.Need-returns-7
+returns-7 c = rw (c .enum-told6 .given .1)
+
 pub member-reason-spec : {M : Type 1} → statement M
 member-reason-spec =
     tie.close
@@ -62,9 +68,11 @@ member-reason-spec =
     enum-told-5
     enum-known-what
     fetch-reason-requires
+    enum-told-6
     returns
     returns-2
     returns-3
     returns-4
     returns-5
-    returns-6)
+    returns-6
+    returns-7)

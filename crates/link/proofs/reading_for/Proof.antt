@@ -39,6 +39,12 @@ enum-told-6 c = search needs
 unread-requires-5 : tie.Need-unread-requires-5
 unread-requires-5 c κs = search needs
 
+enum-told-7 : tie.Need-enum-told-7
+enum-told-7 c = search needs
+
+unread-requires-6 : tie.Need-unread-requires-6
+unread-requires-6 c κs = search needs
+
 returns : tie.Need-returns
 returns c = rw (c .before .enum-told .given .1) (c .unread .ensures)
 
@@ -57,6 +63,9 @@ returns-5 c = rw (c .before .enum-told5 .given .1) (c .unread4 .ensures)
 returns-6 : tie.Need-returns-6
 returns-6 c = rw (c .before .enum-told6 .given .1) (c .unread5 .ensures)
 
+returns-7 : tie.Need-returns-7
+returns-7 c = rw (c .before .enum-told7 .given .1) (c .unread6 .ensures)
+
 pub reading-for-spec : {M : Type 1} → statement M
 reading-for-spec =
     tie.close
@@ -73,9 +82,12 @@ reading-for-spec =
     unread-requires-4
     enum-told-6
     unread-requires-5
+    enum-told-7
+    unread-requires-6
     returns
     returns-2
     returns-3
     returns-4
     returns-5
-    returns-6)
+    returns-6
+    returns-7)

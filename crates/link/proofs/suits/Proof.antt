@@ -27,6 +27,9 @@ enum-told-4 c = search needs
 enum-told-5 : tie.Need-enum-told-5
 enum-told-5 c = search needs
 
+enum-told-6 : tie.Need-enum-told-6
+enum-told-6 c = search needs
+
 returns : tie.Need-returns
 returns c = rw (c .before .before .what .given .1) (c .may-move .ensures)
 
@@ -55,6 +58,11 @@ returns-6 c =
     let known = c .enum-told5 .given .1 in
     rw known (rw known at (c .before .before .takes .ensures))
 
+returns-7 : tie.Need-returns-7
+returns-7 c =
+    let known = c .enum-told6 .given .1 in
+    rw known (rw known at (c .before .before .takes .ensures))
+
 pub suits-spec : {M : Type 1} → statement M
 suits-spec =
     tie.close
@@ -67,9 +75,11 @@ suits-spec =
     enum-told-3
     enum-told-4
     enum-told-5
+    enum-told-6
     returns
     returns-2
     returns-3
     returns-4
     returns-5
-    returns-6)
+    returns-6
+    returns-7)

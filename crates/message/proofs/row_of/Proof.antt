@@ -2,7 +2,7 @@
 use mathlib.Core.Path.{sym, ap, _∙_}
 use borrow.Author.Needs.{needs}
 use borrow.Author.Tests.{ne-eqb}
-use Rattle.message.specs.Kind.{rowOf, DATA, RQST, REPL, SESS, XPRS, FTCH, LATE}
+use Rattle.message.specs.Kind.{rowOf, DATA, RQST, REPL, SESS, XPRS, FTCH, LATE, ANNC}
 use Rattle.message.proofs.row_of.Statement.{statement}
 use Rattle.message.proofs.row_of.Tie as tie
 
@@ -28,10 +28,14 @@ returns-7 : tie.Need-returns-7
 returns-7 c = c .known7 .ensures ∙ sym (ap rowOf (c .before .match .keys7))
 
 returns-8 : tie.Need-returns-8
-returns-8 c =
+returns-8 c = c .known8 .ensures ∙ sym (ap rowOf (c .before .match .keys8))
+
+returns-9 : tie.Need-returns-9
+returns-9 c =
     let kind = c .before .args .kind in
     -- the byte is none of the kinds, told from the last one down
-    let late = c .match .rest in
+    let annc = c .match .rest in
+    let late = annc .0 in
     let ftch = late .0 in
     let xprs = ftch .0 in
     let sess = xprs .0 in
@@ -45,12 +49,14 @@ returns-8 c =
       ne-eqb kind XPRS (xprs .1),
       ne-eqb kind FTCH (ftch .1),
       ne-eqb kind LATE (late .1),
+      ne-eqb kind ANNC (annc .1),
     )
 
 pub row-of-spec : {M : Type 1} → statement M
 row-of-spec =
     tie.close
     (tie.spec
+    (λ c κs. search needs)
     (λ c κs. search needs)
     (λ c κs. search needs)
     (λ c κs. search needs)
@@ -65,4 +71,5 @@ row-of-spec =
     returns-5
     returns-6
     returns-7
-    returns-8)
+    returns-8
+    returns-9)

@@ -29,6 +29,9 @@ enum-told-5 c = search needs
 enum-told-6 : tie.Need-enum-told-6
 enum-told-6 c = search needs
 
+enum-told-7 : tie.Need-enum-told-7
+enum-told-7 c = search needs
+
 returns : tie.Need-returns
 returns c = λ bytes h. rw (c .enum-told .given .1)
 
@@ -48,6 +51,9 @@ returns-5 c = λ bytes h. rw (c .enum-told5 .given .1)
 returns-6 : tie.Need-returns-6
 returns-6 c = λ bytes h. rw (c .enum-told6 .given .1)
 
+returns-7 : tie.Need-returns-7
+returns-7 c = λ bytes h. rw (c .enum-told7 .given .1)
+
 pub own-refusal-spec : {M : Type 1} → statement M
 own-refusal-spec =
     tie.close
@@ -60,9 +66,11 @@ own-refusal-spec =
     enum-told-4
     enum-told-5
     enum-told-6
+    enum-told-7
     returns
     returns-2
     returns-3
     returns-4
     returns-5
-    returns-6)
+    returns-6
+    returns-7)

@@ -1,8 +1,8 @@
--- `receive::step_unnamed` meets its contract: kind 22, kind 23, or a session message.
+-- `receive::step_unnamed` meets its contract: kind 22, kind 23, kind 24, or a session message.
 use Rattle.message.specs.Message.{meaningOf}
 use Rattle.message.proofs.QuestionLaws.{counts-small}
 use Rattle.receive.proofs.Passes.{in-range}
-use Rattle.receive.proofs.Whole.{fetched-gives, late-gives, session-gives}
+use Rattle.receive.proofs.Whole.{fetched-gives, late-gives, announce-gives, session-gives}
 use borrow.Author.Needs.{needs}
 use Rattle.receive.proofs.step_unnamed.Statement.{statement}
 use Rattle.receive.proofs.step_unnamed.Tie as tie
@@ -55,18 +55,26 @@ returns-2 c =
     late-gives (a .t) (meaningOf (a .m)) (a .s) (a .out .now) (not-22 .if1 .left) _ _ _ _ (test .if2 .taken) (said cue .entry-of .ensures)
     (cue .cue-of .ensures) (w .hand-late .ensures)
 
+returns-3 : tie.Need-returns-3
+returns-3 c =
+    let test = c .before .before in
+    let not-22 = test .before .before in
+    let a = call (said (other not-22)) .args in
+    announce-gives (a .t) (meaningOf (a .m)) (a .s) (a .out .now) (not-22 .if1 .left) (test .if2 .left) (c .if3 .taken)
+
 hear-requires : tie.Need-hear-requires
 hear-requires c κs =
-    let start = call (said (other (c .before .before))) in
+    let start = call (said (other (c .before .before .before .before))) in
     let small = counts-small (start .args .m .kind) (start .args .m .counts) (start .pre .counts-in) in
     ((small .reports, small .echoes), (start .pre .ranges-in, start .pre .clock))
 
-returns-3 : tie.Need-returns-3
-returns-3 c =
-    let test = c .before in
+returns-4 : tie.Need-returns-4
+returns-4 c =
+    let bare = c .before in
+    let test = bare .before .before in
     let not-22 = test .before .before in
     let a = call (said (other not-22)) .args in
-    session-gives (a .t) (meaningOf (a .m)) (a .s) (a .out .now) (not-22 .if1 .left) _ (test .if2 .left) (c .hear .ensures)
+    session-gives (a .t) (meaningOf (a .m)) (a .s) (a .out .now) (not-22 .if1 .left) (test .if2 .left) _ (bare .if3 .left) (c .hear .ensures)
 
 pub step-unnamed-spec : {M : Type 1} → statement M
 step-unnamed-spec =
@@ -80,5 +88,6 @@ step-unnamed-spec =
     hand-late-requires
     same-length-2
     returns-2
+    returns-3
     hear-requires
-    returns-3)
+    returns-4)

@@ -13,11 +13,11 @@ abbrev μ-loop : tie.MeasureT-loop
 loop-holds : tie.Need-loop-holds Inv-loop μ-loop
 loop-holds c = tt
 
-returns : tie.Need-returns Inv-loop μ-loop
-returns c = tt
-
 byte-at-requires : tie.Need-byte-at-requires Inv-loop μ-loop
 byte-at-requires c κs = tt
+
+returns : tie.Need-returns Inv-loop μ-loop
+returns c = tt
 
 wide-requires : tie.Need-wide-requires Inv-loop μ-loop
 wide-requires c κs = tt
@@ -41,8 +41,8 @@ key-of-spec =
     Inv-loop
     μ-loop
     loop-holds
-    returns
     byte-at-requires
+    returns
     wide-requires
     add-i
     loop-less

@@ -1,5 +1,11 @@
-// Standard input as lines.
+// Standard input as lines, for the programs that play long lines. Whoever reads keeps the state of reading among its numbers, at FROM and
+// BEFORE; the other numbers are not touched here. No contract can say what is read: these say no more than that reading is safe and ends.
 use libc::STDIN_FILENO;
+
+// The bytes of the buffer that are still to be taken: from..before.
+pub const FROM: usize = 18;
+
+pub const BEFORE: usize = 19;
 
 // What the input holds instead of a line of at most 1,000 bytes: one that is longer or has no line feed, or its end.
 pub const MALFORMED: usize = 1001;
@@ -21,14 +27,14 @@ fn feed(line: &mut [u8; 1000], len: usize, b: u8) -> usize {
     MALFORMED
 }
 
-// A place of the buffer, as one that takes a line finds it.
+// Where taking stopped, the length of the line so far, and whether its line feed came.
 struct Taken {
     at: usize,
     len: usize,
     found: bool,
 }
 
-// Takes the bytes at..have of the buffer into the line, up to its line feed.
+// Takes the bytes from..have of the buffer into the line, up to its line feed.
 fn take(
     buffer: &[u8; 65536],
     from: usize,
@@ -61,21 +67,15 @@ pub fn next(buffer: &mut [u8; 65536], n: &mut [usize; 20], line: &mut [u8; 1000]
     let mut turns = u64::MAX;
     while 0 < turns {
         turns -= 1;
-        let t = take(
-            buffer,
-            n[desk::INPUT_FROM],
-            n[desk::INPUT_BEFORE],
-            line,
-            len,
-        );
-        n[desk::INPUT_FROM] = t.at;
+        let t = take(buffer, n[FROM], n[BEFORE], line, len);
+        n[FROM] = t.at;
         len = t.len;
         if t.found {
             return len;
         }
         let got = refill(buffer);
-        n[desk::INPUT_FROM] = 0;
-        n[desk::INPUT_BEFORE] = got;
+        n[FROM] = 0;
+        n[BEFORE] = got;
         if got == 0 {
             return if len == 0 { END } else { MALFORMED };
         }

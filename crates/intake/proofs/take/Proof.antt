@@ -1,8 +1,8 @@
--- `playback::input::take` meets its contract: the measure is the bytes that are left. Assumes nothing.
+-- `intake::take` meets its contract: the measure is the bytes that are left. Assumes nothing.
 use native.Mathlib.Omega.{arith}
 use Prim.Native.Nat.{_-_}
-use Rattle.playback.proofs.input.take.Statement.{statement}
-use Rattle.playback.proofs.input.take.Tie as tie
+use Rattle.intake.proofs.take.Statement.{statement}
+use Rattle.intake.proofs.take.Tie as tie
 
 abbrev Inv-loop : tie.InvT-loop
 Inv-loop buffer from have line₀ had at₀ len₀ found₀ line at len found = Unit

@@ -1,7 +1,7 @@
--- `playback::input::next` meets its contract: the measure is the turns that are left. Assumes nothing.
+-- `intake::next` meets its contract: the measure is the turns that are left. Assumes nothing.
 use native.Mathlib.Omega.{arith}
-use Rattle.playback.proofs.input.next.Statement.{statement}
-use Rattle.playback.proofs.input.next.Tie as tie
+use Rattle.intake.proofs.next.Statement.{statement}
+use Rattle.intake.proofs.next.Tie as tie
 
 abbrev Inv-loop : tie.InvT-loop
 Inv-loop buffer₀ n₀ line₀ len₀ turns₀ buffer n line len turns = Unit

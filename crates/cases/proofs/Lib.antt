@@ -3,5 +3,6 @@ pub mod Cases
 pub mod Allowed
 pub mod Shown
 pub mod Service
+pub mod Foyer
 pub mod Limits
 pub mod Turn

@@ -19,4 +19,5 @@ pub mod Season
 pub mod Express
 pub mod Fetch
 pub mod Announce
+pub mod Foyer
 pub mod Turn

@@ -20,7 +20,6 @@ ghost use mathlib.Core.List.{[], _∷_};
 ghost use Prim.Native.Nat.{_+_, _≤_, _<_};
 ghost use lib.ListN.{length, take};
 ghost use Rattle.message.specs.Limit.{hostLimit, roomNeeded};
-ghost use Rattle.message.specs.Entry.{blankName, blankReport, blankEcho};
 ghost use Rattle.message.specs.Message.{Small, numberWidth, reportPlaces, echoPlaces, meaningOf, bytesOf};
 ghost use Rattle.end.specs.Messages.{aboutName, ownEntry, announceMessage, reportOn, echoOn, sessionMessage};
 ghost use Rattle.end.specs.Answer.{Out, Did, answerOf, bufferOf};
@@ -46,44 +45,13 @@ pub struct Entries {
     pub echoes: Echoes,
 }
 
-fn no_name() -> NameEntry
-    ensures { λ r. ⌜ r ≡ blankName ⌝ }
-{
-    NameEntry {
-        name: Name {
-            source: Host(0),
-            number: CueNumber(0),
-        },
-        host: Host(0),
-    }
-}
-
-fn no_report() -> Report
-    ensures { λ r. ⌜ r ≡ blankReport ⌝ }
-{
-    Report {
-        source: Host(0),
-        last: CueNumber(0),
-    }
-}
-
-fn no_echo() -> Echo
-    ensures { λ r. ⌜ r ≡ blankEcho ⌝ }
-{
-    Echo {
-        host: Host(0),
-        stamp: 0,
-        held: 0,
-    }
-}
-
 // A message about one name: DATA, REPL and LATE with one cue, RQST, XPRS and FTCH with none.
 fn about_name(kind: u8, t: Moment, name: Name, host: Host, cues: usize, cue: [u8; 24]) -> Message
     requires { ⌜ cues ≤ 1 ⌝ }
     ensures { λ r. ⌜ meaningOf r ≡ aboutName kind t name host (take cues (cue ∷ [])) ⌝ }
     ensures { λ r. ⌜ Small (numberWidth (r .kind)) (r .counts) ⌝ }
 {
-    let mut names = [no_name(); 2];
+    let mut names = [message::no_name(); 2];
     names[0] = NameEntry { name, host };
     let counts = Counts {
         names: 1,
@@ -99,8 +67,8 @@ fn about_name(kind: u8, t: Moment, name: Name, host: Host, cues: usize, cue: [u8
         counts,
         names,
         cue,
-        reports: [no_report(); 8],
-        echoes: [no_echo(); 7],
+        reports: [message::no_report(); 8],
+        echoes: [message::no_echo(); 7],
     }
 }
 
@@ -137,8 +105,8 @@ fn announce_message(t: Moment, first: CueNumber, last: CueNumber) -> Message
         counts,
         names,
         cue: [0; 24],
-        reports: [no_report(); 8],
-        echoes: [no_echo(); 7],
+        reports: [message::no_report(); 8],
+        echoes: [message::no_echo(); 7],
     }
 }
 
@@ -194,11 +162,11 @@ fn all_entries(e: End) -> Entries
     let sources = e.sources;
     let mut reports = Reports {
         count: 0,
-        places: [no_report(); 8],
+        places: [message::no_report(); 8],
     };
     let mut echoes = Echoes {
         count: 0,
-        places: [no_echo(); 7],
+        places: [message::no_echo(); 7],
     };
     let mut h: u8 = 0;
     while h < 8 {
@@ -236,7 +204,7 @@ pub fn session_message(e: End) -> Message
         sender,
         stamp: e.clock,
         counts,
-        names: [no_name(); 2],
+        names: [message::no_name(); 2],
         cue: [0; 24],
         reports: said,
         echoes: heard,

@@ -4,27 +4,31 @@ use mathlib.Core.Path.{_≡_, refl, sym, ap, _∙_, subst}
 use mathlib.Core.Bool.{Bool, true, false, not, _&&_}
 use mathlib.Core.List.{List, [], _∷_, _++_}
 use mathlib.Core.Option.{Option, none, some}
-use Prim.Native.Nat.{ℕ, zero, suc, _+_, _-_, _≤_, _<_}
+use Prim.Native.Nat.{ℕ, zero, suc, _+_, _-_, _≤_, _<_, min, max}
 use native.Mathlib.Omega.{arith}
 use lib.Dec.{leb, ltb, eqb}
-use borrow.Author.Tests.{le-leb, lt-leb, lt-ltb, le-ltb, eq-eqb, ne-eqb, ltb-true}
+use borrow.Author.Tests.{le-leb, lt-leb, lt-ltb, le-ltb, eq-eqb, ne-eqb, ltb-true, leb-true}
 use Rattle.numbers.specs.Bits.{bit}
 use Rattle.numbers.proofs.Cases.{by-flag, by-order}
-use Rattle.numbers.proofs.BitLaws.{bit-above}
+use Rattle.numbers.proofs.BitLaws.{bit-above, bit-none}
 use Rattle.message.specs.Entry.{asNumber}
 use Rattle.message.specs.declared.Host.{Host}
+use Rattle.message.proofs.QuestionLaws.{and-both}
 use Rattle.end.specs.Answer.{classIn}
+use Rattle.end.proofs.Tools.{clash′}
 use Rattle.display.specs.declared.Window.{Window}
 use Rattle.display.specs.declared.Window.the-variants.{Unstarted, Started}
 use Rattle.display.specs.declared.Display.{Display}
 use Rattle.display.specs.declared.Lost.{Lost}
 use Rattle.display.specs.Display.{openingOf, displayFor, openQuestions}
-use Rattle.display.specs.Hear.{noneLost}
+use Rattle.display.specs.Hear.{isNew, unreceived, noneLost, lostBy}
 use Rattle.message.specs.Question.{firstNo}
 use Rattle.display.specs.Call.{eventOf}
-use Rattle.display.specs.History.{Call, Told, after, afterAll, told, one, handedIn, handedOut, reportedLost, isMissing, startOf, isCovered, isBetween, isReceivedIn, passes, EachNumberOnce, StaysSo, LostAsPassed, MissingIs, ReceivedNeverReported}
+use Rattle.display.specs.History.{Call, Told, after, afterAll, told, one, handedIn, handedOut, reportedLost, isMissing, startOf, isCovered, isBetween, isReceivedIn, passes, noLower, EachNumberOnce, StaysSo, NeverLower, NoneForgotten, LostAsPassed, Stands, LossesStand, MissingIs, ReceivedNeverReported}
 use Rattle.display.proofs.WindowLaws.{SoundWindow}
-use Rattle.display.proofs.Moves.{Went, went}
+use Rattle.display.proofs.SetLaws.{turned-past}
+use Rattle.display.proofs.NumberLaws.{span-low}
+use Rattle.display.proofs.Moves.{Went, Stays, Starts, Takes, Announces, went}
 use Rattle.display.proofs.StepLaws.{lostIn, none-lost, Raised, started-went, Began, Waits, Begins, unstarted-went, start-sound}
 
 -- the number that a call hands out, and what it loses
@@ -118,13 +122,20 @@ ran t l s n w d p (c ∷ cs) =
     ran-more t l s n _ (told (after d c) cs) _ (after d c .window) r (ran (r .trail) (r .lead) (r .set) n (r .sound) (after d c) (r .is) cs)
 
 -- ---- before
+
+-- from trail on
+abbrev pub isFrom : Window → ℕ → Bool
+isFrom Unstarted n = false
+isFrom (Started trail lead set) n = leb (trail .0) n
+
 pub record Story (n : ℕ) (ts : List Told) (v : Window) : Type 0 where
   pub once : handedOut ts n + reportedLost ts n + one (isMissing v n) ≡ one (isCovered (startOf ts) v n)
   pub missing : isMissing v n ≡ (isBetween v n && eqb (handedOut ts n) 0)
+  pub new : isNew v n ≡ (isFrom v n && eqb (handedOut ts n) 0)
 
 story-none : (n : ℕ) → Story n [] Unstarted
-unfolding handedOut reportedLost startOf
-story-none n = record { once = refl; missing = refl }
+unfolding handedOut reportedLost startOf isNew
+story-none n = record { once = refl; missing = refl; new = refl }
 
 -- a call that hands out and loses nothing
 story-waits : (n : ℕ) (o : Told) (ts : List Told) (v : Window) → handedIn (classIn (o .outcome)) ≡ none → o .lost ≡ noneLost → Story n ts v → Story n (o ∷ ts) v
@@ -135,6 +146,7 @@ story-waits n o ts v p q w =
     record {
       once = rw p (omega (arith, w .once, no-loss));
       missing = w .missing ∙ ap (λ (k : ℕ). isBetween v n && eqb k 0) (sym out);
+      new = w .new ∙ ap (λ (k : ℕ). isFrom v n && eqb k 0) (sym out);
     }
 
 -- the start
@@ -172,14 +184,25 @@ missing-by : (a b : Bool) (k : ℕ) → one b ≡ k → (a && not b) ≡ (a && e
 missing-by a true k e = rw (← e)
 missing-by a false k e = rw (← e)
 
+-- from trail on the set has what was handed out
+begun-held : (k n : ℕ) (ts : List Told) (v : Window) (r : Ran k k 1 n ts v) → r .trail ≤ n
+    → one (bit (r .set) (n - r .trail)) ≡ one (eqb k n) + handedOut ts n
+begun-held k n ts v r a = omega (arith, r .held a, start-held k n (omega (arith, r .trails)))
+
 begun-missing : (k n : ℕ) (ts : List Told) (v : Window) → Ran k k 1 n ts v → isMissing v n ≡ (isBetween v n && eqb (one (eqb k n) + handedOut ts n) 0)
 begun-missing k n ts v r =
     rw (r .is)
     (by-order n (r .trail)
     (λ a. rw (lt-leb (r .trail) n a))
-    (λ a.
-    let same : one (bit (r .set) (n - r .trail)) ≡ one (eqb k n) + handedOut ts n = omega (arith, r .held a, start-held k n (omega (arith, r .trails))) in
-    missing-by (leb (r .trail) n && leb n (r .lead)) (bit (r .set) (n - r .trail)) (one (eqb k n) + handedOut ts n) same))
+    (λ a. missing-by (leb (r .trail) n && leb n (r .lead)) (bit (r .set) (n - r .trail)) (one (eqb k n) + handedOut ts n) (begun-held k n ts v r a)))
+
+begun-new : (k n : ℕ) (ts : List Told) (v : Window) → Ran k k 1 n ts v → isNew v n ≡ (isFrom v n && eqb (one (eqb k n) + handedOut ts n) 0)
+unfolding isNew
+begun-new k n ts v r =
+    rw (r .is)
+    (by-order n (r .trail)
+    (λ a. rw (lt-leb (r .trail) n a))
+    (λ a. missing-by (leb (r .trail) n) (bit (r .set) (n - r .trail)) (one (eqb k n) + handedOut ts n) (begun-held k n ts v r a)))
 
 story-begins : (k n : ℕ) (o : Told) (ts : List Told) (v : Window) → handedIn (classIn (o .outcome)) ≡ some k → o .lost ≡ noneLost
     → Ran k k 1 n ts v → Story n (o ∷ ts) v
@@ -192,6 +215,7 @@ story-begins k n o ts v p q r =
     record {
       once = rw (p, r .is) (omega (arith, r .once, no-loss, all, none));
       missing = begun-missing k n ts v r ∙ ap (λ (x : ℕ). isBetween v n && eqb x 0) (sym out);
+      new = begun-new k n ts v r ∙ ap (λ (x : ℕ). isFrom v n && eqb x 0) (sym out);
     }
 
 story : (n : ℕ) (d : Display) → d .window ≡ Unstarted → (cs : List Call) → Story n (told d cs) (afterAll d cs .window)
@@ -226,7 +250,23 @@ each-number-once own sender cs n = story n (openingOf own sender .display) (open
 pub missing-is : MissingIs
 missing-is own sender cs n = story n (openingOf own sender .display) (opened own sender) cs .missing
 
+-- a cue is new where its number was not handed out
+pub new-by-history : (own sender : Host) (cs : List Call) (n : ℕ) → let d = openingOf own sender .display in
+    let w = afterAll d cs .window in
+    isNew w n ≡ (isFrom w n && eqb (handedOut (told d cs) n) 0)
+new-by-history own sender cs n = story n (openingOf own sender .display) (opened own sender) cs .new
+
 -- calls after calls
+after-more : (d : Display) (cs more : List Call) → afterAll d (cs ++ more) ≡ afterAll (afterAll d cs) more
+unfolding afterAll
+after-more d [] more = refl
+after-more d (c ∷ cs) more = after-more (after d c) cs more
+
+told-more : (d : Display) (cs more : List Call) → told d (cs ++ more) ≡ told d cs ++ told (afterAll d cs) more
+unfolding told afterAll
+told-more d [] more = refl
+told-more d (c ∷ cs) more = ap (λ (ts : List Told). record { outcome = eventOf d (c .event) (c .clock) (c .room) .outcome; lost = losses d c } ∷ ts) (told-more (after d c) cs more)
+
 handed-more : (d : Display) (cs more : List Call) (n : ℕ)
     → handedOut (told d (cs ++ more)) n ≡ handedOut (told d cs) n + handedOut (told (afterAll d cs) more) n
 unfolding told afterAll handedOut
@@ -257,6 +297,49 @@ received-never-reported own sender cs more n h =
     let most = one-most (isCovered (startOf (told d (cs ++ more))) (afterAll d (cs ++ more) .window) n) in
     omega (arith, all, most, handed-more d cs more n)
 
+-- neither trail nor lead falls
+no-lower : (t l s n : ℕ) (ts : List Told) (w v : Window) → w ≡ Started (asNumber t) (asNumber l) s → Ran t l s n ts v → noLower w v ≡ true
+no-lower t l s n ts w v p r = rw (p, r .is, le-leb t (r .trail) (r .trails), le-leb l (r .lead) (r .leads))
+
+not-yet : (w v : Window) → w ≡ Unstarted → noLower w v ≡ true
+not-yet w v p = rw p
+
+lower-none : (d : Display) → WindowIs d → (more : List Call) → noLower (d .window) (afterAll d more .window) ≡ true
+lower-none d (Not p) more = not-yet (d .window) (afterAll d more .window) p
+lower-none d (Is t l s p w) more = no-lower t l s 0 (told d more) (d .window) (afterAll d more .window) p (ran t l s 0 w d p more)
+
+pub never-lower : NeverLower
+never-lower own sender cs more =
+    let d = openingOf own sender .display in
+    rw (after-more d cs more) (lower-none (afterAll d cs) (sound-now d (Not (opened own sender)) cs) more)
+
+-- and the start stays
+start-keeps : (ts us : List Told) (k : ℕ) → startOf ts ≡ some k → startOf (ts ++ us) ≡ some k
+unfolding startOf
+start-keeps [] us k h = let z : _≡_ {A = ℕ} 0 1 = cc in absurd (omega arith)
+start-keeps (c ∷ ts) us k h = go (handedIn (classIn (c .outcome))) refl (start-keeps ts us k)
+  where
+    go : (o : Option ℕ) → handedIn (classIn (c .outcome)) ≡ o → (startOf ts ≡ some k → startOf (ts ++ us) ≡ some k) → startOf (c ∷ (ts ++ us)) ≡ some k
+    go none p rest = let e : startOf ts ≡ some k = rw p at h in rw p (rest e)
+    go (some j) p rest = let e : some j ≡ some k = rw p at h in rw p e
+
+covered-keeps : (o q : Option ℕ) (w v : Window) (n : ℕ) → ((k : ℕ) → o ≡ some k → q ≡ some k) → noLower w v ≡ true → isCovered o w n ≡ true → isCovered q v n ≡ true
+covered-keeps none q w v n f g h = clash′ h
+covered-keeps (some k) q Unstarted v n f g h = clash′ h
+covered-keeps (some k) q (Started trail lead set) Unstarted n f g h = clash′ g
+covered-keeps (some k) q (Started trail lead set) (Started trail′ lead′ set′) n f g h =
+    let both = and-both (leb k n) (leb n (lead .0)) h in
+    let up = leb-true (lead .0) (lead′ .0) (and-both (leb (trail .0) (trail′ .0)) (leb (lead .0) (lead′ .0)) g .1) in
+    rw (f k refl, both .0, le-leb n (lead′ .0) (omega (arith, up, leb-true n (lead .0) (both .1))))
+
+pub none-forgotten : NoneForgotten
+none-forgotten own sender cs more n h =
+    let d = openingOf own sender .display in
+    covered-keeps (startOf (told d cs)) (startOf (told d (cs ++ more))) (afterAll d cs .window) (afterAll d (cs ++ more) .window) n
+    (λ k e. ap startOf (told-more d cs more) ∙ start-keeps (told d cs) (told (afterAll d cs) more) k e)
+    (never-lower own sender cs more)
+    h
+
 -- the losses of a call, by its window before and after
 passes-none : (w v : Window) (n : ℕ) → w ≡ Unstarted → one (passes w v n && not (isReceivedIn w n)) ≡ 0
 passes-none w v n p = rw p
@@ -281,3 +364,33 @@ pub lost-as-passed : LostAsPassed
 lost-as-passed own sender cs c n =
     let d = openingOf own sender .display in
     lost-as-passed-in (afterAll d cs) c n (sound-now d (Not (opened own sender)) cs)
+
+-- ---- how losses stand
+stands-none : (w : Window) (n : ℕ) → Stands w noneLost n
+stands-none w n = record {
+  in-set = λ h. clash′ (sym (bit-none (n - 0)) ∙ and-both (leb 0 n) (bit 0 (n - 0)) h .1);
+  in-span = λ h. clash′ h;
+}
+
+stands-by : (t : ℕ) (w : Window) (n : ℕ) → Stands w (lostBy t w) n
+unfolding lostBy
+stands-by t Unstarted n = stands-none Unstarted n
+stands-by t (Started trail lead set) n = record {
+  in-set = λ h.
+      let k = min (max (trail .0) t) (lead .0 + 1) - trail .0 in
+      let both = and-both (leb (trail .0) n) (bit (unreceived k set) (n - trail .0)) h in
+      by-order (lead .0) n
+      (λ a. clash′ (sym (turned-past k set (n - trail .0) (omega (arith, leb-true (trail .0) n (both .0)))) ∙ both .1))
+      (λ a. (rw (both .0, le-leb n (lead .0) a), eq-eqb (trail .0) (trail .0) refl));
+  in-span = λ h.
+      by-order (lead .0) n (λ a. lt-ltb (lead .0) n a) (λ a. clash′ (sym (span-low (lead .0) (max (trail .0) t) n a) ∙ h));
+}
+
+stands : (w : Window) (h : Option ℕ) (l : Lost) (v : Window) (n : ℕ) → Went w h l v → Stands w l n
+stands w h l v n (Stays a b c) = rw b (stands-none w n)
+stands w h l v n (Starts k s a b c d) = rw c (stands-none w n)
+stands w h l v n (Takes k s a b c d) = rw c (stands-by (k - 63) w n)
+stands w h l v n (Announces t k x y s a b c) = rw b (stands-by t w n)
+
+pub losses-stand : LossesStand
+losses-stand d c n = stands (d .window) _ _ _ n (went d (c .event) (c .clock) (c .room))

@@ -7,5 +7,6 @@ pub mod StepLaws
 pub mod History
 pub mod StaysSound
 pub mod Asks
+pub mod Answers
 pub mod Foyer
 pub mod Rows

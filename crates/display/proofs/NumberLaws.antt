@@ -17,7 +17,7 @@ use Rattle.display.proofs.WindowLaws.{SoundWindow}
 span-in : (l top n : ℕ) → l < n → n < top → inSpan (lostAbove l top) n ≡ true
 span-in l top n a b = rw (lt-ltb (l + 1) top (omega arith), le-leb (l + 1) n (omega arith), le-leb n (top - 1) (omega arith))
 
-span-low : (l top n : ℕ) → n ≤ l → inSpan (lostAbove l top) n ≡ false
+pub span-low : (l top n : ℕ) → n ≤ l → inSpan (lostAbove l top) n ≡ false
 span-low l top n a =
     by-flag (ltb (l + 1) top)
     (λ t. rw (t, lt-leb (l + 1) n (omega arith)))

@@ -2,7 +2,7 @@
 -- to 5, hear 8 to 11 too".
 use Prim.Native.Nat.{ℕ}
 use mathlib.Core.Bool.{cond}
-use mathlib.Core.List.{List, [], _∷_, _++_}
+use mathlib.Core.List.{List, [], _∷_}
 use lib.ListN.{length}
 use lib.Dec.{leb, eqb}
 use Rattle.message.specs.Limit.{roomNeeded}
@@ -20,11 +20,12 @@ pub data Event : Type 0 where
   Hear : List ℕ → Event
   Step : Event
 
--- 1: the output's 128 bytes; 3: the state is sound; 4 and 5: the clock
+-- "hear 8 to 11 too": the reader's
 abbrev pub ownQuestions : Event → List Question
 ownQuestions (Hear bytes) = readQuestions bytes
 ownQuestions Step = []
 
+-- 1: the output's 128 bytes; 3: the state is sound; 4 and 5: the clock
 abbrev pub questions : Display → Event → ℕ → ℕ → List Question
 questions d ev clock room =
     ask (leb roomNeeded room) 1 ∷ ask (soundOf d) 3 ∷ ask (ticksIn clock) 4 ∷ ask (leb (d .clock) clock) 5 ∷ ownQuestions ev

@@ -1,7 +1,6 @@
 -- What a display does with a message, and which numbers that loses. Document 02, P11.
 use Prim.Native.Nat.{ℕ, _+_, _-_, _/_, _%_, _^_, min, max}
 use mathlib.Core.Bool.{Bool, false, cond, not, _&&_, _||_}
-use mathlib.Core.List.{List, []}
 use lib.ListN.{getD}
 use lib.Dec.{leb, ltb, eqb}
 use Rattle.numbers.specs.Bits.{bit, withBit}

@@ -7,7 +7,7 @@ use mathlib.Core.Bool.{Bool, true, false, cond, not, _&&_}
 use mathlib.Core.List.{List, [], _∷_, _++_}
 use mathlib.Core.Option.{Option, none, some}
 use mathlib.Core.Logic.{_⊎_}
-use lib.Dec.{leb, eqb}
+use lib.Dec.{leb, ltb, eqb}
 use Rattle.numbers.specs.Bits.{bit}
 use Rattle.message.specs.declared.Host.{Host}
 use Rattle.message.specs.Message.{bytesOf}
@@ -115,6 +115,22 @@ abbrev pub StaysSo : Type 0
 StaysSo = (own sender : Host) (cs more : List Call) (n : ℕ) → let d = openingOf own sender .display in
     (handedOut (told d cs) n ≡ 1 → handedOut (told d (cs ++ more)) n ≡ 1) × (reportedLost (told d cs) n ≡ 1 → reportedLost (told d (cs ++ more)) n ≡ 1)
 
+-- "Values lower than it has heard .. it passes over": neither trail nor lead ever falls, and once started a display stays so. What a higher value
+-- does is said by `EdgesHeard` (Answers.antt).
+abbrev pub noLower : Window → Window → Bool
+noLower Unstarted v = true
+noLower (Started trail lead set) Unstarted = false
+noLower (Started trail lead set) (Started trail′ lead′ set′) = leb (trail .0) (trail′ .0) && leb (lead .0) (lead′ .0)
+
+abbrev pub NeverLower : Type 0
+NeverLower = (own sender : Host) (cs more : List Call) → let d = openingOf own sender .display in
+    noLower (afterAll d cs .window) (afterAll d (cs ++ more) .window) ≡ true
+
+-- So none is left out of account: a number that was one of the three after some calls is one of them after more.
+abbrev pub NoneForgotten : Type 0
+NoneForgotten = (own sender : Host) (cs more : List Call) (n : ℕ) → let d = openingOf own sender .display in
+    isCovered (startOf (told d cs)) (afterAll d cs .window) n ≡ true → isCovered (startOf (told d (cs ++ more))) (afterAll d (cs ++ more) .window) n ≡ true
+
 -- "A number becomes lost exactly when trail passes it before it is received, that call reports it": of one call on a display as its calls
 -- left it
 abbrev pub isReceivedIn : Window → ℕ → Bool
@@ -131,11 +147,28 @@ LostAsPassed = (own sender : Host) (cs : List Call) (c : Call) (n : ℕ) → let
     let l = eventOf d (c .event) (c .clock) (c .room) .lost in
     one (inSet l n) + one (inSpan (l .above) n) ≡ one (passes (d .window) (after d c .window) n && not (isReceivedIn (d .window) n))
 
--- Missing is what was not yet received, and is at least trail, up to lead.
+-- "(a 64-bit set up from the old trail, and a span for those above the old lead)": what a call reports in the set is up to the old lead, and the set
+-- counts from the old trail; what it reports in the span is above the old lead. Of any display.
 abbrev pub isBetween : Window → ℕ → Bool
 isBetween Unstarted n = false
 isBetween (Started trail lead set) n = leb (trail .0) n && leb n (lead .0)
 
+abbrev pub isAbove : Window → ℕ → Bool
+isAbove Unstarted n = false
+isAbove (Started trail lead set) n = ltb (lead .0) n
+
+abbrev pub isTrail : Window → ℕ → Bool
+isTrail Unstarted n = false
+isTrail (Started trail lead set) n = eqb (trail .0) n
+
+pub record Stands (w : Window) (l : Lost) (n : ℕ) : Type 0 where
+  pub in-set : inSet l n ≡ true → (isBetween w n ≡ true) × (isTrail w (l .trail .0) ≡ true)
+  pub in-span : inSpan (l .above) n ≡ true → isAbove w n ≡ true
+
+abbrev pub LossesStand : Type 0
+LossesStand = (d : Display) (c : Call) (n : ℕ) → Stands (d .window) (eventOf d (c .event) (c .clock) (c .room) .lost) n
+
+-- Missing is what was not yet received, and is at least trail, up to lead.
 abbrev pub MissingIs : Type 0
 MissingIs = (own sender : Host) (cs : List Call) (n : ℕ) → let d = openingOf own sender .display in
     let w = afterAll d cs .window in

@@ -4,5 +4,6 @@ pub mod Request
 pub mod Call
 pub mod Frame
 pub mod History
+pub mod Answers
 pub mod Foyer
 pub mod Rows

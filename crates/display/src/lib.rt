@@ -1,12 +1,12 @@
 // Foyer displays: document 02, P11. A display sends no cues and follows one sender, by the simplified PGM of source document 003. The
 // definitions are in specs/: Display (the state), Hear (messages, losses), Request (what a step puts out), Call (questions, and what a call
-// gives), History (every number once), Foyer (lists with ends and displays), Frame (what the functions below the calls are given), Rows (cases).
+// gives), History (every number once), Answers (what is answered, by the history), Foyer (lists with ends and displays), Frame (what the
+// functions below the calls are given), Rows (cases).
 use end::Answer;
 use message::ANNC;
 use message::Counts;
 use message::CueNumber;
 use message::DATA;
-use message::Echo;
 use message::HOST_LIMIT;
 use message::Host;
 use message::Message;
@@ -15,20 +15,17 @@ use message::NameEntry;
 use message::REPL;
 use message::ROOM_NEEDED;
 use message::RQST;
-use message::Report;
 use message::TICKS_LIMIT;
 use message::Verdict;
 ghost use mathlib.Core.Path.{_≡_};
-ghost use mathlib.Core.Bool.{true, cond};
+ghost use mathlib.Core.Bool.{true};
 ghost use mathlib.Core.Option.{none, some};
 ghost use Prim.Native.Nat.{_+_, _-_, _/_, _^_, _≤_, _<_, min, max};
 ghost use lib.ListN.{length};
 ghost use lib.Dec.{ltb};
 ghost use Rattle.numbers.specs.Bits.{bit};
 ghost use Rattle.message.specs.Limit.{numberLimit, roomNeeded};
-ghost use Rattle.message.specs.Entry.{blankName, blankReport, blankEcho};
 ghost use Rattle.message.specs.Message.{Meaning, heldAs, Small, numberWidth, meaningOf};
-ghost use Rattle.message.specs.Question.{refusalOf, sameHost};
 ghost use Rattle.end.specs.Answer.{Got, Done, Did, Refused, answerOf, bufferOf};
 ghost use Rattle.display.specs.Display.{hostsApart, windowSound, soundOf, fresh, openingOf, withClock, withWindow};
 ghost use Rattle.display.specs.Hear.{raised, received, isNew, startAt, taken, unreceived, lostAbove, noneLost, lostBy, hearing, passedOver, heardIn};
@@ -43,7 +40,7 @@ pub enum Window {
     Started(CueNumber, CueNumber, u64),
 }
 
-// The state of a display: its own host, its sender's, and its clock.
+// The state of a display: its own host, its sender's, its clock and its window.
 pub struct Display {
     pub own: Host,
     pub sender: Host,
@@ -57,7 +54,8 @@ pub enum Above {
     Between(CueNumber, CueNumber),
 }
 
-// The numbers that a call lost: of those up to the old lead a set up from the old trail, bit i for `trail` + i; and those above it.
+// The numbers that a call lost: of those up to the old lead a set up from the old trail, bit i for `trail` + i; and those above it. Where a
+// call can lose none (the start, an Ignored, a step, a refusal) `trail` is 0.
 pub struct Lost {
     pub trail: CueNumber,
     pub set: u64,
@@ -113,7 +111,7 @@ fn higher(a: u16, b: u16) -> u16
     if a < b { b } else { a }
 }
 
-// ---- sets: a place past the last digit is in none of them, where a shift by so much would be none
+// ---- sets: a place from 64 on is in none of them. It is branched on, since a processor shifts by 64 as by 0
 
 fn has(set: u64, i: u64) -> bool
     ensures { λ r. ⌜ r ≡ bit set i ⌝ }
@@ -167,12 +165,6 @@ fn lowest_clear(set: u64, k: u64) -> Clear
 }
 
 // ---- the state
-
-fn same_host(a: Host, b: Host) -> bool
-    ensures { λ r. ⌜ r ≡ sameHost a b ⌝ }
-{
-    a.0 == b.0
-}
 
 fn hosts_apart(own: Host, sender: Host) -> bool
     ensures { λ r. ⌜ r ≡ hostsApart own sender ⌝ }
@@ -307,7 +299,7 @@ fn received(n: CueNumber, w: Window) -> Window
     }
 }
 
-// The least trail that a cue lets stand.
+// The trail that a cue counts as: 63 below it, or 0.
 fn trail_for(n: CueNumber) -> CueNumber
     ensures { λ r. ⌜ r .0 ≡ n .0 - 63 ⌝ }
 {
@@ -502,9 +494,9 @@ fn heard(
     let window = d.window;
     let sender = d.sender;
     let source = name.source;
-    let by_sender = same_host(from, sender);
+    let by_sender = message::same_host(from, sender);
     let original = (kind == DATA) & by_sender;
-    let repair = (kind == REPL) & same_host(source, sender);
+    let repair = (kind == REPL) & message::same_host(source, sender);
     let tells = (kind == ANNC) & by_sender;
     if is_started(window) {
         heard_later(d, original | repair, tells, name, lead, cue, out)
@@ -532,37 +524,6 @@ fn heard_message(d: Display, m: Message, out: &mut [u8]) -> Shown
 
 // ---- requests
 
-fn no_name() -> NameEntry
-    ensures { λ r. ⌜ r ≡ blankName ⌝ }
-{
-    NameEntry {
-        name: Name {
-            source: Host(0),
-            number: CueNumber(0),
-        },
-        host: Host(0),
-    }
-}
-
-fn no_report() -> Report
-    ensures { λ r. ⌜ r ≡ blankReport ⌝ }
-{
-    Report {
-        source: Host(0),
-        last: CueNumber(0),
-    }
-}
-
-fn no_echo() -> Echo
-    ensures { λ r. ⌜ r ≡ blankEcho ⌝ }
-{
-    Echo {
-        host: Host(0),
-        stamp: 0,
-        held: 0,
-    }
-}
-
 // The RQST of a number.
 fn request_for(d: Display, number: CueNumber) -> Message
     ensures { λ r. ⌜ meaningOf r ≡ requestFor d (number .0) ⌝ }
@@ -570,7 +531,7 @@ fn request_for(d: Display, number: CueNumber) -> Message
 {
     let sender = d.own;
     let source = d.sender;
-    let mut names = [no_name(); 2];
+    let mut names = [message::no_name(); 2];
     names[0] = NameEntry {
         name: Name { source, number },
         host: sender,
@@ -588,8 +549,8 @@ fn request_for(d: Display, number: CueNumber) -> Message
         counts,
         names,
         cue: [0; 24],
-        reports: [no_report(); 8],
-        echoes: [no_echo(); 7],
+        reports: [message::no_report(); 8],
+        echoes: [message::no_echo(); 7],
     }
 }
 
@@ -650,32 +611,14 @@ fn stepped(d: Display, out: &mut [u8]) -> Shown
 
 // ---- the calls
 
-// Document 01's number of a verdict, 0 where nothing was refused.
-fn number_of(verdict: Verdict) -> u8
-    ensures { λ r. ⌜ r ≡ refusalOf verdict ⌝ }
-{
-    match verdict {
-        Verdict::Accepted => 0,
-        Verdict::Probe => 0,
-        Verdict::Refused(k) => k,
-    }
-}
-
-// One question before others whose first no is `rest`.
-fn asked(passed: bool, number: u8, rest: u8) -> u8
-    ensures { λ r. ⌜ r ≡ cond passed rest number ⌝ }
-{
-    if passed { rest } else { number }
-}
-
 // Questions 1, 3, 4 and 5, before others whose first no is `own`.
 fn refusal(d: Display, clock: u64, room: usize, own: u8) -> u8
     ensures { λ r. ⌜ r ≡ firstOf d clock room own ⌝ }
 {
-    let five = asked(d.clock <= clock, 5, own);
-    let four = asked(clock < TICKS_LIMIT, 4, five);
-    let three = asked(sound(d), 3, four);
-    asked(ROOM_NEEDED <= room, 1, three)
+    let five = message::asked(d.clock <= clock, 5, own);
+    let four = message::asked(clock < TICKS_LIMIT, 4, five);
+    let three = message::asked(sound(d), 3, four);
+    message::asked(ROOM_NEEDED <= room, 1, three)
 }
 
 fn refused(number: u8, d: Display) -> Shown
@@ -697,7 +640,7 @@ pub fn hear(d: Display, clock: u64, bytes: &[u8], out: &mut [u8]) -> Shown
     let reading = reader::read(bytes);
     let verdict = reading.verdict;
     let message = reading.message;
-    let own = number_of(verdict);
+    let own = message::number_of(verdict);
     let q = refusal(d, clock, out.len(), own);
     if q == 0 {
         let display = with_clock(d, clock);

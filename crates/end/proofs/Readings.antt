@@ -12,9 +12,11 @@ use Rattle.message.specs.Section.{all}
 use Rattle.message.specs.Cue.{cueIn}
 use Rattle.message.specs.Entry.{blankName}
 use Rattle.message.specs.Message.{DATA, RQST, REPL, SESS, XPRS, FTCH, LATE, ANNC, isOld, kindOf, numberWidth, mostNumber, Meaning, meaningFrom, bytesOf, countsOf}
-use Rattle.message.specs.Question.{ask, firstNo, messageQuestions, meaningQuestions, kindHasCounts, inRange, hostsFit, hostIn, numberIn, ticksIn, nameIn, reportIn, hostFits, sameHost, readRefusal}
+use Rattle.message.specs.Question.{ask, firstNo, messageQuestions, meaningQuestions, kindHasCounts, inRange, hostsFit, hostIn, numberIn, ticksIn, nameIn, reportIn, ruleHolds, hostFits, sameHost, readRefusal}
 use Rattle.message.specs.declared.NameEntry.{NameEntry}
-use Rattle.message.specs.declared.Counts.{Counts}
+use Rattle.message.specs.Kind.{rowOf}
+use Rattle.message.specs.declared.HostRule.{HostRule}
+use Rattle.message.specs.declared.HostRule.the-variants.{SourceAndSender}
 use Rattle.message.specs.declared.Host.{Host}
 use Rattle.message.proofs.QuestionLaws.{and-both, all-passed, kind-again, counts-new, counted as counted-row}
 use Rattle.roundtrip.proofs.ThereAndBack.{Fits}
@@ -71,17 +73,18 @@ unfolding all
 all-first p [] d h k = k
 all-first p (a ∷ l) d h k = and-both (p a) (all p l) h .0
 
--- a DATA has one name, whose host is its source and its sender
-data-counts : (c : Counts) → kindHasCounts DATA c ≡ true → c .names ≡ 1
-data-counts c h = counted-row DATA c h .names
-
-sender-source : (sender : Host) (l : List NameEntry) → length l ≡ 1 → all (hostFits DATA sender) l ≡ true → sender .0 ≡ getD l 0 blankName .name .source .0
+-- a DATA and an ANNC have a name, whose host is its source and its sender
+sender-source : (kind : ℕ) → rowOf kind .host ≡ SourceAndSender → (sender : Host) (l : List NameEntry) → 0 < length l
+    → all (hostFits kind sender) l ≡ true → sender .0 ≡ getD l 0 blankName .name .source .0
 unfolding all
-sender-source sender [] n h = absurd (omega arith)
-sender-source sender (a ∷ l) n h =
-    let both : sameHost (a .host) (a .name .source) && sameHost (a .host) sender ≡ true = and-both (hostFits DATA sender a) (all (hostFits DATA sender) l) h .0 in
-    let parts = and-both (sameHost (a .host) (a .name .source)) _ both in
-    sym (eqb-true (a .host .0) (sender .0) (parts .1)) ∙ eqb-true (a .host .0) (a .name .source .0) (parts .0)
+sender-source kind rule sender [] n h = absurd (omega arith)
+sender-source kind rule sender (a ∷ l) n h =
+    let source = a .name .source in
+    let both : sameHost (a .host) source && sameHost (a .host) sender ≡ true =
+    ap (λ (r : HostRule). ruleHolds r (sameHost (a .host) source) (sameHost (a .host) sender) (sameHost source sender)) (sym rule)
+    ∙ and-both (hostFits kind sender a) (all (hostFits kind sender) l) h .0 in
+    let parts = and-both (sameHost (a .host) source) (sameHost (a .host) sender) both in
+    sym (eqb-true (a .host .0) (sender .0) (parts .1)) ∙ eqb-true (a .host .0) (source .0) (parts .0)
 
 module _ (x : List ℕ) (m : Meaning) (p : readAs x ≡ some m) where
   taken : Accepted x
@@ -114,16 +117,20 @@ module _ (x : List ℕ) (m : Meaning) (p : readAs x ≡ some m) where
       let c = and-both (all cueIn (m .cues)) _ (and-both (all (nameIn 65535) (m .names)) _ b .1) .1 in
       and-both (all (reportIn 65535) (m .reports)) _ c .0
 
-  -- the source of an original is its sender
-  pub original-source : eqb (m .kind) DATA ≡ true → m .sender .0 ≡ source m
+  -- the source that such a message names first is its sender
+  pub own-source : (k : ℕ) → rowOf k .host ≡ SourceAndSender → 0 < rowOf k .names → eqb (m .kind) k ≡ true → m .sender .0 ≡ source m
   unfolding hostsFit
-  original-source k =
-      let kind : m .kind ≡ DATA = eqb-true (m .kind) DATA k in
-      let one : length (m .names) ≡ 1 = data-counts (countsOf m) (ap (λ (k : ℕ). kindHasCounts k (countsOf m)) (sym kind) ∙ counted) in
+  own-source k rule some-name same =
+      let kind : m .kind ≡ k = eqb-true (m .kind) k same in
+      let count = counted-row k (countsOf m) (ap (λ (i : ℕ). kindHasCounts i (countsOf m)) (sym kind) ∙ counted) .names in
       let h = all-passed (hostsFit m) 11 [] (omega arith) (all-passed (inRange (mostNumber (m .kind)) m) 10 (ask (hostsFit m) 11 ∷ []) (omega arith) questions .1) .0 in
       let fits = and-both (all (hostFits (m .kind) (m .sender)) (m .names)) _ h .0 in
-      sender-source (m .sender) (m .names) one
-      (ap (λ (k : ℕ). all (hostFits k (m .sender)) (m .names)) (sym kind) ∙ fits)
+      sender-source k rule (m .sender) (m .names) (omega (arith, count))
+      (ap (λ (i : ℕ). all (hostFits i (m .sender)) (m .names)) (sym kind) ∙ fits)
+
+  -- and so of an original
+  pub original-source : eqb (m .kind) DATA ≡ true → m .sender .0 ≡ source m
+  original-source k = own-source DATA refl (omega arith) k
 
   -- a message that is about no name is a SESS
   pub session-kind : eqb (m .kind) DATA ≡ false → eqb (m .kind) RQST ≡ false → eqb (m .kind) REPL ≡ false → eqb (m .kind) XPRS ≡ false

@@ -1,6 +1,9 @@
 // How a host program calls the end: two controllers become members, a cue goes from one to the other, a third one joins late and fetches it,
-// and each other event comes once.
+// a foyer display follows the sender, and each other event comes once.
 // A call takes an end by value and gives back the end for the next call. Only that one may be used again.
+use display::Above;
+use display::Display;
+use display::Lost;
 use end::Answer;
 use end::Draw;
 use end::End;
@@ -206,6 +209,87 @@ fn joins_late(sender: End) -> End {
     both.holder
 }
 
+// ---- a foyer display
+
+// Opens a display that follows a sender.
+fn screen_of(own: Host, sender: Host) -> Display {
+    let opened = display::open(own, sender);
+    let verdict = opened.verdict;
+    said_open(verdict);
+    opened.display
+}
+
+// Cues that will never be handed out: those of the set, bit i for number `lost.trail` + i, and those of a span above them.
+fn said_lost(lost: Lost) {
+    let above = lost.above;
+    if lost.set != 0 {
+        print(b"lost: of the set\n");
+    }
+    if let Above::Between(_, _) = above {
+        print(b"lost: of the span\n");
+    }
+}
+
+// A display takes the first `len` bytes that came over the network, and shows the focus of a cue that it handed out.
+fn watch(screen: Display, clock: u64, came: &[u8], len: usize) -> Display {
+    if came.len() < len {
+        return screen;
+    }
+    let mut out = [0u8; 128];
+    let s = display::hear(screen, clock, &came[0..len], &mut out);
+    let answer = s.answer;
+    let lost = s.lost;
+    match answer {
+        Answer::Got(_) => {
+            print(b"display got: ");
+            print_focus(cue_in(&out));
+        }
+        Answer::Done => print(b"display: done\n"),
+        _ => {}
+    }
+    said_lost(lost);
+    s.display
+}
+
+fn carry_to(answer: Answer, out: &[u8], screen: Display, clock: u64) -> Display {
+    match answer {
+        Answer::Out(len) => watch(screen, clock, out, len),
+        _ => screen,
+    }
+}
+
+// At a pace of the display's own: asks for the lowest number that it lacks.
+fn ask(screen: Display, clock: u64) -> Display {
+    let mut out = [0u8; 128];
+    let s = display::step(screen, clock, &mut out);
+    let answer = s.answer;
+    match answer {
+        // here the first bytes of `out`, as many as Out says, go to the network
+        Answer::Out(_) => print(b"display asks\n"),
+        Answer::Nothing => print(b"display lacks nothing\n"),
+        _ => print(b"display: refused\n"),
+    }
+    s.display
+}
+
+// A display of host 3 that follows host 0 and hears its first cue.
+fn follows(answer: Answer, out: &[u8]) -> Display {
+    let screen = screen_of(Host(3), Host(0));
+    let screen = carry_to(answer, out, screen, 12);
+    ask(screen, 20)
+}
+
+// The sender tells displays which of its cues can still be had, and the display asks for the one that it lacks.
+fn announces(sender: End, screen: Display) -> End {
+    let mut out = [0u8; 128];
+    let s = link::announce(sender, 28, &draws(), &mut out);
+    let answer = s.answer;
+    let sender = said(b"announce", s);
+    let screen = carry_to(answer, &out, screen, 28);
+    ask(screen, 29);
+    sender
+}
+
 fn main() {
     let sender = member(Host(0));
     let listener = member(Host(1));
@@ -217,11 +301,13 @@ fn main() {
     let sender = said(b"send", s);
     let listener = carry(answer, &out, listener, 12);
     let listener = fire_all(listener, 20);
+    let screen = follows(answer, &out);
     let s = link::report(listener, 20, &draws(), &mut out);
     let answer = s.answer;
     let listener = said(b"report", s);
     let sender = carry(answer, &out, sender, 22);
     let sender = joins_late(sender);
+    let sender = announces(sender, screen);
 
     let sender = said(b"leave", link::leave(sender, 30, &draws(), &mut out));
     let sender = said(b"left", link::left(sender, 40, &draws(), &mut out));

@@ -3,14 +3,16 @@
 // Question.antt (the questions).
 // A test joins its parts by `&` and `|`, in the order in which its definition does.
 ghost use mathlib.Core.Path.{_≡_};
+ghost use mathlib.Core.Bool.{cond};
 ghost use mathlib.Core.List.{_∷_, []};
 ghost use Prim.Native.Nat.{_+_, _≤_, min};
 ghost use lib.ListN.{length, take};
 ghost use Rattle.message.specs.Cue.{fieldsOf, stepsIn, stepsAt, cueIn, cueWith};
 ghost use Rattle.message.specs.Section.{all, rises};
+ghost use Rattle.message.specs.Entry.{blankName, blankReport, blankEcho};
 ghost use Rattle.message.specs.Message.{meaningOf};
 ghost use Rattle.message.specs.Kind.{rowOf, row, isOld, kindOf, numberWidth, widestNumber, mostNumber};
-ghost use Rattle.message.specs.Question.{hasCounts, kindHasCounts, nameIn, reportIn, echoIn, inRange, ruleHolds, hostFits, notFrom, reportSource, echoHost, windowFits, hostsFit, meaningQuestions, firstNo, blankMessage};
+ghost use Rattle.message.specs.Question.{hasCounts, kindHasCounts, nameIn, reportIn, echoIn, inRange, ruleHolds, hostFits, notFrom, reportSource, echoHost, windowFits, hostsFit, meaningQuestions, firstNo, refusalOf, sameHost, blankMessage};
 
 // A controller on the network, 0..7.
 pub struct Host(pub u8);
@@ -329,6 +331,13 @@ fn rule_holds(rule: HostRule, source: bool, sender: bool, own: bool) -> bool
     }
 }
 
+// Whether two hosts are the same.
+pub fn same_host(a: Host, b: Host) -> bool
+    ensures { λ r. ⌜ r ≡ sameHost a b ⌝ }
+{
+    a.0 == b.0
+}
+
 fn host_fits(kind: u8, sender: Host, n: NameEntry) -> bool
     ensures { λ r. ⌜ r ≡ hostFits kind sender n ⌝ }
 {
@@ -517,7 +526,41 @@ pub fn meaning_refusal(byte: u8, m: Message) -> u8
     0
 }
 
-// The message of zeros that stands beside a refusal.
+// ---- messages and refusals made by more than one crate
+
+// The entries of zeros in the places that a message does not use.
+pub fn no_name() -> NameEntry
+    ensures { λ r. ⌜ r ≡ blankName ⌝ }
+{
+    NameEntry {
+        name: Name {
+            source: Host(0),
+            number: CueNumber(0),
+        },
+        host: Host(0),
+    }
+}
+
+pub fn no_report() -> Report
+    ensures { λ r. ⌜ r ≡ blankReport ⌝ }
+{
+    Report {
+        source: Host(0),
+        last: CueNumber(0),
+    }
+}
+
+pub fn no_echo() -> Echo
+    ensures { λ r. ⌜ r ≡ blankEcho ⌝ }
+{
+    Echo {
+        host: Host(0),
+        stamp: 0,
+        held: 0,
+    }
+}
+
+// The message of zeros that stands beside a refusal or a probe.
 pub fn blank() -> Message
     ensures { λ r. ⌜ r ≡ blankMessage ⌝ }
 {
@@ -531,22 +574,27 @@ pub fn blank() -> Message
             reports: 0,
             echoes: 0,
         },
-        names: [NameEntry {
-            name: Name {
-                source: Host(0),
-                number: CueNumber(0),
-            },
-            host: Host(0),
-        }; 2],
+        names: [no_name(); 2],
         cue: [0u8; 24],
-        reports: [Report {
-            source: Host(0),
-            last: CueNumber(0),
-        }; 8],
-        echoes: [Echo {
-            host: Host(0),
-            stamp: 0,
-            held: 0,
-        }; 7],
+        reports: [no_report(); 8],
+        echoes: [no_echo(); 7],
+    }
+}
+
+// One question before others: `number` where it is answered no, else `rest`, the first no of the others (0: none).
+pub fn asked(passed: bool, number: u8, rest: u8) -> u8
+    ensures { λ r. ⌜ r ≡ cond passed rest number ⌝ }
+{
+    if passed { rest } else { number }
+}
+
+// Document 01's number of a verdict, 0 where nothing was refused.
+pub fn number_of(verdict: Verdict) -> u8
+    ensures { λ r. ⌜ r ≡ refusalOf verdict ⌝ }
+{
+    match verdict {
+        Verdict::Accepted => 0,
+        Verdict::Probe => 0,
+        Verdict::Refused(k) => k,
     }
 }

@@ -26,9 +26,10 @@ use Rattle.guarantees.proofs.FetchHistory.{attempts-over-history, late-at-most-
 use Rattle.guarantees.proofs.FetchReports.{reported-over-history}
 use Rattle.guarantees.proofs.Announce.{announces-own, out-is-announcement, only-announce-announces, neither-falls, announced-is-done}
 use Rattle.guarantees.proofs.FetchBook.{announce-outside-book, announced-outside-book, announced-brings-nothing}
-use Rattle.display.proofs.History.{each-number-once, stays-so, lost-as-passed, missing-is, received-never-reported}
+use Rattle.display.proofs.History.{each-number-once, stays-so, never-lower, none-forgotten, lost-as-passed, losses-stand, missing-is, received-never-reported}
 use Rattle.display.proofs.StaysSound.{opens-sound as display-opens-sound, stays-sound as display-stays-sound, never-unsound}
 use Rattle.display.proofs.Asks.{step-asks-lowest}
+use Rattle.display.proofs.Answers.{answers-heard, edges-heard, sets-clock, refused-stays, out-is-request}
 use Rattle.display.proofs.Foyer.{ends-allowed, foyer-service}
 use Rattle.record.proofs.LinesBack.{lines-back}
 use Rattle.judgement.proofs.Pieces.{judged-in-pieces, too-many-stays}
@@ -209,10 +210,18 @@ promises = record {
   displays = record {
     each-number-once = each-number-once;
     stays-so = stays-so;
+    never-lower = never-lower;
+    none-forgotten = none-forgotten;
     lost-as-passed = lost-as-passed;
+    losses-stand = losses-stand;
     missing-is = missing-is;
     received-never-reported = received-never-reported;
+    answers-heard = answers-heard;
+    edges-heard = edges-heard;
+    sets-clock = sets-clock;
+    refused-stays = refused-stays;
     step-asks-lowest = step-asks-lowest;
+    out-is-request = out-is-request;
     display-opens-sound = display-opens-sound;
     display-stays-sound = display-stays-sound;
     never-unsound = never-unsound;

@@ -12,18 +12,11 @@ ghost use mathlib.Core.Bool.{cond};
 ghost use mathlib.Core.List.{List};
 ghost use Prim.Native.Nat.{ℕ};
 ghost use lib.Dec.{leb};
-ghost use Rattle.message.specs.Question.{firstNo, ticksIn, refusalOf};
+ghost use Rattle.message.specs.Question.{firstNo, ticksIn};
 ghost use Rattle.end.specs.Sound.{soundOf};
 ghost use Rattle.end.specs.Event.{Send, actionOf, ownQuestions, questionOf};
 ghost use Rattle.end.specs.Why.{refusedAs};
 ghost use Rattle.questions.specs.Read.{ReadAs};
-
-// One question before others whose first no is `rest`.
-fn asked(passed: bool, number: u8, rest: u8) -> u8
-    ensures { λ r. ⌜ r ≡ cond passed rest number ⌝ }
-{
-    if passed { rest } else { number }
-}
 
 // Questions 6 and 7: only a member's Send takes a number.
 fn send_refusal(e: End, cue: [u8; 24]) -> u8
@@ -31,19 +24,8 @@ fn send_refusal(e: End, cue: [u8; 24]) -> u8
 {
     let status = e.status;
     let numbered = !state::is_member(status) | (e.next < NUMBERS);
-    let seven = asked(numbered, 7, 0);
-    asked(message::cue_in(&cue), 6, seven)
-}
-
-// Document 01's number of a verdict, 0 where nothing was refused.
-fn number_of(verdict: Verdict) -> u8
-    ensures { λ r. ⌜ r ≡ refusalOf verdict ⌝ }
-{
-    match verdict {
-        Verdict::Accepted => 0,
-        Verdict::Probe => 0,
-        Verdict::Refused(k) => k,
-    }
+    let seven = message::asked(numbered, 7, 0);
+    message::asked(message::cue_in(&cue), 6, seven)
 }
 
 // An event's own questions: Send's, and the reader's of an arrival.
@@ -53,7 +35,7 @@ fn own_refusal(e: End, what: Event, cue: [u8; 24], verdict: Verdict) -> u8
     match what {
         Event::Moves(_) => 0,
         Event::Send => send_refusal(e, cue),
-        Event::Arrival => number_of(verdict),
+        Event::Arrival => message::number_of(verdict),
         Event::Fire => 0,
         Event::Report => 0,
         Event::Fetch(_) => 0,
@@ -65,9 +47,9 @@ fn own_refusal(e: End, what: Event, cue: [u8; 24], verdict: Verdict) -> u8
 fn state_refusal(e: End, clock: u64, rest: u8) -> u8
     ensures { λ r. ⌜ r ≡ cond (soundOf e) (cond (ticksIn clock) (cond (leb (e .clock) clock) rest 5) 4) 3 ⌝ }
 {
-    let five = asked(e.clock <= clock, 5, rest);
-    let four = asked(clock < TICKS_LIMIT, 4, five);
-    asked(sound::sound(e), 3, four)
+    let five = message::asked(e.clock <= clock, 5, rest);
+    let four = message::asked(clock < TICKS_LIMIT, 4, five);
+    message::asked(sound::sound(e), 3, four)
 }
 
 // The first no of those that need neither output nor draws: the reason call's.

@@ -11,7 +11,7 @@ use borrow.Author.Tests.{eqb-true, eq-eqb, ltb-true, le-leb, leb-true, not-true}
 use Rattle.numbers.specs.Bits.{bit}
 use Rattle.numbers.proofs.Cases.{by-flag, by-order}
 use Rattle.numbers.proofs.BitLaws.{bit-above}
-use Rattle.message.specs.Limit.{numberLimit}
+use Rattle.message.specs.Limit.{numberLimit, ticksLimit}
 use Rattle.message.specs.declared.Host.{Host}
 use Rattle.message.specs.declared.HostRule.the-variants.{SourceAndSender}
 use Rattle.message.specs.declared.CueNumber.{CueNumber}
@@ -98,12 +98,18 @@ module _ (d : Display) (m : Meaning)
   original-test : isOriginal d m ≡ (eqb (m .kind) DATA && isOf (d .sender) m)
   original-test = and-when (eqb (m .kind) DATA) (sameHost (m .sender) (d .sender)) (isOf (d .sender) m) original
 
+  cue-effect : cueOf m n d .effect ≡ gotIf (isNew (d .window) n) m
+  cue-effect = effect-of (isNew (d .window) n) got (passedOver d)
+
+  tells-effect : cond (isAnnounced d m) (announcedOf m d) (passedOver d) .effect ≡ cond (isAnnounced d m) Done Ignored
+  tells-effect = effect-of (isAnnounced d m) (announcedOf m d) (passedOver d)
+
   pub heard-answer : (times : ℕ) (w : Window) → isNew (d .window) n ≡ (isFrom w n && eqb times 0) → heardIn w m d .effect ≡ answered w (d .sender) m times
   unfolding heardIn answered
   heard-answer times Unstarted new = effect-of (isOriginal d m) _ _ ∙ ap (λ (b : Bool). gotIf b m) original-test
   heard-answer times (Started trail lead set) new =
       effect-of (isOriginal d m || isRepair d m) (cueOf m n d) (cond (isAnnounced d m) (announcedOf m d) (passedOver d))
-      ∙ (λ i. cond (isOriginal d m || isRepair d m) (effect-of (isNew (d .window) n) got (passedOver d) i) (effect-of (isAnnounced d m) (announcedOf m d) (passedOver d) i))
+      ∙ (λ i. cond (isOriginal d m || isRepair d m) (cue-effect i) (tells-effect i))
       ∙ (λ i. cond (cue-test i) (gotIf (new i) m) (cond (tells-test i) Done Ignored))
 
   -- trail and lead
@@ -132,7 +138,10 @@ module _ (d : Display) (m : Meaning)
   heard-edges Unstarted p h = edges-of (isOriginal d m) started (passedOver d) ∙ (λ i. cond (original-test i) (some (n, n)) (edgesOf (p i)))
   heard-edges (Started trail lead set) p h =
       edges-of (isOriginal d m || isRepair d m) (cueOf m n d) (cond (isAnnounced d m) (announcedOf m d) (passedOver d))
-      ∙ (λ i. cond (isOriginal d m || isRepair d m) (cue-edges trail lead set p (sound-window trail lead set h) i) (edges-of (isAnnounced d m) (announcedOf m d) (passedOver d) i))
+      ∙ (λ i.
+      cond (isOriginal d m || isRepair d m)
+      (cue-edges trail lead set p (sound-window trail lead set h) i)
+      (edges-of (isAnnounced d m) (announcedOf m d) (passedOver d) i))
       ∙ (λ i. cond (cue-test i) (some (max (trail .0) (n - 63), max (lead .0) n)) (cond (tells-test i) (edgesOf (raised n (leadIn m) (p i))) (edgesOf (p i))))
 
 -- what the questions leave: a DATA and a kind 24 name the host that sent them
@@ -281,7 +290,13 @@ request-reads d h t n l =
     let sender = and-both (hostIn (d .sender)) _ (own .1) in
     let differ : sameHost (d .own) (d .sender) ≡ false = not-true (sameHost (d .own) (d .sender)) (sender .1) in
     written-reads (requestFor d n)
-    (record { stamp = ltb-true (d .clock) 281474976710656 t; names = sections.some l sections.none; cues = sections.none; reports = sections.none; echoes = sections.none })
+    (record {
+      stamp = ltb-true (d .clock) ticksLimit t;
+      names = sections.some l sections.none;
+      cues = sections.none;
+      reports = sections.none;
+      echoes = sections.none;
+    })
     refl
     (rw (own .0, t, sender .0, le-leb n 65535 (omega arith), eq-eqb (d .own .0) (d .own .0) refl, differ))
 

@@ -21,7 +21,8 @@ use Rattle.display.proofs.History.{opened}
 use Rattle.display.proofs.Answers.{Below, below-next, put-out-is, puts}
 
 -- what a display puts out may arrive
-call-asks : (d : Display) (c : Call) → Below (d .window) → (x : List ℕ) → classIn (eventOf d (c .event) (c .clock) (c .room) .outcome) ≡ PutsOut x → run.AnyRequest x
+call-asks : (d : Display) (c : Call) → Below (d .window) → (x : List ℕ) → classIn (eventOf d (c .event) (c .clock) (c .room) .outcome) ≡ PutsOut x
+    → run.AnyRequest x
 call-asks d c b x e =
     let p = puts d c x b (put-out-is (eventOf d (c .event) (c .clock) (c .room) .outcome) x e) in
     (requestFor (withClock d (c .clock)) (p .number), p .reads, refl)

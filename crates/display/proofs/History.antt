@@ -265,7 +265,8 @@ after-more d (c ∷ cs) more = after-more (after d c) cs more
 told-more : (d : Display) (cs more : List Call) → told d (cs ++ more) ≡ told d cs ++ told (afterAll d cs) more
 unfolding told afterAll
 told-more d [] more = refl
-told-more d (c ∷ cs) more = ap (λ (ts : List Told). record { outcome = eventOf d (c .event) (c .clock) (c .room) .outcome; lost = losses d c } ∷ ts) (told-more (after d c) cs more)
+told-more d (c ∷ cs) more =
+    ap (λ (ts : List Told). record { outcome = eventOf d (c .event) (c .clock) (c .room) .outcome; lost = losses d c } ∷ ts) (told-more (after d c) cs more)
 
 handed-more : (d : Display) (cs more : List Call) (n : ℕ)
     → handedOut (told d (cs ++ more)) n ≡ handedOut (told d cs) n + handedOut (told (afterAll d cs) more) n
@@ -323,7 +324,8 @@ start-keeps (c ∷ ts) us k h = go (handedIn (classIn (c .outcome))) refl (start
     go none p rest = let e : startOf ts ≡ some k = rw p at h in rw p (rest e)
     go (some j) p rest = let e : some j ≡ some k = rw p at h in rw p e
 
-covered-keeps : (o q : Option ℕ) (w v : Window) (n : ℕ) → ((k : ℕ) → o ≡ some k → q ≡ some k) → noLower w v ≡ true → isCovered o w n ≡ true → isCovered q v n ≡ true
+covered-keeps : (o q : Option ℕ) (w v : Window) (n : ℕ) → ((k : ℕ) → o ≡ some k → q ≡ some k) → noLower w v ≡ true
+    → isCovered o w n ≡ true → isCovered q v n ≡ true
 covered-keeps none q w v n f g h = clash′ h
 covered-keeps (some k) q Unstarted v n f g h = clash′ h
 covered-keeps (some k) q (Started trail lead set) Unstarted n f g h = clash′ g

@@ -123,7 +123,8 @@ module _ (x : List ℕ) (m : Meaning) (p : readAs x ≡ some m) where
   own-source k rule some-name same =
       let kind : m .kind ≡ k = eqb-true (m .kind) k same in
       let count = counted-row k (countsOf m) (ap (λ (i : ℕ). kindHasCounts i (countsOf m)) (sym kind) ∙ counted) .names in
-      let h = all-passed (hostsFit m) 11 [] (omega arith) (all-passed (inRange (mostNumber (m .kind)) m) 10 (ask (hostsFit m) 11 ∷ []) (omega arith) questions .1) .0 in
+      let h = all-passed (hostsFit m) 11 [] (omega arith)
+      (all-passed (inRange (mostNumber (m .kind)) m) 10 (ask (hostsFit m) 11 ∷ []) (omega arith) questions .1) .0 in
       let fits = and-both (all (hostFits (m .kind) (m .sender)) (m .names)) _ h .0 in
       sender-source k rule (m .sender) (m .names) (omega (arith, count))
       (ap (λ (i : ℕ). all (hostFits i (m .sender)) (m .names)) (sym kind) ∙ fits)

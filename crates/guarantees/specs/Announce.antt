@@ -1,5 +1,6 @@
--- Announce and kind 24 (document 02, P11), as statements; proofs/Announce.antt proves them, those of the book proofs/FetchBook.antt. "A new event Announce has a member put out its own
--- first and last as trail and lead in kind 24, two names laid out as kind 18's with the sender as source and host".
+-- Announce and kind 24 (document 02, P11), as statements; proofs/Announce.antt proves them, those of the book proofs/FetchBook.antt. "A new
+-- event Announce has a member put out its own first and last as trail and lead in kind 24, two names laid out as kind 18's with the sender as
+-- source and host".
 use mathlib.Core.Path.{_≡_}
 use mathlib.Core.Bool.{true, false, cond}
 use mathlib.Core.List.{List, _∷_}

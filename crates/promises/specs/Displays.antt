@@ -69,7 +69,8 @@ pub record DisplaysKept : Type 0 where
       ⊎ ((eventOf d Step clock room ≡ stepped Nothing after) × ((n : ℕ) → noneMissing (d .window) n))
   pub out-is-request : (own sender : Host) (cs : List Call) (c : Call) (bytes : List ℕ) → let d = afterAll (openingOf own sender .display) cs in
       eventOf d (c .event) (c .clock) (c .room) .outcome ≡ Did (Out bytes) → Asking d c bytes
-  -- Every opening, refused or not, gives a sound display; every call on a sound one leaves a sound one; so no call is refused as 3 on a display used as its calls left it.
+  -- Every opening, refused or not, gives a sound display; every call on a sound one leaves a sound one; so no call is refused as 3 on a display
+  -- used as its calls left it.
   pub display-opens-sound : (own sender : Host) → soundOf (openingOf own sender .display) ≡ true
   pub display-stays-sound : (d : Display) (c : Call) → soundOf d ≡ true → soundOf (after d c) ≡ true
   pub never-unsound : (own sender : Host) (cs : List Call) (c : Call) → let d = afterAll (openingOf own sender .display) cs in

@@ -20,11 +20,15 @@ ghost use Rattle.message.specs.Message.{heldAs};
 ghost use Rattle.message.specs.Question.{refusalOf};
 ghost use Rattle.panel.specs.Answers.{verdictOf, cueTestOf, ownData, dataAnswer, dataOutput};
 
-// Document 01's number of a verdict, as C has it.
+// Document 01's number of a verdict, 0 where nothing was refused.
 fn number_of(verdict: Verdict) -> u32
     ensures { λ r. ⌜ r ≡ refusalOf verdict ⌝ }
 {
-    message::number_of(verdict) as u32
+    match verdict {
+        Verdict::Refused(number) => number as u32,
+        Verdict::Accepted => 0,
+        Verdict::Probe => 0,
+    }
 }
 
 // The 24 bytes of a whole cue.

@@ -1,13 +1,10 @@
 -- The tests of DATA and of RQST's first line without a case of the span: as the code asks them, one after another.
 use mathlib.Core.Path.{_≡_, refl}
-use Prim.Native.Nat.{ℕ}
-use mathlib.Core.List.{List}
 use mathlib.Core.Bool.{cond, _&&_}
 use Rattle.message.specs.Question.{sameHost}
 use Rattle.end.specs.declared.Record.{Record}
 use Rattle.end.specs.declared.Span.{Span}
 use Rattle.end.specs.declared.Span.the-variants.{Closed, Open}
-use Rattle.end.specs.declared.Source.{Source}
 use Rattle.end.specs.declared.Moment.{Moment}
 use Rattle.end.specs.declared.Says.{Says}
 use Rattle.end.specs.declared.Says.the-variants.{Data, Rqst, Repl, Xprs}
@@ -16,9 +13,6 @@ use Rattle.end.specs.declared.Reason.the-variants.{NotOpen, BelowFirst, OwnAbov
 use Rattle.end.specs.declared.Decision.{Decision}
 use Rattle.end.specs.declared.Decision.the-variants.{Ignores, Opens, Takes}
 use Rattle.end.specs.Records.{isClosed, isBelow, isAbove, isHeld}
-use Rattle.end.specs.Names.{asked, rise}
-use Rattle.end.specs.Ready.{Ranges}
-use Rattle.end.proofs.RiseLaws.{rise-distance}
 use Rattle.end.specs.Decide.{number, unless, ifSame, decideData, reached, decideRequest, decideExpress, decideRepair, decideAs}
 
 pub data-ladder : (w : Word) (r : Record) (x : Span)
@@ -50,7 +44,3 @@ module _ (t : Moment) (w : Word) (r : Record) (x : Span) where
   pub says-express : (k : Says) → k ≡ Xprs → decideAs k t w r x ≡ reached t w x (decideExpress t w r x)
   unfolding decideAs
   says-express k e = rw e
-
--- ---- a source whose last rose is as far as it was
-pub risen-ranges : (t : Moment) (us : List ℕ) (n : ℕ) (s x : Source) → x ≡ rise t us n s (s .span) → Ranges t (s .distance) → Ranges t (x .distance)
-risen-ranges t us n s x p r = rw (p, rise-distance (asked t us (s .distance)) n s (s .span)) r

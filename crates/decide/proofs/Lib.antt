@@ -1,3 +1,2 @@
 pub mod CueLaws
 pub mod Ladders
-pub mod Lift

@@ -21,7 +21,7 @@ use Rattle.end.specs.declared.Moment.{Moment}
 use Rattle.end.specs.declared.Source.{Source}
 use Rattle.end.specs.declared.Word.{Word}
 use Rattle.end.specs.Arrival.{requesterIn}
-use Rattle.decide.specs.Step.{Heeded}
+use Rattle.heed.specs.Step.{Heeded}
 use Rattle.receive.specs.Hearing.{HearingOn}
 use Rattle.receive.specs.Steps.{isAbout, saysIn, askerIn, wordIn, subjectOf}
 use Rattle.receive.proofs.Lists.{all-first}

@@ -23,7 +23,7 @@ use Rattle.end.specs.Fetch.{fetchedOf, lateOf}
 use Rattle.end.specs.Arrival.{messageName, messageCue, wordStep, messageStep, arrivalOf}
 use Rattle.end.proofs.Tools.{byTest}
 use Rattle.state.specs.declared.Change.{Change}
-use Rattle.decide.specs.Step.{decidedEffect, stepped}
+use Rattle.heed.specs.Step.{decidedEffect, stepped}
 use Rattle.fetch.specs.Steps.{answeredEffect, lateEffect, lateSource}
 use Rattle.fetch.proofs.FetchLaws.{unchanged, fetched-is, late-is}
 use Rattle.receive.specs.Steps.{isNamed, saysIn, entryIn, askerIn, wordIn, reportsFor, subjectOf, unnamedEffect, unnamedSource, effectOn, leftOn}

@@ -21,7 +21,7 @@ use Rattle.end.specs.Answer.{Effect, Done, Ignored}
 use Rattle.end.specs.Decide.{decide, apply}
 use Rattle.end.specs.Session.{heardFrom}
 use Rattle.end.specs.Arrival.{messageName, messageHost, messageCue, requesterIn}
-use Rattle.decide.specs.Step.{decidedEffect}
+use Rattle.heed.specs.Step.{decidedEffect}
 use Rattle.fetch.specs.Steps.{answeredEffect, lateEffect, lateSource}
 
 -- ---- what a message says

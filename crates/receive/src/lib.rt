@@ -193,7 +193,7 @@ fn report(t: Moment, draws: &[Draw], r: Report, s: Source) -> Source
 {
     let span = s.span;
     let other = !(r.source.0 == t.me.0);
-    let rises = other & records::is_above(span, r.last);
+    let rises = other & state::is_above(span, r.last);
     if rises {
         records::rise_to(s, t, draws, r.last)
     } else {
@@ -351,7 +351,7 @@ fn step_source(t: Moment, draws: &[Draw], m: Message, d: u64, s: Source, out: &m
     }
     if is_named(m.kind) {
         let w = word_in(m, d);
-        return decide::step(t, draws, w, s, out);
+        return heed::step(t, draws, w, s, out);
     }
     step_unnamed(t, m, s, out)
 }

@@ -3,10 +3,10 @@
 use mathlib.Core.Path.{_≡_, sym, ap, _∙_}
 use Prim.Native.Nat.{ℕ, _+_, _-_, _≤_, _<_, min, max}
 use native.Mathlib.Omega.{arith}
-use mathlib.Core.Bool.{Bool, true, false, cond, _&&_}
+use mathlib.Core.Bool.{Bool, true, false, cond}
 use mathlib.Core.List.{List}
 use lib.ListN.{getD}
-use lib.Dec.{ltb, leb, eqb}
+use lib.Dec.{eqb}
 use borrow.Author.Tests.{le-leb, lt-leb}
 use Rattle.message.specs.declared.Host.{Host}
 use Rattle.message.specs.declared.CueNumber.{CueNumber}
@@ -25,23 +25,12 @@ use Rattle.end.specs.declared.Span.the-variants.{Open}
 use Rattle.end.specs.declared.Source.{Source}
 use Rattle.end.specs.declared.Moment.{Moment}
 use Rattle.end.specs.State.{noRecord, blankRecord}
-use Rattle.end.specs.Records.{within, isBelow, isAbove, place, isHeld, rawAt, recordAt, withRecord, withReply, expressIn, withExpress}
+use Rattle.end.specs.Records.{within, place, isHeld, rawAt, recordAt, withRecord, withReply, expressIn, withExpress}
 use Rattle.end.specs.Round.{requestAt, replyDue, quietAfterReply}
 use Rattle.end.specs.Names.{setRound, setReply, quietReply, dropExpress, latest, isRequester}
 use Rattle.end.specs.Names.{expressed, asked, filled, lacking, holdsCue, riseWith, riseByData}
 use Rattle.end.proofs.RecordLaws.{within-in, at-inside}
 use Rattle.end.proofs.Lacking.{lacking-same}
-
--- ---- first and last, of a span that was matched
-module _ {x : Span} {first last : CueNumber} (n : ℕ) (e : x ≡ Open first last) where
-  pub open-within : leb (first .0) n && leb n (last .0) ≡ within x n
-  open-within = rw e
-
-  pub open-below : ltb n (first .0) ≡ isBelow x n
-  open-below = rw e
-
-  pub open-above : ltb (last .0) n ≡ isAbove x n
-  open-above = rw e
 
 -- ---- the record of a number, by the test whether it is within
 pub at-in : (s : Source) (n : ℕ) {at : ℕ} {inside : Bool} → at ≡ place n → inside ≡ within (s .span) n → inside ≡ true

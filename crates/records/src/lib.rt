@@ -21,7 +21,7 @@ ghost use Prim.Native.Nat.{_+_, _-_, _≤_, _<_, min, max};
 ghost use lib.ListN.{length};
 ghost use Rattle.message.specs.Limit.{numberLimit, ticksLimit};
 ghost use Rattle.end.specs.State.{blankRecord, withOrigin};
-ghost use Rattle.end.specs.Records.{within, isBelow, isAbove, isHeld, rawAt, recordAt, withRecord};
+ghost use Rattle.end.specs.Records.{isHeld, rawAt, recordAt, withRecord};
 ghost use Rattle.end.specs.Round.{drawCount, drawAt, requestAt, replyDue};
 ghost use Rattle.end.specs.Names.{setRound, hold, setReply, quietReply, dropExpress, latest, keepPair, isRequester};
 ghost use Rattle.end.specs.Names.{openAt, expressed, asked, filled, lacks, lacking, riseWith, rise, riseByData};
@@ -29,35 +29,6 @@ ghost use Rattle.end.specs.declared.Express.the-variants.{Unset, Soon};
 ghost use Rattle.end.specs.declared.Origin.the-variants.{From};
 ghost use Rattle.end.specs.Ready.{Ranges, Numbered};
 ghost use Rattle.state.specs.Counted.{Counted};
-
-// ---- first and last
-
-pub fn is_within(span: Span, n: CueNumber) -> bool
-    ensures { λ r. ⌜ r ≡ within span (n .0) ⌝ }
-{
-    match span {
-        Span::Closed => false,
-        Span::Open(first, last) => (first.0 <= n.0) & (n.0 <= last.0),
-    }
-}
-
-pub fn is_below(span: Span, n: CueNumber) -> bool
-    ensures { λ r. ⌜ r ≡ isBelow span (n .0) ⌝ }
-{
-    match span {
-        Span::Closed => false,
-        Span::Open(first, _) => n.0 < first.0,
-    }
-}
-
-pub fn is_above(span: Span, n: CueNumber) -> bool
-    ensures { λ r. ⌜ r ≡ isAbove span (n .0) ⌝ }
-{
-    match span {
-        Span::Closed => false,
-        Span::Open(_, last) => last.0 < n.0,
-    }
-}
 
 // ---- the record of a number
 
@@ -76,7 +47,7 @@ pub fn record_at(s: Source, n: CueNumber) -> Record
     ensures { λ r. ⌜ r ≡ recordAt s (n .0) ⌝ }
 {
     let span = s.span;
-    if is_within(span, n) {
+    if state::is_within(span, n) {
         let at = state::place(n.0 as u64);
         s.names[at]
     } else {

@@ -24,7 +24,7 @@ ghost use Rattle.message.specs.Limit.{numberLimit};
 ghost use Rattle.end.specs.State.{noAttempt, momentOf, isMember, isCrashed};
 ghost use Rattle.end.specs.State.{withSpan, withPair, withHeard, withDistance, withNames, withOrigin, withClock, withStatus};
 ghost use Rattle.end.specs.Records.{start, place, isHeld, isNo, replyIn, withReply, expressIn, withExpress};
-ghost use Rattle.end.specs.Records.{fetchable, attemptAt, withAttempt};
+ghost use Rattle.end.specs.Records.{within, isBelow, isAbove, fetchable, attemptAt, withAttempt};
 ghost use Rattle.end.specs.Sound.{allOf, paramsTests, delayIn, isNoPair};
 ghost use Rattle.end.specs.declared.Answer.the-variants.{Ignored};
 
@@ -146,6 +146,35 @@ pub fn place(n: u64) -> usize
     ensures { λ r. ⌜ r ≡ place n ⌝ }
 {
     (n % KEPT) as usize
+}
+
+// ---- first and last
+
+pub fn is_within(span: Span, n: CueNumber) -> bool
+    ensures { λ r. ⌜ r ≡ within span (n .0) ⌝ }
+{
+    match span {
+        Span::Closed => false,
+        Span::Open(first, last) => (first.0 <= n.0) & (n.0 <= last.0),
+    }
+}
+
+pub fn is_below(span: Span, n: CueNumber) -> bool
+    ensures { λ r. ⌜ r ≡ isBelow span (n .0) ⌝ }
+{
+    match span {
+        Span::Closed => false,
+        Span::Open(first, _) => n.0 < first.0,
+    }
+}
+
+pub fn is_above(span: Span, n: CueNumber) -> bool
+    ensures { λ r. ⌜ r ≡ isAbove span (n .0) ⌝ }
+{
+    match span {
+        Span::Closed => false,
+        Span::Open(_, last) => last.0 < n.0,
+    }
 }
 
 // ---- the marks of a number below a source's first original

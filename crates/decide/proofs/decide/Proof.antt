@@ -41,13 +41,13 @@ returns : tie.Need-returns
 returns c = rw (says-data _ _ _ _ _ (c .before .enum-told .given .1)) (c .decide-data .ensures)
 
 returns-2 : tie.Need-returns-2
-returns-2 c = rw (says-request _ _ _ _ _ (c .before .before .enum-told2 .given .1)) (cc)
+returns-2 c = rw (says-request _ _ _ _ _ (c .before .before .enum-told2 .given .1), c .reached .ensures, c .before .decide-request .ensures)
 
 returns-3 : tie.Need-returns-3
-returns-3 c = rw (says-repair _ _ _ _ _ (c .before .before .enum-told3 .given .1)) (cc)
+returns-3 c = rw (says-repair _ _ _ _ _ (c .before .before .enum-told3 .given .1), c .reached2 .ensures, c .before .decide-repair .ensures)
 
 returns-4 : tie.Need-returns-4
-returns-4 c = rw (says-express _ _ _ _ _ (c .before .before .enum-told4 .given .1)) (cc)
+returns-4 c = rw (says-express _ _ _ _ _ (c .before .before .enum-told4 .given .1), c .reached3 .ensures, c .before .decide-express .ensures)
 
 pub decide-spec : {M : Type 1} → statement M
 decide-spec = tie.close (tie.spec enum-told decide-data-requires enum-told-2 decide-request-requires reached-requires enum-told-3

@@ -26,7 +26,22 @@ choose-requires-2 : tie.Need-choose-requires-2
 choose-requires-2 c κs = search needs
 
 returns : tie.Need-returns
-returns c = rw data-ladder (cc)
+returns c =
+    let closed = c .before in
+    let opened = closed .before in
+    let below = opened .before in
+    let known = below .before in
+    let held = known .before in
+    rw (
+      data-ladder,
+      c .choose2 .ensures,
+      closed .is-closed .ensures,
+      opened .unless .ensures,
+      below .is-below .ensures,
+      known .choose .ensures,
+      held .is-held .ensures,
+      held .before .if-same .ensures,
+    )
 
 pub decide-data-spec : {M : Type 1} → statement M
 decide-data-spec = tie.close (tie.spec if-same-requires is-held-requires choose-requires is-below-requires unless-requires is-closed-requires choose-requires-2 returns)

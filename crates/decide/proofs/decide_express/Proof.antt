@@ -15,7 +15,7 @@ choose-requires c κs = search needs
 
 returns : tie.Need-returns
 unfolding decideExpress
-returns c = cc
+returns c = rw (c .choose .ensures, c .before .is-held .ensures, c .before .before .decide-request .ensures)
 
 pub decide-express-spec : {M : Type 1} → statement M
 decide-express-spec = tie.close (tie.spec decide-request-requires is-held-requires choose-requires returns)

@@ -15,7 +15,7 @@ choose-requires c κs = search needs
 
 returns : tie.Need-returns
 unfolding decideRepair
-returns c = cc
+returns c = rw (c .choose .ensures, c .before .is-held .ensures, c .before .before .if-same .ensures)
 
 pub decide-repair-spec : {M : Type 1} → statement M
 decide-repair-spec = tie.close (tie.spec if-same-requires is-held-requires choose-requires returns)

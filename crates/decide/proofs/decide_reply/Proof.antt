@@ -15,7 +15,7 @@ unless-requires-2 c κs = search needs
 
 returns : tie.Need-returns
 unfolding decideReply
-returns c = cc
+returns c = rw (c .unless2 .ensures, c .before .is-no .ensures, c .before .before .unless .ensures)
 
 pub decide-reply-spec : {M : Type 1} → statement M
 decide-reply-spec = tie.close (tie.spec unless-requires is-no-requires unless-requires-2 returns)

@@ -10,7 +10,7 @@ choose-requires : tie.Need-choose-requires
 choose-requires c κs = search needs
 
 returns : tie.Need-returns
-returns c = cc
+returns c = rw (c .choose .ensures, c .before .same-cue .ensures)
 
 pub if-same-spec : {M : Type 1} → statement M
 if-same-spec = tie.close (tie.spec same-cue-requires choose-requires returns)

@@ -23,7 +23,20 @@ unless-requires-3 : tie.Need-unless-requires-3
 unless-requires-3 c κs = search needs
 
 returns : tie.Need-returns
-returns c = rw reached-ladder (cc)
+returns c =
+    let closed = c .before in
+    let opened = closed .before in
+    let below = opened .before in
+    let known = below .before in
+    rw (
+      reached-ladder,
+      c .unless3 .ensures,
+      closed .is-closed .ensures,
+      opened .unless2 .ensures,
+      below .is-below .ensures,
+      known .unless .ensures,
+      known .before .is-above .ensures,
+    )
 
 pub reached-spec : {M : Type 1} → statement M
 reached-spec = tie.close (tie.spec is-above-requires unless-requires is-below-requires unless-requires-2 is-closed-requires unless-requires-3 returns)

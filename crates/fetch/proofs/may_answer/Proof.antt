@@ -10,7 +10,7 @@ is-held-requires : tie.Need-is-held-requires
 is-held-requires c κs = search needs
 
 returns : tie.Need-returns
-returns c = cc
+returns c = rw (c .is-held .ensures, c .before .before .before .record-at .ensures)
 
 pub may-answer-spec : {M : Type 1} → statement M
 may-answer-spec = tie.close (tie.spec record-at-requires is-held-requires returns)

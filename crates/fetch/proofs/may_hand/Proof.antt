@@ -10,7 +10,7 @@ has-host-requires : tie.Need-has-host-requires
 has-host-requires c κs = search needs
 
 returns : tie.Need-returns
-returns c = cc
+returns c = rw (c .before .has-host .ensures, c .before .before .before .before .attempt-at .ensures)
 
 pub may-hand-spec : {M : Type 1} → statement M
 may-hand-spec = tie.close (tie.spec attempt-at-requires has-host-requires returns)

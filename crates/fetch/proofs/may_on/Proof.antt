@@ -13,7 +13,7 @@ fetchable-requires : tie.Need-fetchable-requires
 fetchable-requires c κs = search needs
 
 returns : tie.Need-returns
-returns c = cc
+returns c = rw (c .before .before .fetchable .ensures, c .before .before .before .before .attempt-at .ensures)
 
 pub may-on-spec : {M : Type 1} → statement M
 may-on-spec = tie.close (tie.spec attempt-at-requires cast-fetchable fetchable-requires returns)

@@ -10,7 +10,7 @@ requester-in-requires : tie.Need-requester-in-requires
 requester-in-requires c κs = search needs
 
 returns : tie.Need-returns
-returns c = cc
+returns c = rw (c .requester-in .ensures, c .before .says-in .ensures)
 
 pub asker-in-spec : {M : Type 1} → statement M
 asker-in-spec = tie.close (tie.spec says-in-requires requester-in-requires returns)

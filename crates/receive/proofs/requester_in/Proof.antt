@@ -25,7 +25,7 @@ returns-2 : tie.Need-returns-2
 returns-2 c = search needs
 
 returns-3 : tie.Need-returns-3
-returns-3 c = rw (c .before .before .enum-told3 .given .1) (cc)
+returns-3 c = rw (c .before .before .enum-told3 .given .1, c .before .entry-of .ensures)
 
 returns-4 : tie.Need-returns-4
 returns-4 c = search needs

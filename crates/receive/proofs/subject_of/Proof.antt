@@ -10,7 +10,9 @@ is-about-requires : tie.Need-is-about-requires
 is-about-requires c κs = search needs
 
 returns : tie.Need-returns
-returns c = rw (← c .before .before .is-about .ensures, c .before .if1 .taken) (cc)
+returns c =
+    let about = c .before .before in
+    rw (← about .is-about .ensures, c .before .if1 .taken, about .before .entry-of .ensures)
 
 returns-2 : tie.Need-returns-2
 returns-2 c = rw (← c .before .before .is-about .ensures, c .before .if1 .left)

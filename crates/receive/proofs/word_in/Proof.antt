@@ -16,7 +16,10 @@ cue-of-requires : tie.Need-cue-of-requires
 cue-of-requires c κs = search needs
 
 returns : tie.Need-returns
-returns c = cc
+returns c =
+    let asker = c .before in
+    let entry = asker .before .before .before .before in
+    rw (c .cue-of .ensures, asker .asker-in .ensures, entry .entry-of .ensures, entry .before .says-in .ensures)
 
 pub word-in-spec : {M : Type 1} → statement M
 word-in-spec = tie.close (tie.spec says-in-requires entry-of-requires asker-in-requires cue-of-requires returns)

@@ -36,7 +36,21 @@ ones-requires-4 c κs = search needs
 
 returns : tie.Need-returns
 unfolding dateText
-returns c = cc
+returns c =
+    let d4 = c .before in
+    let d3 = d4 .before in
+    let d2 = d3 .before .before in
+    let d1 = d2 .before .before in
+    rw (
+      c .ones4 .ensures,
+      d4 .tens4 .ensures,
+      d3 .ones3 .ensures,
+      d3 .before .tens3 .ensures,
+      d2 .ones2 .ensures,
+      d2 .before .tens2 .ensures,
+      d1 .ones .ensures,
+      d1 .before .tens .ensures,
+    )
 
 pub date-text-spec : {M : Type 1} → statement M
 date-text-spec =

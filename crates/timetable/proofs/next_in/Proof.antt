@@ -24,7 +24,11 @@ chosen-requires c κs = search needs
 
 returns : tie.Need-returns
 unfolding nextIn
-returns c = cc
+returns c =
+    let next = c .before in
+    let minute = next .before in
+    let date = minute .before in
+    rw (c .chosen .ensures, next .next-of .ensures, minute .number-in .ensures, date .date-in .ensures, date .before .same .ensures)
 
 pub next-in-spec : {M : Type 1} → statement M
 next-in-spec =

@@ -21,7 +21,10 @@ chosen-requires c κs = search needs
 
 returns : tie.Need-returns
 unfolding rollIn
-returns c = cc
+returns c =
+    let rolled = c .before in
+    let date = rolled .before in
+    rw (c .chosen .ensures, rolled .roll-of .ensures, date .date-in .ensures, date .before .same .ensures)
 
 pub roll-in-spec : {M : Type 1} → statement M
 roll-in-spec =

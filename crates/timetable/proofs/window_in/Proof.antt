@@ -30,7 +30,21 @@ chosen-requires c κs = search needs
 
 returns : tie.Need-returns
 unfolding windowIn
-returns c = cc
+returns c =
+    let same = c .before in
+    let window = same .before .before in
+    let minute2 = window .before in
+    let minute = minute2 .before in
+    let date2 = minute .before in
+    rw (
+      c .chosen .ensures,
+      same .same .ensures,
+      window .window-of .ensures,
+      minute2 .number-in2 .ensures,
+      minute .number-in .ensures,
+      date2 .date-in2 .ensures,
+      date2 .before .date-in .ensures,
+    )
 
 pub window-in-spec : {M : Type 1} → statement M
 window-in-spec =

@@ -1,7 +1,7 @@
--- `decide::open_source` meets its contract: each step is its callee's.
+-- `heed::open_source` meets its contract: each step is its callee's.
 use borrow.Author.Needs.{needs}
-use Rattle.decide.proofs.open_source.Statement.{statement}
-use Rattle.decide.proofs.open_source.Tie as tie
+use Rattle.heed.proofs.open_source.Statement.{statement}
+use Rattle.heed.proofs.open_source.Tie as tie
 
 open-at-requires : tie.Need-open-at-requires
 open-at-requires c κs = search needs

@@ -1,8 +1,8 @@
--- `records::is_above` meets its contract: the span is the one that was matched.
+-- `state::is_above` meets its contract: the span is the one that was matched.
 use borrow.Author.Needs.{needs}
-use Rattle.records.proofs.Steps.{open-above}
-use Rattle.records.proofs.is_above.Statement.{statement}
-use Rattle.records.proofs.is_above.Tie as tie
+use Rattle.state.proofs.Spans.{open-above}
+use Rattle.state.proofs.is_above.Statement.{statement}
+use Rattle.state.proofs.is_above.Tie as tie
 
 enum-told : tie.Need-enum-told
 enum-told c = search needs

@@ -1,10 +1,10 @@
--- `decide::answer_of` meets its contract: each arm is the line of `effectOf` for its decision.
+-- `heed::answer_of` meets its contract: each arm is the line of `effectOf` for its decision.
 use mathlib.Core.Path.{refl}
 use Rattle.end.specs.Decide.{effectOf}
 use Rattle.end.specs.Answer.{answerOf, bufferOf}
 use borrow.Author.Needs.{needs}
-use Rattle.decide.proofs.answer_of.Statement.{statement}
-use Rattle.decide.proofs.answer_of.Tie as tie
+use Rattle.heed.proofs.answer_of.Statement.{statement}
+use Rattle.heed.proofs.answer_of.Tie as tie
 
 enum-told : tie.Need-enum-told
 enum-told c = search needs

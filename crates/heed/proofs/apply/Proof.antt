@@ -1,8 +1,8 @@
--- `decide::apply` meets its contract: each arm is the line of `apply` for its decision.
+-- `heed::apply` meets its contract: each arm is the line of `apply` for its decision.
 use Rattle.end.specs.Decide.{apply}
 use borrow.Author.Needs.{needs}
-use Rattle.decide.proofs.apply.Statement.{statement}
-use Rattle.decide.proofs.apply.Tie as tie
+use Rattle.heed.proofs.apply.Statement.{statement}
+use Rattle.heed.proofs.apply.Tie as tie
 
 enum-told : tie.Need-enum-told
 enum-told c = search needs

@@ -1,8 +1,8 @@
--- `decide::repair` meets its contract: each step is its callee's.
+-- `heed::repair` meets its contract: each step is its callee's.
 use Rattle.end.specs.Decide.{apply}
 use borrow.Author.Needs.{needs}
-use Rattle.decide.proofs.repair.Statement.{statement}
-use Rattle.decide.proofs.repair.Tie as tie
+use Rattle.heed.proofs.repair.Statement.{statement}
+use Rattle.heed.proofs.repair.Tie as tie
 
 rise-to-requires : tie.Need-rise-to-requires
 rise-to-requires c κs = search needs

@@ -1,8 +1,8 @@
--- `records::is_below` meets its contract: the span is the one that was matched.
+-- `state::is_below` meets its contract: the span is the one that was matched.
 use borrow.Author.Needs.{needs}
-use Rattle.records.proofs.Steps.{open-below}
-use Rattle.records.proofs.is_below.Statement.{statement}
-use Rattle.records.proofs.is_below.Tie as tie
+use Rattle.state.proofs.Spans.{open-below}
+use Rattle.state.proofs.is_below.Statement.{statement}
+use Rattle.state.proofs.is_below.Tie as tie
 
 enum-told : tie.Need-enum-told
 enum-told c = search needs

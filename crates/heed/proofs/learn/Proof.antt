@@ -1,10 +1,10 @@
--- `decide::learn` meets its contract: each step is its callee's, and a rise leaves the distance as it was.
+-- `heed::learn` meets its contract: each step is its callee's, and a rise leaves the distance as it was.
 use native.Mathlib.Omega.{arith}
 use Rattle.end.specs.Decide.{number}
-use Rattle.decide.proofs.Ladders.{risen-ranges}
+use Rattle.heed.proofs.Rises.{risen-ranges}
 use borrow.Author.Needs.{needs}
-use Rattle.decide.proofs.learn.Statement.{statement}
-use Rattle.decide.proofs.learn.Tie as tie
+use Rattle.heed.proofs.learn.Statement.{statement}
+use Rattle.heed.proofs.learn.Tie as tie
 
 rise-to-requires : tie.Need-rise-to-requires
 rise-to-requires c κs = search needs

@@ -1,7 +1,7 @@
--- `decide::take_cue` meets its contract: each step is its callee's.
+-- `heed::take_cue` meets its contract: each step is its callee's.
 use borrow.Author.Needs.{needs}
-use Rattle.decide.proofs.take_cue.Statement.{statement}
-use Rattle.decide.proofs.take_cue.Tie as tie
+use Rattle.heed.proofs.take_cue.Statement.{statement}
+use Rattle.heed.proofs.take_cue.Tie as tie
 
 rise-by-data-requires : tie.Need-rise-by-data-requires
 rise-by-data-requires c κs = search needs

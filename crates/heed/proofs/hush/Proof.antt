@@ -1,7 +1,7 @@
--- `decide::hush` meets its contract: each step is its callee's.
+-- `heed::hush` meets its contract: each step is its callee's.
 use borrow.Author.Needs.{needs}
-use Rattle.decide.proofs.hush.Statement.{statement}
-use Rattle.decide.proofs.hush.Tie as tie
+use Rattle.heed.proofs.hush.Statement.{statement}
+use Rattle.heed.proofs.hush.Tie as tie
 
 quiet-reply-requires : tie.Need-quiet-reply-requires
 quiet-reply-requires c κs = search needs

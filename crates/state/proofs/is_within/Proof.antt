@@ -1,8 +1,8 @@
--- `records::is_within` meets its contract: the span is the one that was matched.
+-- `state::is_within` meets its contract: the span is the one that was matched.
 use borrow.Author.Needs.{needs}
-use Rattle.records.proofs.Steps.{open-within}
-use Rattle.records.proofs.is_within.Statement.{statement}
-use Rattle.records.proofs.is_within.Tie as tie
+use Rattle.state.proofs.Spans.{open-within}
+use Rattle.state.proofs.is_within.Statement.{statement}
+use Rattle.state.proofs.is_within.Tie as tie
 
 enum-told : tie.Need-enum-told
 enum-told c = search needs

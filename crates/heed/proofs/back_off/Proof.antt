@@ -1,7 +1,7 @@
--- `decide::back_off` meets its contract: each step is its callee's.
+-- `heed::back_off` meets its contract: each step is its callee's.
 use borrow.Author.Needs.{needs}
-use Rattle.decide.proofs.back_off.Statement.{statement}
-use Rattle.decide.proofs.back_off.Tie as tie
+use Rattle.heed.proofs.back_off.Statement.{statement}
+use Rattle.heed.proofs.back_off.Tie as tie
 
 next-round-requires : tie.Need-next-round-requires
 next-round-requires c κs = search needs

@@ -1,4 +1,4 @@
--- `decide::step` meets its contract: each step is its callee's.
+-- `heed::step` meets its contract: each step is its callee's.
 use mathlib.Core.Path.{_≡_, ap, _∙_}
 use Prim.Native.Nat.{ℕ}
 use mathlib.Core.List.{List}
@@ -9,10 +9,10 @@ use Rattle.end.specs.declared.Word.{Word}
 use Rattle.end.specs.declared.Decision.{Decision}
 use Rattle.end.specs.Answer.{Did, bufferOf}
 use Rattle.end.specs.Decide.{known, decideAs, effectOf}
-use Rattle.decide.specs.Step.{decidedEffect}
+use Rattle.heed.specs.Step.{decidedEffect}
 use borrow.Author.Needs.{needs}
-use Rattle.decide.proofs.step.Statement.{statement}
-use Rattle.decide.proofs.step.Tie as tie
+use Rattle.heed.proofs.step.Statement.{statement}
+use Rattle.heed.proofs.step.Tie as tie
 
 record-at-requires : tie.Need-record-at-requires
 record-at-requires c κs = search needs

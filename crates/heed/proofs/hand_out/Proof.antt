@@ -1,10 +1,10 @@
--- `decide::hand_out` meets its contract: the cue stands in the first bytes.
+-- `heed::hand_out` meets its contract: the cue stands in the first bytes.
 use mathlib.Core.Path.{refl, _∙_}
 use Rattle.numbers.proofs.SpliceLaws.{splice-start}
 use Rattle.end.specs.Answer.{answerOf, bufferOf}
 use borrow.Author.Needs.{needs}
-use Rattle.decide.proofs.hand_out.Statement.{statement}
-use Rattle.decide.proofs.hand_out.Tie as tie
+use Rattle.heed.proofs.hand_out.Statement.{statement}
+use Rattle.heed.proofs.hand_out.Tie as tie
 
 put-bytes-requires : tie.Need-put-bytes-requires
 put-bytes-requires c κs = search needs

@@ -10,26 +10,17 @@ use Rattle.numbers.proofs.Cases.{by-flag}
 use Rattle.message.specs.declared.Message.{Message}
 use Rattle.message.specs.Message.{meaningOf}
 use Rattle.end.specs.declared.Answer.{Answer}
-use Rattle.end.specs.declared.Move.{Move}
 use Rattle.end.specs.declared.Event.{Event}
 use Rattle.end.specs.declared.Stepped.{Stepped}
 use Rattle.end.specs.declared.End.{End}
 use Rattle.end.specs.State.{isCrashed, withClock}
 use Rattle.end.specs.Answer.{Effect, Out, Got, Done, Ignored, Nothing, Clash, Late, Exhausted, Step, give, Outcome, Refused, Did, Result, done, answerOf, calledOf, bufferOf, answerNumber, answerValues}
-use Rattle.end.specs.Event.{Action, actionOf, moves, movedEnd, moveOf, actOf, stepOf, questionOf, eventOf, gives}
+use Rattle.end.specs.Event.{Action, actionOf, actOf, stepOf, questionOf, eventOf, gives}
 use Rattle.end.proofs.Tools.{clash, clash′}
 use Rattle.link.specs.Promise.{outcomeValues, Promised}
-use Rattle.link.specs.Frame.{readingFor, takes, acted, untakenFor, Acting}
+use Rattle.acting.specs.Acting.{acted, Acting}
+use Rattle.link.specs.Frame.{readingFor, takes, untakenFor}
 use Rattle.link.proofs.GivenLaws.{countsAs, acts, rests, passed, acting}
-
--- a move writes nothing
-pub move-quiet : (m : Move) (e : End) (out : List ℕ) → out ≡ bufferOf (Did (moveOf m e .effect)) out
-unfolding moveOf bufferOf
-move-quiet m e out = go (moves m (e .status))
-  where
-    go : (b : Bool) → out ≡ bufferOf (Did (cond b (give Done (movedEnd m e)) (give Ignored e) .effect)) out
-    go true = refl
-    go false = refl
 
 -- ---- the answer alone
 did-number : (x : Effect) → answerNumber (answerOf (Did x)) ≡ 0

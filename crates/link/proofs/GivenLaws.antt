@@ -26,7 +26,8 @@ use Rattle.end.specs.Event.{Action, actionOf, actOf, ifMember, ownQuestions, qu
 use Rattle.state.specs.Settled.{Settled}
 use Rattle.state.proofs.Settled.{settled}
 use Rattle.questions.specs.Read.{ReadAs}
-use Rattle.link.specs.Frame.{readingFor, isProbe, takenAs, takes, acted, Passing, OwnGiven, Acting}
+use Rattle.acting.specs.Acting.{acted, Passing, OwnGiven, Acting}
+use Rattle.link.specs.Frame.{readingFor, isProbe, takenAs, takes}
 
 -- ---- the reading
 read-number : (bytes : List ℕ) → refusalOf (readOf bytes .verdict) ≡ readRefusal bytes

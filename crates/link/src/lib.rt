@@ -27,14 +27,14 @@ ghost use lib.ListN.{length};
 ghost use Rattle.message.specs.Message.{meaningOf};
 ghost use Rattle.message.specs.Question.{refusalOf};
 ghost use Rattle.end.specs.declared.Move.the-variants.{Join, Joined, Leave, Left, Crash};
-ghost use Rattle.end.specs.Answer.{Did, done, answerOf, calledOf, bufferOf};
+ghost use Rattle.end.specs.Answer.{answerOf};
 ghost use Rattle.end.specs.Opening.{openRefusal, openingOf};
 ghost use Rattle.end.specs.Event.{Moves, Send, Arrival, Else, Fire, Report, Fetch, Announce, actionOf, gives, leaves};
 ghost use Rattle.end.specs.State.{withClock};
 ghost use Rattle.end.specs.Why.{refusedAs, because, whyOf, whyRefusal};
 ghost use Rattle.link.specs.Promise.{AnswerIs, Promised};
 ghost use Rattle.link.specs.Reason.{suits, Heard, fetchReason, memberReason, firstReason};
-ghost use Rattle.link.specs.Frame.{nothingRead, readingFor, Brought, isProbe, takenAs, takes, acted, untakenFor, Acting};
+ghost use Rattle.link.specs.Frame.{nothingRead, readingFor, Brought, isProbe, takenAs, takes, untakenFor};
 
 // Opens an end: questions 12, 13 and 14. Refused, it gives host 0's crashed end beside the number.
 pub fn open(me: Host, params: Params) -> Opened
@@ -122,30 +122,6 @@ fn untaken(q: u8) -> Answer
     }
 }
 
-// What an event does on an end that takes it: its clock is set, and every question was answered yes.
-fn act(
-    end: End,
-    draws: &[Draw],
-    what: Event,
-    cue: [u8; 24],
-    message: Message,
-    out: &mut [u8],
-) -> Stepped
-    requires { ⌜ Acting what end message (length (now draws)) (length (now out)) ⌝ }
-    ensures { λ r. ⌜ r ≡ calledOf (done (acted (now (draws .entry)) what cue (meaningOf message) end)) ⌝ }
-    ensures { λ _. ⌜ now (out .exit) ≡ bufferOf (Did (acted (now (draws .entry)) what cue (meaningOf message) end .effect)) (now (out .entry)) ⌝ }
-{
-    match what {
-        Event::Moves(m) => membership::moved(end, m),
-        Event::Send => transmit::send(end, draws, cue, out),
-        Event::Arrival => receive::arrival(end, draws, message, out),
-        Event::Fire => transmit::fire(end, draws, out),
-        Event::Report => transmit::report(end, out),
-        Event::Fetch(name) => fetch::fetch(end, name, out),
-        Event::Announce => transmit::announce(end, out),
-    }
-}
-
 // The frame of an event, once its bytes are read. The reading is not made here: its many small writes would keep the compiler from seeing
 // that nothing has changed the state since the call, and it would copy the state once more. The two ends of the last test each give a
 // state of their own for the same reason.
@@ -172,7 +148,7 @@ fn frame(
     let end = state::with_clock(e, clock_after(sets, clock, e.clock));
     let answer = untaken(q);
     if sets & taking {
-        act(end, draws, taken, cue, message, out)
+        acting::act(end, draws, taken, cue, message, out)
     } else {
         Stepped { answer, end }
     }

@@ -1,3 +1,4 @@
 pub mod CueLaws
 pub mod PlayLaws
 pub mod ReasonLaws
+pub mod VerbLaws

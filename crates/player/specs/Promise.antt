@@ -3,20 +3,25 @@ use mathlib.Core.Path.{_≡_}
 use mathlib.Core.Bool.{Bool, cond}
 use mathlib.Core.List.{List, [], _∷_, _++_}
 use Prim.Native.Nat.{ℕ, _*_, _≤_}
-use lib.ListN.{length, take}
+use lib.ListN.{length, take, replicate}
 use lib.Dec.{ltb}
 use Rattle.message.specs.Cue.{stepsAt}
 use Rattle.end.specs.declared.Answer.{Answer}
 use Rattle.end.specs.declared.Answer.the-variants as answer
 use Rattle.end.specs.declared.End.{End}
+use Rattle.end.specs.declared.Event.{Event}
+use Rattle.end.specs.declared.Event.the-variants as event
+use Rattle.end.specs.declared.Move.the-variants.{Join, Joined, Leave, Left, Crash}
 use Rattle.end.specs.declared.Why.{Why}
 use Rattle.script.specs.declared.Verb.{Verb}
+use Rattle.script.specs.declared.Verb.the-variants as verb
 use Rattle.answers.specs.declared.Shown.the-variants as shown
 use Rattle.store.specs.Store.{most, room}
 use Rattle.player.specs.declared.Printed.{Printed}
 use Rattle.player.specs.declared.Printed.the-variants.{Bad, Shows}
 use Rattle.player.specs.declared.Played.{Played}
 use Rattle.player.specs.declared.Told.{Told}
+use Rattle.player.specs.Play.{focused}
 use Rattle.player.specs.Explain.{explained, playedBy}
 
 -- a line was played: `after` are the messages that are kept then
@@ -80,3 +85,27 @@ pub record Shelf (output places lengths : List ℕ) (count : ℕ) : Type 0 where
   pub places-size : length places ≡ most * room
   pub lengths-size : length lengths ≡ most
   pub few : count ≤ most
+
+-- ---- the parts of a verb's event: what `eventFor` puts together
+
+abbrev pub kindFor : Verb → Event
+kindFor verb.Join = event.Moves Join
+kindFor verb.Joined = event.Moves Joined
+kindFor verb.Leave = event.Moves Leave
+kindFor verb.Left = event.Moves Left
+kindFor verb.Crash = event.Moves Crash
+kindFor (verb.Send focus) = event.Send
+kindFor (verb.Hear number) = event.Arrival
+kindFor verb.Fire = event.Fire
+kindFor verb.Report = event.Report
+
+abbrev pub cueFor : Verb → List ℕ
+cueFor verb.Join = replicate 24 0
+cueFor verb.Joined = replicate 24 0
+cueFor verb.Leave = replicate 24 0
+cueFor verb.Left = replicate 24 0
+cueFor verb.Crash = replicate 24 0
+cueFor (verb.Send focus) = focused focus
+cueFor (verb.Hear number) = replicate 24 0
+cueFor verb.Fire = replicate 24 0
+cueFor verb.Report = replicate 24 0

@@ -25,7 +25,7 @@ ghost use Rattle.end.specs.Why.{whyOf};
 ghost use Rattle.player.specs.Play.{draws, eventFor, heardNumber, isKnown};
 ghost use Rattle.player.specs.Explain.{ignoredFor};
 ghost use Rattle.player.specs.House.{widest, badLine, printedLine};
-ghost use Rattle.player.specs.Promise.{Plays, PlaysOn, Tells, Shelf, InOutput};
+ghost use Rattle.player.specs.Promise.{Plays, PlaysOn, Tells, Shelf, InOutput, kindFor, cueFor};
 
 // What is printed for a line: its answer, or "bad", after which the house stops.
 pub enum Printed {
@@ -85,51 +85,58 @@ fn heard_number(verb: Verb) -> u64
     }
 }
 
+// The event of a verb, without the cue of a send and the bytes of a hear.
+fn event_of(verb: Verb) -> Event
+    ensures { λ r. ⌜ r ≡ kindFor verb ⌝ }
+{
+    match verb {
+        Verb::Join => Event::Moves(Move::Join),
+        Verb::Joined => Event::Moves(Move::Joined),
+        Verb::Leave => Event::Moves(Move::Leave),
+        Verb::Left => Event::Moves(Move::Left),
+        Verb::Crash => Event::Moves(Move::Crash),
+        Verb::Send(_) => Event::Send,
+        Verb::Hear(_) => Event::Arrival,
+        Verb::Fire => Event::Fire,
+        Verb::Report => Event::Report,
+    }
+}
+
+// The cue of a send, and zeros for another verb, with which nothing is said.
+fn cue_of(verb: Verb) -> [u8; 24]
+    ensures { λ r. ⌜ r ≡ cueFor verb ⌝ }
+{
+    match verb {
+        Verb::Join => [0; 24],
+        Verb::Joined => [0; 24],
+        Verb::Leave => [0; 24],
+        Verb::Left => [0; 24],
+        Verb::Crash => [0; 24],
+        Verb::Send(focus) => message::cue_with(focus, 0, 0, 0, 0),
+        Verb::Hear(_) => [0; 24],
+        Verb::Fire => [0; 24],
+        Verb::Report => [0; 24],
+    }
+}
+
 // Makes the call of a verb, with 64 draws of 0; `bytes` are those of the message that is heard.
 fn event(e: End, verb: Verb, clock: u64, bytes: &[u8], out: &mut [u8]) -> Stepped
     ensures { λ r. ⌜ r ≡ calledOf (eventOf e (eventFor verb (now (bytes .entry))) clock (length (now (out .entry))) draws) ⌝ }
     ensures { λ _. ⌜ now (out .exit) ≡ bufferOf (eventOf e (eventFor verb (now (bytes .entry))) clock (length (now (out .entry))) draws .outcome) (now (out .entry)) ⌝ }
 {
     let none: [Draw; 64] = [0; 64];
-    match verb {
-        Verb::Join => link::join(e, clock, &none, out),
-        Verb::Joined => link::joined(e, clock, &none, out),
-        Verb::Leave => link::leave(e, clock, &none, out),
-        Verb::Left => link::left(e, clock, &none, out),
-        Verb::Crash => link::crash(e, clock, &none, out),
-        Verb::Send(focus) => {
-            link::send(e, clock, &none, message::cue_with(focus, 0, 0, 0, 0), out)
-        }
-        Verb::Hear(_) => link::arrival(e, clock, &none, bytes, out),
-        Verb::Fire => link::fire(e, clock, &none, out),
-        Verb::Report => link::report(e, clock, &none, out),
-    }
+    let what = event_of(verb);
+    let cue = cue_of(verb);
+    link::event(e, clock, &none, what, cue, bytes, out)
 }
 
 // Why the event of a verb would be ignored.
 fn reason(e: End, verb: Verb, clock: u64, bytes: &[u8]) -> Why
     ensures { λ r. ⌜ r ≡ whyOf e clock (eventFor verb (now (bytes .entry))) ⌝ }
 {
-    let none = [0u8; 24];
-    match verb {
-        Verb::Join => link::reason(e, clock, Event::Moves(Move::Join), none, bytes),
-        Verb::Joined => link::reason(e, clock, Event::Moves(Move::Joined), none, bytes),
-        Verb::Leave => link::reason(e, clock, Event::Moves(Move::Leave), none, bytes),
-        Verb::Left => link::reason(e, clock, Event::Moves(Move::Left), none, bytes),
-        Verb::Crash => link::reason(e, clock, Event::Moves(Move::Crash), none, bytes),
-        Verb::Send(focus) => {
-            link::reason(
-                e,
-                clock,
-                Event::Send,
-                message::cue_with(focus, 0, 0, 0, 0),
-                bytes,
-            )
-        }
-        Verb::Hear(_) => link::reason(e, clock, Event::Arrival, none, bytes),
-        Verb::Fire => link::reason(e, clock, Event::Fire, none, bytes),
-        Verb::Report => link::reason(e, clock, Event::Report, none, bytes),
-    }
+    let what = event_of(verb);
+    let cue = cue_of(verb);
+    link::reason(e, clock, what, cue, bytes)
 }
 
 // The same where it is asked for.

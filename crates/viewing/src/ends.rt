@@ -4,6 +4,8 @@ use crate::kept;
 use end::Answer;
 use end::Draw;
 use end::End;
+use end::Event;
+use end::Move;
 use end::Stepped;
 use picture::text;
 use trace::words;
@@ -15,14 +17,19 @@ struct Said {
     focus: i16,
 }
 
-// The moves of membership.
-fn call_move(e: End, word: u64, clock: u64, draws: &[Draw], out: &mut [u8]) -> Stepped {
+// The event of a word, of those that `is_event` has.
+fn event_for(word: u64) -> Event {
     match word {
-        words::JOIN => link::join(e, clock, draws, out),
-        words::JOINED => link::joined(e, clock, draws, out),
-        words::LEAVE => link::leave(e, clock, draws, out),
-        words::LEFT => link::left(e, clock, draws, out),
-        _ => link::crash(e, clock, draws, out),
+        words::JOIN => Event::Moves(Move::Join),
+        words::JOINED => Event::Moves(Move::Joined),
+        words::LEAVE => Event::Moves(Move::Leave),
+        words::LEFT => Event::Moves(Move::Left),
+        words::CRASH => Event::Moves(Move::Crash),
+        words::SEND => Event::Send,
+        words::HEAR => Event::Arrival,
+        words::FIRE => Event::Fire,
+        words::REPORT => Event::Report,
+        _ => Event::Announce,
     }
 }
 
@@ -30,19 +37,9 @@ fn call_move(e: End, word: u64, clock: u64, draws: &[Draw], out: &mut [u8]) -> S
 fn call(e: End, said: Said, bytes: &[u8], len: usize, out: &mut [u8]) -> Stepped {
     let size = store::least(len, bytes.len());
     let none: [Draw; 64] = [0; 64];
-    let word = said.word;
-    let clock = said.clock;
-    match word {
-        words::SEND => {
-            let cue = message::cue_with(said.focus, 0, 0, 0, 0);
-            link::send(e, clock, &none, cue, out)
-        }
-        words::HEAR => link::arrival(e, clock, &none, &bytes[0..size], out),
-        words::FIRE => link::fire(e, clock, &none, out),
-        words::REPORT => link::report(e, clock, &none, out),
-        words::ANNOUNCE => link::announce(e, clock, &none, out),
-        _ => call_move(e, word, clock, &none, out),
-    }
+    let what = event_for(said.word);
+    let cue = message::cue_with(said.focus, 0, 0, 0, 0);
+    link::event(e, said.clock, &none, what, cue, &bytes[0..size], out)
 }
 
 fn is_event(word: u64) -> bool {

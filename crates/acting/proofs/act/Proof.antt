@@ -1,11 +1,11 @@
--- `link::act` meets its contract: the event that was matched has this step.
+-- `acting::act` meets its contract: the event that was matched has this step.
 use mathlib.Core.Path.{subst}
 use Rattle.end.specs.declared.Event.{Event}
-use Rattle.link.specs.Frame.{OwnGiven}
-use Rattle.link.proofs.CallLaws.{move-quiet}
+use Rattle.acting.specs.Acting.{OwnGiven}
+use Rattle.acting.proofs.MoveLaws.{move-quiet}
 use borrow.Author.Needs.{needs}
-use Rattle.link.proofs.act.Statement.{statement}
-use Rattle.link.proofs.act.Tie as tie
+use Rattle.acting.proofs.act.Statement.{statement}
+use Rattle.acting.proofs.act.Tie as tie
 
 enum-known-what : tie.Need-enum-known-what
 enum-known-what c = search needs

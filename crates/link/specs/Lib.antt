@@ -1,3 +1,0 @@
-pub mod Frame
-pub mod Promise
-pub mod Reason

@@ -1,5 +1,5 @@
-// What an event does on an end that takes it. The frame of the calls, `link::frame`, has asked every question by then, and set the clock. It
-// is a helper of the crate link and no call of the product: it asks in its `requires` for what the questions give.
+// What an event does on an end that takes it. The frame of the calls, `frame::frame`, has asked every question by then, and set the clock. It
+// is a helper of the crate frame and no call of the product: it asks in its `requires` for what the questions give.
 use end::Draw;
 use end::End;
 use end::Event;

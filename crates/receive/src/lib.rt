@@ -2,7 +2,7 @@
 // specs/Arrival.antt, with its answer and its output. A message is steps on single sources (specs/Steps.antt): each function here is
 // given the one source that it may change and gives it back, and `arrival` stores it in the one copy of the end, with one way out: each
 // further copy or way out would cost a copy of the whole state. Nothing here refuses, tests the membership or sets the clock: these are
-// the calls' frame, in the crate link. Helpers of the crates above and no calls of the product: each asks in its `requires` for what
+// the calls' frame, in the crate frame. Helpers of the crates above and no calls of the product: each asks in its `requires` for what
 // soundness and the questions give.
 use end::Answer;
 use end::Draw;

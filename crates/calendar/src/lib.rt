@@ -154,12 +154,10 @@ pub fn roll(d: &mut Date) -> u8
     s.code
 }
 
-// The day after a date, by a roll of a copy: a caller that goes by this one lends nothing. A date that does not exist is given back as it
-// is; that it is refused is said by `roll`.
+// The day after a date, for a caller that lends nothing. A date that does not exist is given back as it is; that it is refused is said by
+// `step` and `roll`.
 pub fn day_after(d: Date) -> Date
     ensures { λ r. ⌜ r ≡ rollDate d ⌝ }
 {
-    let mut next = d;
-    roll(&mut next);
-    next
+    step(d).date
 }

@@ -1,7 +1,7 @@
 -- `calendar::days` meets its contract: each month is one of those tested, and no other is left.
 use native.Mathlib.Omega.{arith}
 use Rattle.calendar.proofs.Tests.{in-february, short-month, long-month}
-use mathlib.Core.Path.{refl}
+use mathlib.Core.Path.{refl, sym, _∙_}
 use mathlib.Core.Bool.{true, false}
 use borrow.Author.Needs.{needs}
 use Rattle.calendar.proofs.days.Statement.{statement}
@@ -11,10 +11,10 @@ leap-requires : tie.Need-leap-requires
 leap-requires c κs = search needs
 
 returns : tie.Need-returns
-returns c = in-february _ _ true (omega arith) (cc)
+returns c = in-february _ _ true (omega arith) (sym (c .before .leap .ensures) ∙ c .if2 .taken)
 
 returns-2 : tie.Need-returns-2
-returns-2 c = in-february _ _ false (omega arith) (cc)
+returns-2 c = in-february _ _ false (omega arith) (sym (c .before .leap .ensures) ∙ c .if2 .left)
 
 returns-3 : tie.Need-returns-3
 returns-3 c = short-month _ _ 4 (omega arith) refl refl

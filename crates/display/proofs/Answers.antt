@@ -2,7 +2,7 @@
 use mathlib.Core.Path.{_≡_, refl, sym, ap, _∙_, subst}
 use mathlib.Core.Bool.{Bool, true, false, cond, not, _&&_, _||_}
 use mathlib.Core.List.{List, [], _∷_}
-use mathlib.Core.Logic.{_⊎_, ⊎-elim}
+use mathlib.Core.Logic.{⊎-elim}
 use mathlib.Core.Option.{Option, none, some}
 use Prim.Native.Nat.{ℕ, _+_, _-_, _≤_, _<_, max}
 use native.Mathlib.Omega.{arith}
@@ -23,23 +23,24 @@ use Rattle.message.specs.Message.{DATA, REPL, ANNC, Datagram, Probe, Saying, Me
 use Rattle.message.specs.Question.{firstNo, messageQuestions, hostIn, ticksIn, sameHost, inRange, windowFits, hostsFit, readRefusal, verdictFor, readOf}
 use Rattle.message.proofs.QuestionLaws.{and-both}
 use Rattle.message.proofs.SectionLaws as sections
-use Rattle.end.specs.Answer.{Effect, Out, Got, Done, Ignored, Nothing, Clash, Late, Exhausted, Class, PutsOut, HandsOut, Untouched, classOf, classIn, Outcome, Refused, Did}
+use Rattle.end.specs.Answer.{Out, Got, Done, Ignored, Nothing, Clash, Late, Exhausted, PutsOut, HandsOut, Untouched, classOf, classIn, Outcome, Refused, Did}
 use Rattle.end.specs.Messages.{messageName, messageCue}
 use Rattle.end.specs.Book.{readAs}
 use Rattle.end.proofs.Tools.{byCond, byTest, clash, clash′}
 use Rattle.end.proofs.Readings.{read-is, reads, own-source, written-reads}
-use Rattle.display.specs.declared.Window.{Window}
-use Rattle.display.specs.declared.Window.the-variants.{Unstarted, Started}
+use Rattle.display_window.specs.declared.Window.{Window}
+use Rattle.display_window.specs.declared.Window.the-variants.{Unstarted, Started}
+use Rattle.display_window.specs.declared.Lost.{Lost}
+use Rattle.display_window.specs.Window.{windowSound, raised, received, isNew, startAt, taken, noneLost, lostBy, lowestMissing}
+use Rattle.display_window.proofs.WindowLaws.{SoundWindow, sound-window}
 use Rattle.display.specs.declared.Display.{Display}
-use Rattle.display.specs.declared.Lost.{Lost}
-use Rattle.display.specs.Display.{hostsApart, windowSound, openingOf, withClock, withWindow}
-use Rattle.display.specs.Hear.{raised, received, isNew, startAt, taken, noneLost, lostBy, isOriginal, isRepair, isAnnounced, leadIn, Hearing, hearing, passedOver, cueOf, announcedOf, heardIn, hearOf}
-use Rattle.display.specs.Request.{lowestMissing, requestFor, requestIf, stepOf}
+use Rattle.display.specs.Display.{hostsApart, openingOf, withClock, withWindow}
+use Rattle.display.specs.Hear.{isOriginal, isRepair, isAnnounced, leadIn, Hearing, hearing, passedOver, cueOf, announcedOf, heardIn, hearOf}
+use Rattle.display.specs.Request.{requestFor, requestIf, stepOf}
 use Rattle.display.specs.Call.{Event, Hear, Step, questionOf, actOf, eventOf}
-use Rattle.display.specs.History.{Call, after, afterAll, told, handedOut, isMissing, noneMissing, stepped}
-use Rattle.display.specs.Answers.{isOf, bringsCue, gotIf, answered, answeredTo, AnswersHeard, edgesOf, edgesBy, edgesTo, EdgesHeard, SetsClock, RefusedStays, Asking, OutIsRequest}
+use Rattle.display.specs.History.{Call, after, afterAll, told, handedOut, isMissing, noneMissing}
+use Rattle.display.specs.Answers.{isOf, bringsCue, gotIf, answered, answeredTo, AnswersHeard, edgesOf, edgesBy, edgesTo, EdgesHeard, SetsClock, RefusedStays, OutIsRequest}
 use Rattle.display.proofs.CallLaws.{apart, sound-in, hear-asks, step-asks, Passed, passed}
-use Rattle.display.proofs.WindowLaws.{SoundWindow, sound-window}
 use Rattle.display.proofs.Moves.{Went, Stays, Starts, Takes, Announces, went}
 use Rattle.display.proofs.History.{isFrom, opened, new-by-history}
 use Rattle.display.proofs.Asks.{step-asks-lowest}

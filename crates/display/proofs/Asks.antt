@@ -1,6 +1,6 @@
 -- What a step asks for: the statements of specs/History.antt on the lowest missing number.
-use mathlib.Core.Path.{_≡_, refl, sym, ap, _∙_, subst}
-use mathlib.Core.Bool.{true, false, not, _&&_}
+use mathlib.Core.Path.{_≡_, refl, sym, _∙_}
+use mathlib.Core.Bool.{true, false}
 use mathlib.Core.Option.{Option, none, some}
 use mathlib.Core.Logic.{_⊎_, inl, inr}
 use Prim.Native.Nat.{ℕ, zero, suc, _+_, _-_, _<_}
@@ -10,14 +10,14 @@ use Rattle.numbers.specs.Bits.{bit}
 use Rattle.numbers.proofs.Cases.{by-flag, by-order}
 use Rattle.message.specs.Message.{bytesOf}
 use Rattle.end.specs.Answer.{Out, Nothing}
-use Rattle.display.specs.declared.Window.{Window}
-use Rattle.display.specs.declared.Window.the-variants.{Unstarted, Started}
-use Rattle.display.specs.declared.Display.{Display}
+use Rattle.display_window.specs.declared.Window.{Window}
+use Rattle.display_window.specs.declared.Window.the-variants.{Unstarted, Started}
+use Rattle.display_window.specs.Window.{lowestClear, lowestMissing}
+use Rattle.display_window.proofs.SetLaws.{clear-none, clear-next, clear-keeps, clear-below}
 use Rattle.display.specs.Display.{withClock}
-use Rattle.display.specs.Request.{lowestClear, lowestMissing, requestFor, requestIf, stepOf}
-use Rattle.display.specs.Call.{Step, done, eventOf}
+use Rattle.display.specs.Request.{requestFor, requestIf, stepOf}
+use Rattle.display.specs.Call.{done, eventOf}
 use Rattle.display.specs.History.{isMissing, noneMissing, stepped, StepAsksLowest}
-use Rattle.display.proofs.SetLaws.{clear-none, clear-next, clear-keeps, clear-below}
 
 -- two answers of one search
 none-some : {i : ℕ} {A : Type 0} {o : Option ℕ} → o ≡ none → o ≡ some i → A

@@ -3,7 +3,7 @@ use mathlib.Core.Path.{_≡_, refl, sym, ap, _∙_, subst}
 use mathlib.Core.Bool.{Bool, true, false, cond, _&&_, _||_}
 use mathlib.Core.List.{List, [], _∷_, _++_}
 use mathlib.Core.Option.{Option, none, some}
-use Prim.Native.Nat.{ℕ, zero, suc, _+_, _-_}
+use Prim.Native.Nat.{ℕ, zero, suc, _-_}
 use native.Mathlib.Omega.{arith}
 use lib.ListN.{length, getD, replicate}
 use lib.Dec.{leb, eqb}
@@ -23,18 +23,19 @@ use Rattle.message.proofs.QuestionLaws.{and-both}
 use Rattle.end.specs.declared.Answer.the-variants as answer
 use Rattle.end.specs.Messages.{messageName, messageCue}
 use Rattle.end.specs.Answer.{Out, Got, Refused, Did, answerOf, bufferOf}
-use Rattle.display.specs.declared.Window.{Window}
-use Rattle.display.specs.declared.Window.the-variants.{Unstarted, Started}
+use Rattle.display_window.specs.declared.Window.{Window}
+use Rattle.display_window.specs.declared.Window.the-variants.{Unstarted, Started}
+use Rattle.display_window.specs.declared.Missing.the-variants as missing
+use Rattle.display_window.specs.declared.Lost.{Lost}
+use Rattle.display_window.specs.Window.{windowSound, noneLost, startAt, lowestMissing}
+use Rattle.display_window.specs.Frame.{isStarted, missingOf}
 use Rattle.display.specs.declared.Display.{Display}
-use Rattle.display.specs.declared.Clear.the-variants as clear
-use Rattle.display.specs.declared.Missing.the-variants as missing
-use Rattle.display.specs.declared.Lost.{Lost}
 use Rattle.display.specs.declared.Shown.{Shown}
-use Rattle.display.specs.Display.{hostsApart, windowSound, soundOf, withClock, withWindow}
-use Rattle.display.specs.Hear.{Hearing, hearing, noneLost, passedOver, isOriginal, isRepair, isAnnounced, startAt, heardIn}
-use Rattle.display.specs.Request.{lowestClear, lowestMissing, requestIf, stepOf}
+use Rattle.display.specs.Display.{hostsApart, soundOf, withClock, withWindow}
+use Rattle.display.specs.Hear.{Hearing, hearing, passedOver, isOriginal, isRepair, isAnnounced, heardIn}
+use Rattle.display.specs.Request.{requestIf, stepOf}
 use Rattle.display.specs.Call.{Event, Hear, Step, questionOf, actOf, eventOf, gives, leaves}
-use Rattle.display.specs.Frame.{shownOf, firstOf, Ready, isStarted, saying, laterOf, clearOf, missingOf}
+use Rattle.display.specs.Frame.{shownOf, firstOf, Ready, saying, laterOf}
 
 -- ---- the questions
 pub hear-asks : (d : Display) (clock room : ℕ) (bytes : List ℕ) → questionOf d (Hear bytes) clock room ≡ firstOf d clock room (readRefusal bytes)
@@ -246,25 +247,7 @@ pub step-refused : (d : Display) (clock q : ℕ) (out : List ℕ) (r : Shown) �
 step-refused d clock q out r a n e = refused-gives d Step clock q out r (a ∙ sym (step-asks d clock (length out))) (ne-eqb q 0 n) e
 
 -- ---- the lowest missing number
-pub missing-none : (w : Window) (trail lead : CueNumber) (set k : ℕ) → w ≡ Started trail lead set → k ≡ lead .0 + 1 - trail .0 → lowestClear set k ≡ none
-    → lowestMissing w ≡ none
-unfolding lowestMissing
-missing-none w trail lead set k p e h = rw (p, ← e, h)
-
-pub missing-some : (w : Window) (trail lead : CueNumber) (set k i : ℕ) → w ≡ Started trail lead set → k ≡ lead .0 + 1 - trail .0 → lowestClear set k ≡ some i
-    → lowestMissing w ≡ some (trail .0 + i)
-unfolding lowestMissing
-missing-some w trail lead set k i p e h = rw (p, ← e, h)
-
 -- what the code's answer says of the definition's
-pub clear-at : (o : Option ℕ) (i : ℕ) → clearOf o ≡ clear.At i → o ≡ some i
-clear-at none i h = let z : _≡_ {A = ℕ} 0 1 = cc in absurd (omega arith)
-clear-at (some j) i h = let e : j ≡ i = cc in ap some e
-
-pub clear-no : (o : Option ℕ) → clearOf o ≡ clear.NoneClear → o ≡ none
-clear-no none h = refl
-clear-no (some j) h = let z : _≡_ {A = ℕ} 0 1 = cc in absurd (omega arith)
-
 pub missing-at : (o : Option ℕ) (n : CueNumber) → missingOf o ≡ missing.Number n → o ≡ some (n .0)
 missing-at none n h = let z : _≡_ {A = ℕ} 0 1 = cc in absurd (omega arith)
 missing-at (some j) n h = let e : asNumber j ≡ n = cc in ap (λ (x : CueNumber). some (x .0)) e

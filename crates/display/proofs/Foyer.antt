@@ -1,22 +1,20 @@
 -- Demand 3 with displays in the list: what a display puts out is a RQST that the reader accepts, and any such may arrive at an end.
 use mathlib.Core.Path.{_≡_, refl, sym, ap, _∙_, subst}
 use mathlib.Core.List.{List, [], _∷_, List·Memᴰ, List·Memᴰ·not-nil}
-use mathlib.Core.Logic.{_⊎_, inl, inr, ⊎-elim}
+use mathlib.Core.Logic.{inl, inr, ⊎-elim}
 use Prim.Native.Nat.{ℕ}
 use Rattle.end.specs.Answer.{PutsOut, classIn, Outcome, Refused, Did}
 use Rattle.end.specs.Event.{Action, Moves, Send, Arrival, Else}
-use Rattle.end.specs.Book.{put}
 use Rattle.end.specs.Run as run
 use Rattle.end.proofs.Tools.{put-all}
 use Rattle.end.proofs.Service.Frame.{sent-by}
 use Rattle.end.proofs.Service.Ends.{service}
-use Rattle.display.specs.declared.Window.{Window}
 use Rattle.display.specs.declared.Display.{Display}
 use Rattle.display.specs.Display.{withClock}
 use Rattle.display.specs.Request.{requestFor}
 use Rattle.display.specs.Call.{eventOf}
 use Rattle.display.specs.History.{Call}
-use Rattle.display.specs.Foyer.{Turn, AtEnd, AtDisplay, Foyer, displayResult, afterEnd, afterDisplay, FromEither, Brought, Allowed, Fresh, atEnds, EndsAllowed, FoyerService}
+use Rattle.display.specs.Foyer.{Turn, AtEnd, AtDisplay, Foyer, displayResult, afterEnd, afterDisplay, Brought, Allowed, Fresh, atEnds, EndsAllowed, FoyerService}
 use Rattle.display.proofs.History.{opened}
 use Rattle.display.proofs.Answers.{Below, below-next, put-out-is, puts}
 

@@ -16,17 +16,17 @@ use Rattle.message.specs.declared.Host.{Host}
 use Rattle.message.proofs.QuestionLaws.{and-both}
 use Rattle.end.specs.Answer.{classIn}
 use Rattle.end.proofs.Tools.{clash′}
-use Rattle.display.specs.declared.Window.{Window}
-use Rattle.display.specs.declared.Window.the-variants.{Unstarted, Started}
+use Rattle.display_window.specs.declared.Window.{Window}
+use Rattle.display_window.specs.declared.Window.the-variants.{Unstarted, Started}
+use Rattle.display_window.specs.declared.Lost.{Lost}
+use Rattle.display_window.specs.Window.{isNew, unreceived, noneLost, lostBy}
+use Rattle.display_window.proofs.WindowLaws.{SoundWindow}
+use Rattle.display_window.proofs.SetLaws.{turned-past}
 use Rattle.display.specs.declared.Display.{Display}
-use Rattle.display.specs.declared.Lost.{Lost}
 use Rattle.display.specs.Display.{openingOf, displayFor, openQuestions}
-use Rattle.display.specs.Hear.{isNew, unreceived, noneLost, lostBy}
 use Rattle.message.specs.Question.{firstNo}
 use Rattle.display.specs.Call.{eventOf}
 use Rattle.display.specs.History.{Call, Told, after, afterAll, told, one, handedIn, handedOut, reportedLost, isMissing, startOf, isCovered, isBetween, isReceivedIn, passes, noLower, EachNumberOnce, StaysSo, NeverLower, NoneForgotten, LostAsPassed, Stands, LossesStand, MissingIs, ReceivedNeverReported}
-use Rattle.display.proofs.WindowLaws.{SoundWindow}
-use Rattle.display.proofs.SetLaws.{turned-past}
 use Rattle.display.proofs.NumberLaws.{span-low}
 use Rattle.display.proofs.Moves.{Went, Stays, Starts, Takes, Announces, went}
 use Rattle.display.proofs.StepLaws.{lostIn, none-lost, Raised, started-went, Began, Waits, Begins, unstarted-went, start-sound}

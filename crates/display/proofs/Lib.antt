@@ -1,5 +1,3 @@
-pub mod SetLaws
-pub mod WindowLaws
 pub mod CallLaws
 pub mod NumberLaws
 pub mod Moves

@@ -20,13 +20,14 @@ use Rattle.roundtrip.proofs.RoundTrip.{accepted, kind-from}
 use Rattle.end.specs.Messages.{messageName}
 use Rattle.end.specs.Answer.{classOf, classIn}
 use Rattle.end.proofs.Tools.{byCond}
-use Rattle.display.specs.declared.Window.{Window}
-use Rattle.display.specs.declared.Window.the-variants.{Unstarted, Started}
+use Rattle.display_window.specs.declared.Window.{Window}
+use Rattle.display_window.specs.declared.Window.the-variants.{Unstarted, Started}
+use Rattle.display_window.specs.declared.Lost.{Lost}
+use Rattle.display_window.specs.Window.{raised, isNew, startAt, taken, noneLost, lostBy, lowestMissing}
 use Rattle.display.specs.declared.Display.{Display}
-use Rattle.display.specs.declared.Lost.{Lost}
 use Rattle.display.specs.Display.{withClock}
-use Rattle.display.specs.Hear.{raised, isNew, startAt, taken, noneLost, lostBy, isOriginal, isRepair, isAnnounced, trailIn, leadIn, Hearing, heardIn, hearOf}
-use Rattle.display.specs.Request.{lowestMissing, requestIf, stepOf}
+use Rattle.display.specs.Hear.{isOriginal, isRepair, isAnnounced, trailIn, leadIn, Hearing, heardIn, hearOf}
+use Rattle.display.specs.Request.{requestIf, stepOf}
 use Rattle.display.specs.Call.{Event, Hear, Step, questionOf, actOf, Result, eventOf}
 use Rattle.display.specs.History.{handedIn}
 use Rattle.display.proofs.CallLaws.{hear-asks, passed}

@@ -8,10 +8,10 @@ use borrow.Author.Tests.{le-leb, lt-leb, lt-ltb, le-ltb, ne-eqb, eqb-true, eqb-f
 use Rattle.numbers.specs.Bits.{bit, withBit}
 use Rattle.numbers.proofs.Cases.{by-flag, by-order}
 use Rattle.numbers.proofs.BitLaws.{bit-above, bit-with, bit-other}
-use Rattle.display.specs.Hear.{unreceived, lostAbove}
+use Rattle.display_window.specs.Window.{unreceived, lostAbove}
+use Rattle.display_window.proofs.SetLaws.{bit-up, turned-bit, turned-past}
+use Rattle.display_window.proofs.WindowLaws.{SoundWindow}
 use Rattle.display.specs.History.{one, inSpan}
-use Rattle.display.proofs.SetLaws.{bit-up, turned-bit, turned-past}
-use Rattle.display.proofs.WindowLaws.{SoundWindow}
 
 -- ---- the span above the old lead
 span-in : (l top n : ℕ) → l < n → n < top → inSpan (lostAbove l top) n ≡ true

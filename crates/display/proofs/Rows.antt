@@ -9,10 +9,11 @@ use Rattle.message.specs.Entry.{asHost}
 use Rattle.message.specs.Message.{bytesWith, meaningWith}
 use Rattle.message.specs.Question.{inRange, windowFits, hostsFit}
 use Rattle.message.specs.declared.Verdict.the-variants.{Accepted, Refused}
+use Rattle.display_window.specs.Window.{raised, received, isNew, lostBy, lowestClear, lowestMissing}
 use Rattle.display.specs.declared.OpenedDisplay.{OpenedDisplay}
 use Rattle.display.specs.Display.{soundOf, fresh, openingOf}
-use Rattle.display.specs.Hear.{raised, received, isNew, lostBy, heardIn}
-use Rattle.display.specs.Request.{lowestClear, lowestMissing, stepOf}
+use Rattle.display.specs.Hear.{heardIn}
+use Rattle.display.specs.Request.{stepOf}
 use Rattle.display.specs.Call.{questionOf, eventOf}
 use Rattle.display.specs.Rows.{rows, heardRows, foreseenRows, steps, stepsGive, probed, probedGives, oldHeard, oldGives, refusedAs, numbers}
 

@@ -13,17 +13,18 @@ use Rattle.message.specs.Limit.{roomNeeded}
 use Rattle.message.specs.Message.{Meaning, Datagram, Probe, Saying, datagramFrom, kindOf, kindByte, mostNumber, meaningFrom, countsOf, sizeFrom}
 use Rattle.message.specs.Question.{ticksIn, kindHasCounts, inRange, hostsFit, readRefusal}
 use Rattle.end.proofs.Tools.{byCond}
-use Rattle.display.specs.declared.Window.{Window}
-use Rattle.display.specs.declared.Window.the-variants.{Unstarted, Started}
+use Rattle.display_window.specs.declared.Window.{Window}
+use Rattle.display_window.specs.declared.Window.the-variants.{Unstarted, Started}
+use Rattle.display_window.specs.declared.Lost.{Lost}
+use Rattle.display_window.specs.Window.{windowSound, isNew, lowestMissing}
+use Rattle.display_window.proofs.WindowLaws.{sound-window, window-sound}
 use Rattle.display.specs.declared.Display.{Display}
-use Rattle.display.specs.declared.Lost.{Lost}
-use Rattle.display.specs.Display.{hostsApart, windowSound, soundOf, openingOf, withClock}
-use Rattle.display.specs.Hear.{Hearing, isOriginal, isRepair, isAnnounced, isNew, heardIn, hearOf}
-use Rattle.display.specs.Request.{lowestMissing, requestIf, stepOf}
+use Rattle.display.specs.Display.{hostsApart, soundOf, openingOf, withClock}
+use Rattle.display.specs.Hear.{Hearing, isOriginal, isRepair, isAnnounced, heardIn, hearOf}
+use Rattle.display.specs.Request.{requestIf, stepOf}
 use Rattle.display.specs.Call.{Event, Hear, Step, questionOf, actOf, Result, eventOf}
 use Rattle.display.specs.Frame.{firstOf}
 use Rattle.display.specs.History.{Call, after, afterAll, OpensSound, StaysSound, NeverUnsound}
-use Rattle.display.proofs.WindowLaws.{sound-window, window-sound}
 use Rattle.display.proofs.CallLaws.{apart, hear-asks, step-asks, passed, sound-in}
 use Rattle.display.proofs.Moves.{Went, went}
 use Rattle.display.proofs.StepLaws.{started-went, Began, Waits, Begins, unstarted-went, start-sound}

@@ -15,12 +15,12 @@ use Rattle.message.specs.Entry.{asNumber}
 use Rattle.message.specs.declared.CueNumber.{CueNumber}
 use Rattle.message.proofs.QuestionLaws.{and-both}
 use Rattle.end.proofs.Tools.{clash′}
-use Rattle.display.specs.declared.Window.{Window}
-use Rattle.display.specs.declared.Window.the-variants.{Unstarted, Started}
-use Rattle.display.specs.declared.Lost.{Lost}
-use Rattle.display.specs.Hear.{raised, received, isNew, startAt, taken, noneLost, lostBy}
+use Rattle.display_window.specs.declared.Window.{Window}
+use Rattle.display_window.specs.declared.Window.the-variants.{Unstarted, Started}
+use Rattle.display_window.specs.declared.Lost.{Lost}
+use Rattle.display_window.specs.Window.{raised, received, isNew, startAt, taken, noneLost, lostBy}
+use Rattle.display_window.proofs.WindowLaws.{SoundWindow}
 use Rattle.display.specs.History.{one, isThe, inSet, inSpan}
-use Rattle.display.proofs.WindowLaws.{SoundWindow}
 use Rattle.display.proofs.NumberLaws.{lost-at, moved-bit, missing-at, other-bit, same-bit, new-bit, received-at}
 use Rattle.display.proofs.Moves.{Went, Stays, Starts, Takes, Announces}
 

@@ -9,11 +9,12 @@ use Rattle.message.specs.Limit.{roomNeeded}
 use Rattle.message.specs.Message.{datagramFrom}
 use Rattle.message.specs.Question.{Question, ask, firstNo, readQuestions, ticksIn}
 use Rattle.end.specs.Answer.{Outcome, Refused, Did, answerOf, bufferOf}
+use Rattle.display_window.specs.declared.Lost.{Lost}
+use Rattle.display_window.specs.Window.{noneLost}
 use Rattle.display.specs.declared.Display.{Display}
-use Rattle.display.specs.declared.Lost.{Lost}
 use Rattle.display.specs.declared.Shown.{Shown}
 use Rattle.display.specs.Display.{soundOf, withClock}
-use Rattle.display.specs.Hear.{Hearing, noneLost, hearOf}
+use Rattle.display.specs.Hear.{Hearing, hearOf}
 use Rattle.display.specs.Request.{stepOf}
 
 pub data Event : Type 0 where

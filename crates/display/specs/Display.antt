@@ -1,14 +1,14 @@
 -- A display: its state, when it is sound, and how it is opened. Document 02, P11: "Foyer displays send no cues and follow one sender each, by
 -- the simplified PGM of source document 003."
-use Prim.Native.Nat.{ℕ, zero, suc, _+_, _-_, _^_}
-use mathlib.Core.Bool.{Bool, true, not, _&&_}
+use Prim.Native.Nat.{ℕ, zero, suc}
+use mathlib.Core.Bool.{Bool, not, _&&_}
 use mathlib.Core.List.{List, [], _∷_}
-use lib.Dec.{leb, ltb}
 use Rattle.message.specs.declared.Host.{Host}
 use Rattle.message.specs.Entry.{asHost}
 use Rattle.message.specs.Question.{Question, ask, firstNo, hostIn, ticksIn, sameHost, verdictFor}
-use Rattle.display.specs.declared.Window.{Window}
-use Rattle.display.specs.declared.Window.the-variants.{Unstarted, Started}
+use Rattle.display_window.specs.declared.Window.{Window}
+use Rattle.display_window.specs.declared.Window.the-variants.{Unstarted}
+use Rattle.display_window.specs.Window.{windowSound}
 use Rattle.display.specs.declared.Display.{Display}
 use Rattle.display.specs.declared.OpenedDisplay.{OpenedDisplay}
 
@@ -16,13 +16,7 @@ use Rattle.display.specs.declared.OpenedDisplay.{OpenedDisplay}
 abbrev pub hostsApart : Host → Host → Bool
 hostsApart own sender = hostIn own && (hostIn sender && not (sameHost own sender))
 
--- ---- "A sound one has neither trail nor lead, or lead as above, and receptions only between them": as above is "lead is from trail to
--- trail+63"
-abbrev pub windowSound : Window → Bool
-windowSound Unstarted = true
-windowSound (Started trail lead set) =
-    leb (trail .0) (lead .0) && (leb (lead .0) (trail .0 + 63) && ltb set (2 ^ (lead .0 + 1 - trail .0)))
-
+-- "A sound one": its window is, and hosts and clock are in range
 unfoldable pub soundOf : Display → Bool
 soundOf d = hostsApart (d .own) (d .sender) && (ticksIn (d .clock) && windowSound (d .window))
 

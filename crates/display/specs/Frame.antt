@@ -1,27 +1,20 @@
 -- What the functions below the public calls are given and promise: a call is its questions, and then what an event does to a sound display.
 use mathlib.Core.Path.{_≡_}
-use mathlib.Core.Bool.{Bool, true, false, cond}
+use mathlib.Core.Bool.{Bool, true, cond}
 use mathlib.Core.List.{List, [], _∷_}
-use mathlib.Core.Option.{Option, none, some}
-use Prim.Native.Nat.{ℕ, _-_, _≤_}
+use Prim.Native.Nat.{ℕ, _≤_}
 use lib.Dec.{leb}
 use Rattle.message.specs.Limit.{roomNeeded}
 use Rattle.message.specs.declared.Host.{Host}
 use Rattle.message.specs.declared.CueNumber.{CueNumber}
 use Rattle.message.specs.declared.Name.{Name}
-use Rattle.message.specs.Entry.{asNumber}
 use Rattle.message.specs.Message.{Meaning}
 use Rattle.message.specs.Question.{ticksIn}
 use Rattle.end.specs.Answer.{Did, answerOf}
-use Rattle.display.specs.declared.Window.{Window}
-use Rattle.display.specs.declared.Window.the-variants.{Unstarted, Started}
+use Rattle.display_window.specs.Window.{windowSound}
 use Rattle.display.specs.declared.Display.{Display}
-use Rattle.display.specs.declared.Clear.{Clear}
-use Rattle.display.specs.declared.Clear.the-variants as clear
-use Rattle.display.specs.declared.Missing.{Missing}
-use Rattle.display.specs.declared.Missing.the-variants as missing
 use Rattle.display.specs.declared.Shown.{Shown}
-use Rattle.display.specs.Display.{windowSound, soundOf}
+use Rattle.display.specs.Display.{soundOf}
 use Rattle.display.specs.Hear.{Hearing, passedOver, cueOf, announcedOf}
 
 -- what an unrefused call gives
@@ -36,18 +29,6 @@ firstOf d clock room own = cond (leb roomNeeded room) (cond (soundOf d) (cond (t
 pub record Ready (d : Display) (room : ℕ) : Type 0 where
   pub room-in : roomNeeded ≤ room
   pub sound : windowSound (d .window) ≡ true
-
-abbrev pub isStarted : Window → Bool
-isStarted Unstarted = false
-isStarted (Started trail lead set) = true
-
--- how many numbers from trail on a set of 64 bits has, and how far a number stands above trail
-abbrev pub places : ℕ
-places = 64
-
-abbrev pub aboveTrail : ℕ → Window → ℕ
-aboveTrail n Unstarted = 0
-aboveTrail n (Started trail lead set) = n - trail .0
 
 -- the parts of a message that a display goes by, and a meaning that has them: its kind, its sender, its name, the number of a second name, and
 -- its cue
@@ -67,13 +48,3 @@ abbrev pub laterOf : Bool → Bool → Name → CueNumber → List ℕ → Displ
 laterOf cues tells name lead cue d =
     let m = saying 0 (name .source) name lead cue in
     cond cues (cueOf m (name .number .0) d) (cond tells (announcedOf m d) (passedOver d))
-
--- a place in a set, as the code has it
-abbrev pub clearOf : Option ℕ → Clear
-clearOf none = clear.NoneClear
-clearOf (some i) = clear.At i
-
--- a number, as the code has it
-abbrev pub missingOf : Option ℕ → Missing
-missingOf none = missing.NoneMissing
-missingOf (some n) = missing.Number (asNumber n)

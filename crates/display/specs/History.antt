@@ -12,14 +12,14 @@ use Rattle.numbers.specs.Bits.{bit}
 use Rattle.message.specs.declared.Host.{Host}
 use Rattle.message.specs.Message.{bytesOf}
 use Rattle.end.specs.Answer.{Effect, Out, Nothing, Did, Class, PutsOut, HandsOut, HandsLate, Untouched, classIn, Outcome}
-use Rattle.display.specs.declared.Window.{Window}
-use Rattle.display.specs.declared.Window.the-variants.{Unstarted, Started}
+use Rattle.display_window.specs.declared.Window.{Window}
+use Rattle.display_window.specs.declared.Window.the-variants.{Unstarted, Started}
+use Rattle.display_window.specs.declared.Above.{Above}
+use Rattle.display_window.specs.declared.Above.the-variants.{NoneAbove, Between}
+use Rattle.display_window.specs.declared.Lost.{Lost}
+use Rattle.display_window.specs.Window.{noneLost}
 use Rattle.display.specs.declared.Display.{Display}
-use Rattle.display.specs.declared.Above.{Above}
-use Rattle.display.specs.declared.Above.the-variants.{NoneAbove, Between}
-use Rattle.display.specs.declared.Lost.{Lost}
 use Rattle.display.specs.Display.{soundOf, openingOf, withClock}
-use Rattle.display.specs.Hear.{noneLost}
 use Rattle.display.specs.Request.{requestFor}
 use Rattle.display.specs.Call.{Event, Step, questionOf, Result, eventOf}
 

@@ -1,34 +1,13 @@
 -- What a step of a display puts out. Document 02, P11: "A step puts out RQST of the lowest missing number, or gives Nothing".
-use Prim.Native.Nat.{ℕ, zero, suc, _+_, _-_}
-use mathlib.Core.Bool.{Bool, cond, not}
-use mathlib.Core.List.{List, [], _∷_}
+use Prim.Native.Nat.{ℕ}
+use mathlib.Core.List.{[], _∷_}
 use mathlib.Core.Option.{Option, none, some}
-use Rattle.numbers.specs.Bits.{bit}
 use Rattle.message.specs.Entry.{asNumber}
 use Rattle.message.specs.Message.{RQST, Meaning, bytesOf}
 use Rattle.end.specs.Answer.{Out, Nothing}
-use Rattle.display.specs.declared.Window.{Window}
-use Rattle.display.specs.declared.Window.the-variants.{Unstarted, Started}
+use Rattle.display_window.specs.Window.{noneLost, lowestMissing}
 use Rattle.display.specs.declared.Display.{Display}
-use Rattle.display.specs.Hear.{Hearing, hearing, noneLost}
-
--- the least i below k whose bit is not set
-unfoldable pub lowestClear : ℕ → ℕ → Option ℕ
-lowestClear set zero = none
-lowestClear set (suc k) = firstOr (lowestClear set k)
-  where
-    firstOr : Option ℕ → Option ℕ
-    firstOr none = cond (bit set k) none (some k)
-    firstOr (some i) = some i
-
--- "the lowest missing number": of trail..lead the lowest that was not received
-unfoldable pub lowestMissing : Window → Option ℕ
-lowestMissing Unstarted = none
-lowestMissing (Started trail lead set) = up (lowestClear set (lead .0 + 1 - trail .0))
-  where
-    up : Option ℕ → Option ℕ
-    up none = none
-    up (some i) = some (trail .0 + i)
+use Rattle.display.specs.Hear.{Hearing, hearing}
 
 -- the RQST of a number of the sender's, from the display's host at its clock
 abbrev pub requestFor : Display → ℕ → Meaning

@@ -8,15 +8,15 @@ use Rattle.message.specs.declared.NameEntry.{NameEntry}
 use Rattle.message.specs.Entry.{asHost, asNumber, blankCue}
 use Rattle.message.specs.Message.{DATA, RQST, REPL, SESS, XPRS, FTCH, LATE, ANNC, Meaning, bytesOf}
 use Rattle.end.specs.Answer.{Effect, Out, Got, Done, Ignored, Nothing, Did}
-use Rattle.display.specs.declared.Window.{Window}
-use Rattle.display.specs.declared.Window.the-variants.{Unstarted, Started}
+use Rattle.display_window.specs.declared.Window.{Window}
+use Rattle.display_window.specs.declared.Window.the-variants.{Unstarted, Started}
+use Rattle.display_window.specs.declared.Above.{Above}
+use Rattle.display_window.specs.declared.Above.the-variants.{NoneAbove, Between}
+use Rattle.display_window.specs.declared.Lost.{Lost}
+use Rattle.display_window.specs.Window.{noneLost}
 use Rattle.display.specs.declared.Display.{Display}
-use Rattle.display.specs.declared.Above.{Above}
-use Rattle.display.specs.declared.Above.the-variants.{NoneAbove, Between}
-use Rattle.display.specs.declared.Lost.{Lost}
 use Rattle.display.specs.Display.{withClock}
-use Rattle.display.specs.Hear.{noneLost}
-use Rattle.display.specs.Call.{Event, Hear, Step, questionOf, Result, eventOf}
+use Rattle.display.specs.Call.{Hear, Step, questionOf, Result, eventOf}
 
 -- ---- displays
 

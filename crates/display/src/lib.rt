@@ -1,7 +1,10 @@
-// Foyer displays: document 02, P11. A display sends no cues and follows one sender, by the simplified PGM of source document 003. The
-// definitions are in specs/: Display (the state), Hear (messages, losses), Request (what a step puts out), Call (questions, and what a call
-// gives), History (every number once), Answers (what is answered, by the history), Foyer (lists with ends and displays), Frame (what the
-// functions below the calls are given), Rows (cases).
+// Foyer displays: document 02, P11. A display sends no cues and follows one sender, by the simplified PGM of source document 003. Its window,
+// which says what is received, missing and lost, is of the crate display_window. The definitions are in specs/: Display (the state), Hear
+// (messages), Request (what a step puts out), Call (questions, and what a call gives), History (every number once), Answers (what is answered,
+// by the history), Foyer (lists with ends and displays), Frame (what the functions below the calls are given), Rows (cases).
+use display_window::Lost;
+use display_window::Missing;
+use display_window::Window;
 use end::Answer;
 use message::ANNC;
 use message::Counts;
@@ -20,25 +23,17 @@ use message::Verdict;
 ghost use mathlib.Core.Path.{_≡_};
 ghost use mathlib.Core.Bool.{true};
 ghost use mathlib.Core.Option.{none, some};
-ghost use Prim.Native.Nat.{_+_, _-_, _/_, _^_, _≤_, _<_, min, max};
+ghost use Prim.Native.Nat.{_-_, _≤_, _<_};
 ghost use lib.ListN.{length};
-ghost use lib.Dec.{ltb};
-ghost use Rattle.numbers.specs.Bits.{bit};
-ghost use Rattle.message.specs.Limit.{numberLimit, roomNeeded};
+ghost use Rattle.message.specs.Limit.{roomNeeded};
 ghost use Rattle.message.specs.Message.{Meaning, heldAs, Small, numberWidth, meaningOf};
 ghost use Rattle.end.specs.Answer.{Got, Done, Did, Refused, answerOf, bufferOf};
-ghost use Rattle.display.specs.Display.{hostsApart, windowSound, soundOf, fresh, openingOf, withClock, withWindow};
-ghost use Rattle.display.specs.Hear.{raised, received, isNew, startAt, taken, unreceived, lostAbove, noneLost, lostBy, hearing, passedOver, heardIn};
-ghost use Rattle.display.specs.Request.{lowestClear, lowestMissing, requestFor, requestIf, stepOf};
+ghost use Rattle.display_window.specs.Window.{windowSound, raised, startAt, taken, noneLost, lostBy};
+ghost use Rattle.display.specs.Display.{hostsApart, soundOf, fresh, openingOf, withClock, withWindow};
+ghost use Rattle.display.specs.Hear.{hearing, passedOver, heardIn};
+ghost use Rattle.display.specs.Request.{requestFor, requestIf, stepOf};
 ghost use Rattle.display.specs.Call.{Hear, Step, gives, leaves};
-ghost use Rattle.display.specs.Frame.{shownOf, firstOf, Ready, isStarted, places, aboveTrail, saying, laterOf, clearOf, missingOf};
-
-// Trail and lead, and which of the numbers from trail on were received: bit i stands for trail + i. Before its sender's first DATA a display
-// has none of them.
-pub enum Window {
-    Unstarted,
-    Started(CueNumber, CueNumber, u64),
-}
+ghost use Rattle.display.specs.Frame.{shownOf, firstOf, Ready, saying, laterOf};
 
 // The state of a display: its own host, its sender's, its clock and its window.
 pub struct Display {
@@ -46,20 +41,6 @@ pub struct Display {
     pub sender: Host,
     pub clock: u64,
     pub window: Window,
-}
-
-// The first and the last of the lost numbers above the old lead.
-pub enum Above {
-    NoneAbove,
-    Between(CueNumber, CueNumber),
-}
-
-// The numbers that a call lost: of those up to the old lead a set up from the old trail, bit i for `trail` + i; and those above it. Where a
-// call can lose none (the start, an Ignored, a step, a refusal) `trail` is 0.
-pub struct Lost {
-    pub trail: CueNumber,
-    pub set: u64,
-    pub above: Above,
 }
 
 // What a call gives: its answer (Refused, Out, Got, Done, Ignored or Nothing), the numbers that became lost, and the display that it leaves.
@@ -73,95 +54,6 @@ pub struct Shown {
 pub struct OpenedDisplay {
     pub verdict: Verdict,
     pub display: Display,
-}
-
-// A place of a set that is not in it.
-enum Clear {
-    At(u64),
-    NoneClear,
-}
-
-// A number of trail..lead that was not received.
-enum Missing {
-    Number(CueNumber),
-    NoneMissing,
-}
-
-// How many numbers a display keeps track of from trail on: as many as its set has digits.
-const PLACES: u64 = 64;
-
-// ---- numbers
-
-// The difference, and 0 where the second is greater.
-fn less(a: u64, b: u64) -> u64
-    ensures { λ r. ⌜ r ≡ a - b ⌝ }
-{
-    if b < a { a - b } else { 0 }
-}
-
-fn lower(a: u64, b: u64) -> u64
-    ensures { λ r. ⌜ r ≡ min a b ⌝ }
-{
-    if a < b { a } else { b }
-}
-
-fn higher(a: u16, b: u16) -> u16
-    ensures { λ r. ⌜ r ≡ max a b ⌝ }
-{
-    if a < b { b } else { a }
-}
-
-// ---- sets: a place from 64 on is in none of them. It is branched on, since a processor shifts by 64 as by 0
-
-fn has(set: u64, i: u64) -> bool
-    ensures { λ r. ⌜ r ≡ bit set i ⌝ }
-{
-    if i < PLACES {
-        numbers::bits::has(set, i)
-    } else {
-        false
-    }
-}
-
-// The set up from its place k.
-fn up_from(set: u64, k: u64) -> u64
-    ensures { λ r. ⌜ r ≡ set / 2 ^ k ⌝ }
-{
-    if k < PLACES { set >> k } else { 0 }
-}
-
-// Whether the set has places below k only.
-fn is_below(set: u64, k: u64) -> bool
-    ensures { λ r. ⌜ r ≡ ltb set (2 ^ k) ⌝ }
-{
-    up_from(set, k) == 0
-}
-
-// The first k places turned over.
-fn unreceived(k: u64, set: u64) -> u64
-    requires { ⌜ k ≤ places ⌝ }
-    ensures { λ r. ⌜ r ≡ unreceived k set ⌝ }
-{
-    if k < PLACES {
-        let whole = 1u64 << k;
-        whole - 1 - set % whole
-    } else {
-        18446744073709551615 - set
-    }
-}
-
-// The lowest place below k that is not in the set.
-fn lowest_clear(set: u64, k: u64) -> Clear
-    ensures { λ r. ⌜ r ≡ clearOf (lowestClear set k) ⌝ }
-{
-    let mut i: u64 = 0;
-    while i < k {
-        if !has(set, i) {
-            return Clear::At(i);
-        }
-        i += 1;
-    }
-    Clear::NoneClear
 }
 
 // ---- the state
@@ -202,33 +94,13 @@ pub fn open(own: Host, sender: Host) -> OpenedDisplay
     }
 }
 
-// How many numbers trail..lead has.
-fn width(trail: CueNumber, lead: CueNumber) -> u64
-    ensures { λ r. ⌜ r ≡ lead .0 + 1 - trail .0 ⌝ }
-    ensures { λ r. ⌜ trail .0 + r ≤ numberLimit ⌝ }
-{
-    less(lead.0 as u64 + 1, trail.0 as u64)
-}
-
-fn window_sound(w: Window) -> bool
-    ensures { λ r. ⌜ r ≡ windowSound w ⌝ }
-{
-    match w {
-        Window::Unstarted => true,
-        Window::Started(trail, lead, set) => {
-            let places = width(trail, lead);
-            (trail.0 <= lead.0) & ((lead.0 as u64 <= trail.0 as u64 + 63) & is_below(set, places))
-        }
-    }
-}
-
 fn sound(d: Display) -> bool
     ensures { λ r. ⌜ r ≡ soundOf d ⌝ }
 {
     let own = d.own;
     let sender = d.sender;
     let window = d.window;
-    hosts_apart(own, sender) & ((d.clock < TICKS_LIMIT) & window_sound(window))
+    hosts_apart(own, sender) & ((d.clock < TICKS_LIMIT) & display_window::window_sound(window))
 }
 
 fn with_clock(d: Display, clock: u64) -> Display
@@ -259,118 +131,6 @@ fn with_window(d: Display, window: Window) -> Display
     }
 }
 
-fn is_started(w: Window) -> bool
-    ensures { λ r. ⌜ r ≡ isStarted w ⌝ }
-{
-    match w {
-        Window::Unstarted => false,
-        Window::Started(_, _, _) => true,
-    }
-}
-
-// ---- trail, lead and receptions
-
-// Trail and lead rise to what was heard, and receptions stay those of their numbers.
-fn raised(t: CueNumber, l: CueNumber, w: Window) -> Window
-    ensures { λ r. ⌜ r ≡ raised (t .0) (l .0) w ⌝ }
-{
-    match w {
-        Window::Unstarted => Window::Unstarted,
-        Window::Started(trail, lead, set) => {
-            let to = higher(trail.0, t.0);
-            let top = higher(lead.0, l.0);
-            let kept = up_from(set, less(to as u64, trail.0 as u64));
-            Window::Started(CueNumber(to), CueNumber(top), kept)
-        }
-    }
-}
-
-fn received(n: CueNumber, w: Window) -> Window
-    requires { ⌜ aboveTrail (n .0) w < places ⌝ }
-    ensures { λ r. ⌜ r ≡ received (n .0) w ⌝ }
-{
-    match w {
-        Window::Unstarted => Window::Unstarted,
-        Window::Started(trail, lead, set) => {
-            let at = less(n.0 as u64, trail.0 as u64);
-            let more = numbers::bits::with(set, at);
-            Window::Started(trail, lead, more)
-        }
-    }
-}
-
-// The trail that a cue counts as: 63 below it, or 0.
-fn trail_for(n: CueNumber) -> CueNumber
-    ensures { λ r. ⌜ r .0 ≡ n .0 - 63 ⌝ }
-{
-    CueNumber(less(n.0 as u64, 63) as u16)
-}
-
-// A cue is taken: it counts as a trail 63 below it and as a lead.
-fn taken(n: CueNumber, w: Window) -> Window
-    ensures { λ r. ⌜ r ≡ taken (n .0) w ⌝ }
-{
-    let low = trail_for(n);
-    let up = raised(low, n, w);
-    received(n, up)
-}
-
-fn is_new(w: Window, n: CueNumber) -> bool
-    ensures { λ r. ⌜ r ≡ isNew w (n .0) ⌝ }
-{
-    match w {
-        Window::Unstarted => false,
-        Window::Started(trail, _, set) => {
-            let at = less(n.0 as u64, trail.0 as u64);
-            (trail.0 <= n.0) & !has(set, at)
-        }
-    }
-}
-
-// ---- losses
-
-fn lost_above(lead: CueNumber, t: u16) -> Above
-    ensures { λ r. ⌜ r ≡ lostAbove (lead .0) t ⌝ }
-{
-    let next = lead.0 as u32 + 1;
-    if next < t as u32 {
-        Above::Between(CueNumber(next as u16), CueNumber(t - 1))
-    } else {
-        Above::NoneAbove
-    }
-}
-
-fn none_lost() -> Lost
-    ensures { λ r. ⌜ r ≡ noneLost ⌝ }
-{
-    Lost {
-        trail: CueNumber(0),
-        set: 0,
-        above: Above::NoneAbove,
-    }
-}
-
-// The numbers that are lost when trail rises to t, or stays where it is above it.
-fn lost_by(t: CueNumber, w: Window) -> Lost
-    requires { ⌜ windowSound w ≡ true ⌝ }
-    ensures { λ r. ⌜ r ≡ lostBy (t .0) w ⌝ }
-{
-    match w {
-        Window::Unstarted => none_lost(),
-        Window::Started(trail, lead, set) => {
-            let to = higher(trail.0, t.0);
-            let passed = less(lower(to as u64, lead.0 as u64 + 1), trail.0 as u64);
-            let lost = unreceived(passed, set);
-            let above = lost_above(lead, to);
-            Lost {
-                trail,
-                set: lost,
-                above,
-            }
-        }
-    }
-}
-
 // ---- messages
 
 // A cue is handed out: it stands in the first output bytes.
@@ -386,7 +146,7 @@ fn hand_out(name: Name, cue: &[u8; 24], out: &mut [u8]) -> Answer
 fn passed_over(d: Display) -> Shown
     ensures { λ r. ⌜ r ≡ shownOf (passedOver d) ⌝ }
 {
-    let lost = none_lost();
+    let lost = display_window::none_lost();
     Shown {
         answer: Answer::Ignored,
         lost,
@@ -402,7 +162,7 @@ fn started(d: Display, name: Name, cue: [u8; 24], out: &mut [u8]) -> Shown
 {
     let n = name.number;
     let answer = hand_out(name, &cue, out);
-    let lost = none_lost();
+    let lost = display_window::none_lost();
     let display = with_window(d, Window::Started(n, n, 1));
     Shown {
         answer,
@@ -420,9 +180,9 @@ fn got(d: Display, name: Name, cue: [u8; 24], out: &mut [u8]) -> Shown
     let n = name.number;
     let window = d.window;
     let answer = hand_out(name, &cue, out);
-    let low = trail_for(n);
-    let lost = lost_by(low, window);
-    let next = taken(n, window);
+    let low = display_window::trail_for(n);
+    let lost = display_window::lost_by(low, window);
+    let next = display_window::taken(n, window);
     let display = with_window(d, next);
     Shown {
         answer,
@@ -437,8 +197,8 @@ fn announced(d: Display, trail: CueNumber, lead: CueNumber) -> Shown
     ensures { λ r. ⌜ r ≡ shownOf (hearing Done (lostBy (trail .0) (d .window)) (withWindow d (raised (trail .0) (lead .0) (d .window)))) ⌝ }
 {
     let window = d.window;
-    let lost = lost_by(trail, window);
-    let next = raised(trail, lead, window);
+    let lost = display_window::lost_by(trail, window);
+    let next = display_window::raised(trail, lead, window);
     let display = with_window(d, next);
     Shown {
         answer: Answer::Done,
@@ -463,7 +223,7 @@ fn heard_later(
 {
     let window = d.window;
     let n = name.number;
-    let new = is_new(window, n);
+    let new = display_window::is_new(window, n);
     if cues {
         if new {
             got(d, name, cue, out)
@@ -498,7 +258,7 @@ fn heard(
     let original = (kind == DATA) & by_sender;
     let repair = (kind == REPL) & message::same_host(source, sender);
     let tells = (kind == ANNC) & by_sender;
-    if is_started(window) {
+    if display_window::is_started(window) {
         heard_later(d, original | repair, tells, name, lead, cue, out)
     } else if original {
         started(d, name, cue, out)
@@ -561,7 +321,7 @@ fn requested(d: Display, number: CueNumber, out: &mut [u8]) -> Shown
 {
     let m = request_for(d, number);
     let len = layout::put_message(out, m);
-    let lost = none_lost();
+    let lost = display_window::none_lost();
     Shown {
         answer: Answer::Out(len),
         lost,
@@ -572,27 +332,11 @@ fn requested(d: Display, number: CueNumber, out: &mut [u8]) -> Shown
 fn nothing_missing(d: Display) -> Shown
     ensures { λ r. ⌜ r ≡ shownOf (requestIf none d) ⌝ }
 {
-    let lost = none_lost();
+    let lost = display_window::none_lost();
     Shown {
         answer: Answer::Nothing,
         lost,
         display: d,
-    }
-}
-
-// The lowest missing number.
-fn lowest_missing(w: Window) -> Missing
-    ensures { λ r. ⌜ r ≡ missingOf (lowestMissing w) ⌝ }
-{
-    match w {
-        Window::Unstarted => Missing::NoneMissing,
-        Window::Started(trail, lead, set) => {
-            let place = lowest_clear(set, width(trail, lead));
-            match place {
-                Clear::At(i) => Missing::Number(CueNumber((trail.0 as u64 + i) as u16)),
-                Clear::NoneClear => Missing::NoneMissing,
-            }
-        }
     }
 }
 
@@ -602,7 +346,7 @@ fn stepped(d: Display, out: &mut [u8]) -> Shown
     ensures { λ _. ⌜ now (out .exit) ≡ bufferOf (Did (stepOf d .effect)) (now (out .entry)) ⌝ }
 {
     let window = d.window;
-    let lowest = lowest_missing(window);
+    let lowest = display_window::lowest_missing(window);
     match lowest {
         Missing::Number(n) => requested(d, n, out),
         Missing::NoneMissing => nothing_missing(d),
@@ -624,7 +368,7 @@ fn refusal(d: Display, clock: u64, room: usize, own: u8) -> u8
 fn refused(number: u8, d: Display) -> Shown
     ensures { λ r. ⌜ r ≡ record { answer = answerOf (Refused number); lost = noneLost; display = d } ⌝ }
 {
-    let lost = none_lost();
+    let lost = display_window::none_lost();
     Shown {
         answer: Answer::Refused(number),
         lost,

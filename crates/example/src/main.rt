@@ -1,9 +1,9 @@
 // How a host program calls the end: two controllers become members, a cue goes from one to the other, a third one joins late and fetches it,
 // a foyer display follows the sender, and each other event comes once.
 // A call takes an end by value and gives back the end for the next call. Only that one may be used again.
-use display::Above;
 use display::Display;
-use display::Lost;
+use display_window::Above;
+use display_window::Lost;
 use end::Answer;
 use end::Draw;
 use end::End;

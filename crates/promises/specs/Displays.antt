@@ -10,9 +10,9 @@ use Rattle.message.specs.Message.{bytesOf, datagramFrom}
 use Rattle.end.specs.Answer.{Out, Nothing, Refused, Did}
 use Rattle.end.specs.Book.{RunFrom, emptyBook}
 use Rattle.end.specs.Run as run
+use Rattle.display_window.specs.Window.{noneLost}
 use Rattle.display.specs.declared.Display.{Display}
 use Rattle.display.specs.Display.{soundOf, openingOf, withClock}
-use Rattle.display.specs.Hear.{noneLost}
 use Rattle.display.specs.Request.{requestFor}
 use Rattle.display.specs.Call.{Hear, Step, questionOf, eventOf}
 use Rattle.display.specs.History.{Call, after, afterAll, told, one, handedOut, inSet, inSpan, reportedLost, isMissing, noneMissing, stepped, startOf, isCovered, noLower, isReceivedIn, passes, Stands, isBetween}

@@ -6,7 +6,7 @@ use crate::shown;
 use crate::words as more;
 use display::Display;
 use display::Shown;
-use display::Window;
+use display_window::Window;
 use end::Answer;
 use message::Host;
 use message::Verdict;

@@ -1,10 +1,10 @@
 // What is shown of a display: its losses, its state and its output.
 use crate::FILLING;
 use crate::words as more;
-use display::Above;
 use display::Display;
-use display::Lost;
-use display::Window;
+use display_window::Above;
+use display_window::Lost;
+use display_window::Window;
 use message::CueNumber;
 use picture::text;
 use trace::words;

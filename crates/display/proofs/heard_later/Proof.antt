@@ -2,8 +2,8 @@
 use mathlib.Core.Path.{_≡_, sym, _∙_, refl}
 use mathlib.Core.Bool.{true, false}
 use Rattle.end.specs.Answer.{bufferOf}
-use Rattle.display.specs.Hear.{isNew}
 use borrow.Author.Needs.{needs}
+use Rattle.display_window.specs.Window.{isNew}
 use Rattle.display.proofs.heard_later.Statement.{statement}
 use Rattle.display.proofs.heard_later.Tie as tie
 

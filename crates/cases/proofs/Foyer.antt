@@ -7,9 +7,9 @@ use Rattle.message.specs.Entry.{asHost}
 use Rattle.end.specs.Book.{RunFrom, emptyBook}
 use Rattle.end.specs.Run as run
 use Rattle.display.specs.Display.{openingOf}
-use Rattle.display.specs.Foyer.{Allowed, Fresh, atEnds}
+use Rattle.display_history.specs.Foyer.{Allowed, Fresh, atEnds}
 use Rattle.display.proofs.Rows.{computed}
-use Rattle.display.proofs.Foyer.{foyer-service}
+use Rattle.display_history.proofs.Foyer.{foyer-service}
 use Rattle.cases.specs.Listing.{house}
 use Rattle.cases.specs.Foyer.{foyer, turns, turnsGive, answers}
 use Rattle.cases.proofs.Opened.{opened}

@@ -10,7 +10,7 @@ use Rattle.end.specs.declared.Move.the-variants.{Join, Joined}
 use Rattle.end.specs.Run.{resultOf}
 use Rattle.display.specs.Display.{fresh}
 use Rattle.display.specs.Call.{Event, Hear, Step}
-use Rattle.display.specs.Foyer.{Turn, AtEnd, AtDisplay, Foyer, displayResult, afterEnd, afterDisplay}
+use Rattle.display_history.specs.Foyer.{Turn, AtEnd, AtDisplay, Foyer, displayResult, afterEnd, afterDisplay}
 use Rattle.cases.specs.Listing.{house, call, minusTwo, about, got, message0, message1, message2}
 
 -- the ends of the listing, and displays of host 2 that follow host 0

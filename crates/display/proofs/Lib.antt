@@ -1,10 +1,2 @@
 pub mod CallLaws
-pub mod NumberLaws
-pub mod Moves
-pub mod StepLaws
-pub mod History
-pub mod StaysSound
-pub mod Asks
-pub mod Answers
-pub mod Foyer
 pub mod Rows

@@ -3,7 +3,4 @@ pub mod Hear
 pub mod Request
 pub mod Call
 pub mod Frame
-pub mod History
-pub mod Answers
-pub mod Foyer
 pub mod Rows

@@ -1,7 +1,7 @@
 // Foyer displays: document 02, P11. A display sends no cues and follows one sender, by the simplified PGM of source document 003. Its window,
 // which says what is received, missing and lost, is of the crate display_window. The definitions are in specs/: Display (the state), Hear
-// (messages), Request (what a step puts out), Call (questions, and what a call gives), History (every number once), Answers (what is answered,
-// by the history), Foyer (lists with ends and displays), Frame (what the functions below the calls are given), Rows (cases).
+// (messages), Request (what a step puts out), Call (questions, and what a call gives), Frame (what the functions below the calls are given),
+// Rows (cases). What holds over the list of a display's calls is stated and proved in the crate display_history.
 use display_window::Lost;
 use display_window::Missing;
 use display_window::Window;

@@ -26,11 +26,11 @@ use Rattle.guarantees.proofs.FetchHistory.{attempts-over-history, late-at-most-
 use Rattle.guarantees.proofs.FetchReports.{reported-over-history}
 use Rattle.guarantees.proofs.Announce.{announces-own, out-is-announcement, only-announce-announces, neither-falls, announced-is-done}
 use Rattle.guarantees.proofs.FetchBook.{announce-outside-book, announced-outside-book, announced-brings-nothing}
-use Rattle.display.proofs.History.{each-number-once, stays-so, never-lower, none-forgotten, lost-as-passed, losses-stand, missing-is, received-never-reported}
-use Rattle.display.proofs.StaysSound.{opens-sound as display-opens-sound, stays-sound as display-stays-sound, never-unsound}
-use Rattle.display.proofs.Asks.{step-asks-lowest}
-use Rattle.display.proofs.Answers.{answers-heard, edges-heard, sets-clock, refused-stays, out-is-request}
-use Rattle.display.proofs.Foyer.{ends-allowed, foyer-service}
+use Rattle.display_history.proofs.History.{each-number-once, stays-so, never-lower, none-forgotten, lost-as-passed, losses-stand, missing-is, received-never-reported}
+use Rattle.display_history.proofs.StaysSound.{opens-sound as display-opens-sound, stays-sound as display-stays-sound, never-unsound}
+use Rattle.display_history.proofs.Asks.{step-asks-lowest}
+use Rattle.display_history.proofs.Answers.{answers-heard, edges-heard, sets-clock, refused-stays, out-is-request}
+use Rattle.display_history.proofs.Foyer.{ends-allowed, foyer-service}
 use Rattle.record.proofs.LinesBack.{lines-back}
 use Rattle.judgement.proofs.Pieces.{judged-in-pieces, too-many-stays}
 use Rattle.fairness.proofs.Judged.{judged-right, judged-only-so}

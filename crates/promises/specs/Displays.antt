@@ -1,4 +1,5 @@
--- Foyer displays, document 02, P11: the statements of the crate `display`, History, Answers and Foyer. The calls themselves are proved there by equation.
+-- Foyer displays, document 02, P11: the statements of the crate `display_history`, History, Answers and Foyer. The calls themselves are proved in `display`
+-- by equation.
 use mathlib.Core.Path.{_≡_}
 use mathlib.Core.Bool.{true, not, _&&_}
 use mathlib.Core.List.{List, _++_}
@@ -15,9 +16,9 @@ use Rattle.display.specs.declared.Display.{Display}
 use Rattle.display.specs.Display.{soundOf, openingOf, withClock}
 use Rattle.display.specs.Request.{requestFor}
 use Rattle.display.specs.Call.{Hear, Step, questionOf, eventOf}
-use Rattle.display.specs.History.{Call, after, afterAll, told, one, handedOut, inSet, inSpan, reportedLost, isMissing, noneMissing, stepped, startOf, isCovered, noLower, isReceivedIn, passes, Stands, isBetween}
-use Rattle.display.specs.Answers.{answeredTo, edgesOf, edgesTo, Asking}
-use Rattle.display.specs.Foyer.{Turn, Foyer, Allowed, Fresh, atEnds}
+use Rattle.display_history.specs.History.{Call, after, afterAll, told, one, handedOut, inSet, inSpan, reportedLost, isMissing, noneMissing, stepped, startOf, isCovered, noLower, isReceivedIn, passes, Stands, isBetween}
+use Rattle.display_history.specs.Answers.{answeredTo, edgesOf, edgesTo, Asking}
+use Rattle.display_history.specs.Foyer.{Turn, Foyer, Allowed, Fresh, atEnds}
 
 pub record DisplaysKept : Type 0 where
   -- "After any messages each number from the start to lead was handed out once, is missing, or was reported lost once"; and any other number none

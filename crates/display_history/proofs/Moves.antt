@@ -24,13 +24,13 @@ use Rattle.display_window.specs.declared.Window.{Window}
 use Rattle.display_window.specs.declared.Window.the-variants.{Unstarted, Started}
 use Rattle.display_window.specs.declared.Lost.{Lost}
 use Rattle.display_window.specs.Window.{raised, isNew, startAt, taken, noneLost, lostBy, lowestMissing}
 use Rattle.display.specs.declared.Display.{Display}
 use Rattle.display.specs.Display.{withClock}
 use Rattle.display.specs.Hear.{isOriginal, isRepair, isAnnounced, trailIn, leadIn, Hearing, heardIn, hearOf}
 use Rattle.display.specs.Request.{requestIf, stepOf}
 use Rattle.display.specs.Call.{Event, Hear, Step, questionOf, actOf, Result, eventOf}
-use Rattle.display.specs.History.{handedIn}
+use Rattle.display_history.specs.History.{handedIn}
 use Rattle.display.proofs.CallLaws.{hear-asks, passed}
 
 -- from the window w to v, with the number h handed out and the numbers of l lost
 pub data Went (w : Window) (h : Option ℕ) (l : Lost) (v : Window) : Type 0 where

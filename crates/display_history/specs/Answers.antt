@@ -17,12 +17,12 @@ use Rattle.end.specs.Answer.{Effect, Out, Got, Done, Ignored, Refused, Did}
 use Rattle.display_window.specs.declared.Window.{Window}
 use Rattle.display_window.specs.declared.Window.the-variants.{Unstarted, Started}
 use Rattle.display_window.specs.Window.{noneLost}
 use Rattle.display.specs.declared.Display.{Display}
 use Rattle.display.specs.Display.{openingOf, withClock}
 use Rattle.display.specs.Hear.{leadIn}
 use Rattle.display.specs.Request.{requestFor}
 use Rattle.display.specs.Call.{Hear, Step, questionOf, eventOf}
-use Rattle.display.specs.History.{Call, after, afterAll, told, handedOut, isMissing, noneMissing}
+use Rattle.display_history.specs.History.{Call, after, afterAll, told, handedOut, isMissing, noneMissing}
 
 -- ---- what is heard
 

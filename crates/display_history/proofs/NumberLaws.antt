@@ -11,7 +11,7 @@ use Rattle.numbers.proofs.BitLaws.{bit-above, bit-with, bit-other}
 use Rattle.display_window.specs.Window.{unreceived, lostAbove}
 use Rattle.display_window.proofs.SetLaws.{bit-up, turned-bit, turned-past}
 use Rattle.display_window.proofs.WindowLaws.{SoundWindow}
-use Rattle.display.specs.History.{one, inSpan}
+use Rattle.display_history.specs.History.{one, inSpan}
 
 -- ---- the span above the old lead
 span-in : (l top n : ℕ) → l < n → n < top → inSpan (lostAbove l top) n ≡ true

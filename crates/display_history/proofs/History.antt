@@ -22,14 +22,14 @@ use Rattle.display_window.specs.declared.Lost.{Lost}
 use Rattle.display_window.specs.Window.{isNew, unreceived, noneLost, lostBy}
 use Rattle.display_window.proofs.WindowLaws.{SoundWindow}
 use Rattle.display_window.proofs.SetLaws.{turned-past}
 use Rattle.display.specs.declared.Display.{Display}
 use Rattle.display.specs.Display.{openingOf, displayFor, openQuestions}
 use Rattle.message.specs.Question.{firstNo}
 use Rattle.display.specs.Call.{eventOf}
-use Rattle.display.specs.History.{Call, Told, after, afterAll, told, one, handedIn, handedOut, reportedLost, isMissing, startOf, isCovered, isBetween, isReceivedIn, passes, noLower, EachNumberOnce, StaysSo, NeverLower, NoneForgotten, LostAsPassed, Stands, LossesStand, MissingIs, ReceivedNeverReported}
-use Rattle.display.proofs.NumberLaws.{span-low}
-use Rattle.display.proofs.Moves.{Went, Stays, Starts, Takes, Announces, went}
-use Rattle.display.proofs.StepLaws.{lostIn, none-lost, Raised, started-went, Began, Waits, Begins, unstarted-went, start-sound}
+use Rattle.display_history.specs.History.{Call, Told, after, afterAll, told, one, handedIn, handedOut, reportedLost, isMissing, startOf, isCovered, isBetween, isReceivedIn, passes, noLower, EachNumberOnce, StaysSo, NeverLower, NoneForgotten, LostAsPassed, Stands, LossesStand, MissingIs, ReceivedNeverReported}
+use Rattle.display_history.proofs.NumberLaws.{span-low}
+use Rattle.display_history.proofs.Moves.{Went, Stays, Starts, Takes, Announces, went}
+use Rattle.display_history.proofs.StepLaws.{lostIn, none-lost, Raised, started-went, Began, Waits, Begins, unstarted-went, start-sound}
 
 -- the number that a call hands out, and what it loses
 abbrev handed : Display → Call → Option ℕ

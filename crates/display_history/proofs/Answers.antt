@@ -33,17 +33,17 @@ use Rattle.display_window.specs.declared.Window.the-variants.{Unstarted, Starte
 use Rattle.display_window.specs.declared.Lost.{Lost}
 use Rattle.display_window.specs.Window.{windowSound, raised, received, isNew, startAt, taken, noneLost, lostBy, lowestMissing}
 use Rattle.display_window.proofs.WindowLaws.{SoundWindow, sound-window}
 use Rattle.display.specs.declared.Display.{Display}
 use Rattle.display.specs.Display.{hostsApart, openingOf, withClock, withWindow}
 use Rattle.display.specs.Hear.{isOriginal, isRepair, isAnnounced, leadIn, Hearing, hearing, passedOver, cueOf, announcedOf, heardIn, hearOf}
 use Rattle.display.specs.Request.{requestFor, requestIf, stepOf}
 use Rattle.display.specs.Call.{Event, Hear, Step, questionOf, actOf, eventOf}
-use Rattle.display.specs.History.{Call, after, afterAll, told, handedOut, isMissing, noneMissing}
-use Rattle.display.specs.Answers.{isOf, bringsCue, gotIf, answered, answeredTo, AnswersHeard, edgesOf, edgesBy, edgesTo, EdgesHeard, SetsClock, RefusedStays, OutIsRequest}
+use Rattle.display_history.specs.History.{Call, after, afterAll, told, handedOut, isMissing, noneMissing}
+use Rattle.display_history.specs.Answers.{isOf, bringsCue, gotIf, answered, answeredTo, AnswersHeard, edgesOf, edgesBy, edgesTo, EdgesHeard, SetsClock, RefusedStays, OutIsRequest}
 use Rattle.display.proofs.CallLaws.{apart, sound-in, hear-asks, step-asks, Passed, passed}
-use Rattle.display.proofs.Moves.{Went, Stays, Starts, Takes, Announces, went}
-use Rattle.display.proofs.History.{isFrom, opened, new-by-history}
-use Rattle.display.proofs.Asks.{step-asks-lowest}
+use Rattle.display_history.proofs.Moves.{Went, Stays, Starts, Takes, Announces, went}
+use Rattle.display_history.proofs.History.{isFrom, opened, new-by-history}
+use Rattle.display_history.proofs.Asks.{step-asks-lowest}
 
 -- ---- what is heard
 

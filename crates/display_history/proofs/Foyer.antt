@@ -9,14 +9,14 @@ use Rattle.end.specs.Run as run
 use Rattle.end.proofs.Tools.{put-all}
 use Rattle.end.proofs.Service.Frame.{sent-by}
 use Rattle.end.proofs.Service.Ends.{service}
 use Rattle.display.specs.declared.Display.{Display}
 use Rattle.display.specs.Display.{withClock}
 use Rattle.display.specs.Request.{requestFor}
 use Rattle.display.specs.Call.{eventOf}
-use Rattle.display.specs.History.{Call}
-use Rattle.display.specs.Foyer.{Turn, AtEnd, AtDisplay, Foyer, displayResult, afterEnd, afterDisplay, Brought, Allowed, Fresh, atEnds, EndsAllowed, FoyerService}
-use Rattle.display.proofs.History.{opened}
-use Rattle.display.proofs.Answers.{Below, below-next, put-out-is, puts}
+use Rattle.display_history.specs.History.{Call}
+use Rattle.display_history.specs.Foyer.{Turn, AtEnd, AtDisplay, Foyer, displayResult, afterEnd, afterDisplay, Brought, Allowed, Fresh, atEnds, EndsAllowed, FoyerService}
+use Rattle.display_history.proofs.History.{opened}
+use Rattle.display_history.proofs.Answers.{Below, below-next, put-out-is, puts}
 
 -- what a display puts out may arrive
 call-asks : (d : Display) (c : Call) → Below (d .window) → (x : List ℕ) → classIn (eventOf d (c .event) (c .clock) (c .room) .outcome) ≡ PutsOut x

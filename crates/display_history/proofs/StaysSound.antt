@@ -18,16 +18,16 @@ use Rattle.display_window.specs.declared.Window.the-variants.{Unstarted, Starte
 use Rattle.display_window.specs.declared.Lost.{Lost}
 use Rattle.display_window.specs.Window.{windowSound, isNew, lowestMissing}
 use Rattle.display_window.proofs.WindowLaws.{sound-window, window-sound}
 use Rattle.display.specs.declared.Display.{Display}
 use Rattle.display.specs.Display.{hostsApart, soundOf, openingOf, withClock}
 use Rattle.display.specs.Hear.{Hearing, isOriginal, isRepair, isAnnounced, heardIn, hearOf}
 use Rattle.display.specs.Request.{requestIf, stepOf}
 use Rattle.display.specs.Call.{Event, Hear, Step, questionOf, actOf, Result, eventOf}
 use Rattle.display.specs.Frame.{firstOf}
-use Rattle.display.specs.History.{Call, after, afterAll, OpensSound, StaysSound, NeverUnsound}
+use Rattle.display_history.specs.History.{Call, after, afterAll, OpensSound, StaysSound, NeverUnsound}
 use Rattle.display.proofs.CallLaws.{apart, hear-asks, step-asks, passed, sound-in}
-use Rattle.display.proofs.Moves.{Went, went}
-use Rattle.display.proofs.StepLaws.{started-went, Began, Waits, Begins, unstarted-went, start-sound}
+use Rattle.display_history.proofs.Moves.{Went, went}
+use Rattle.display_history.proofs.StepLaws.{started-went, Began, Waits, Begins, unstarted-went, start-sound}
 
 -- ---- a window
 window-stays : (w : Window) (h : Option ℕ) (lost : Lost) (v : Window) → windowSound w ≡ true → Went w h lost v → windowSound v ≡ true

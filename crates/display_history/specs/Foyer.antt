@@ -9,10 +9,10 @@ use Rattle.end.specs.Answer.{Outcome, Refused, Did}
 use Rattle.end.specs.Event.{Action, Moves, Send, Arrival, Else}
 use Rattle.end.specs.Book.{put, RunFrom, emptyBook}
 use Rattle.end.specs.Run as run
 use Rattle.display.specs.declared.Display.{Display}
 use Rattle.display.specs.Display.{openingOf}
 use Rattle.display.specs.Call.{Result, eventOf}
-use Rattle.display.specs.History.{Call}
+use Rattle.display_history.specs.History.{Call}
 
 -- a call on an end, or on the display at a place
 pub data Turn : Type 0 where

@@ -14,10 +14,10 @@ use Rattle.display_window.specs.declared.Window.{Window}
 use Rattle.display_window.specs.declared.Window.the-variants.{Unstarted, Started}
 use Rattle.display_window.specs.Window.{lowestClear, lowestMissing}
 use Rattle.display_window.proofs.SetLaws.{clear-none, clear-next, clear-keeps, clear-below}
 use Rattle.display.specs.Display.{withClock}
 use Rattle.display.specs.Request.{requestFor, requestIf, stepOf}
 use Rattle.display.specs.Call.{done, eventOf}
-use Rattle.display.specs.History.{isMissing, noneMissing, stepped, StepAsksLowest}
+use Rattle.display_history.specs.History.{isMissing, noneMissing, stepped, StepAsksLowest}
 
 -- two answers of one search
 none-some : {i : ℕ} {A : Type 0} {o : Option ℕ} → o ≡ none → o ≡ some i → A

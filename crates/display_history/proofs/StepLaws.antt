@@ -20,9 +20,9 @@ use Rattle.display_window.specs.declared.Window.the-variants.{Unstarted, Starte
 use Rattle.display_window.specs.declared.Lost.{Lost}
 use Rattle.display_window.specs.Window.{raised, received, isNew, startAt, taken, noneLost, lostBy}
 use Rattle.display_window.proofs.WindowLaws.{SoundWindow}
-use Rattle.display.specs.History.{one, isThe, inSet, inSpan}
-use Rattle.display.proofs.NumberLaws.{lost-at, moved-bit, missing-at, other-bit, same-bit, new-bit, received-at}
-use Rattle.display.proofs.Moves.{Went, Stays, Starts, Takes, Announces}
+use Rattle.display_history.specs.History.{one, isThe, inSet, inSpan}
+use Rattle.display_history.proofs.NumberLaws.{lost-at, moved-bit, missing-at, other-bit, same-bit, new-bit, received-at}
+use Rattle.display_history.proofs.Moves.{Went, Stays, Starts, Takes, Announces}
 
 -- how many of a number's reports a call makes
 abbrev pub lostIn : Lost → ℕ → ℕ

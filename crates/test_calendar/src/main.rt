@@ -7,7 +7,7 @@ use libc::STDOUT_FILENO;
 fn show(d: Date, next: Date) {
     if (next.day == 1) | (next.day == d.day) {
         let mut out = [0u8; 22];
-        let n = timetable::put_days(&mut out, d, next);
+        let n = entries::put_days(&mut out, d, next);
         io::write_all(STDOUT_FILENO, &out[..n]);
     }
 }

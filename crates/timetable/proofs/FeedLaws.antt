@@ -13,9 +13,9 @@ use lib.Dec.{ltb, leb}
 use borrow.Author.Tests.{ltb-true, ltb-false, leb-true, leb-false, not-true, not-false}
 use Rattle.numbers.specs.Splice.{splice}
 use Rattle.numbers.proofs.SpliceLaws.{splice-nil, length-splice, put-next}
+use Rattle.entries.specs.Print.{widest}
 use Rattle.timetable.specs.declared.Playing.{Playing}
 use Rattle.timetable.specs.declared.Step.{Step}
-use Rattle.timetable.specs.Table.{widest}
 use Rattle.timetable.specs.Run.{Standing, afterByte, bytePrints, after, prints, standing}
 use Rattle.timetable.specs.Promise.{TakesByte, Feeds}
 use Rattle.timetable.proofs.Pieces.{after-both, prints-both}

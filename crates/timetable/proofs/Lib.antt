@@ -1,4 +1,3 @@
-pub mod LineLaws
 pub mod PlayLaws
 pub mod LongLines
 pub mod Pieces

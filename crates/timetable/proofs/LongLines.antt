@@ -16,10 +16,10 @@ use Rattle.decimal.proofs.ReadBack.{read-printed}
 use Rattle.script.specs.Words.{onto, words, same}
 use Rattle.script.proofs.WordsLaws.{other-length, words-some}
 use Rattle.calendar.specs.declared.Date.{Date}
-use Rattle.timetable.specs.declared.DateWord.{DateWord}
-use Rattle.timetable.specs.declared.DateWord.the-variants.{Is, NoDate}
-use Rattle.timetable.specs.declared.Line.the-variants.{Malformed}
-use Rattle.timetable.specs.Line.{window, next, roll, clear, dateWord, rollOf, nextOf, windowOf, clearIn, rollIn, nextIn, windowIn, lineIn}
+use Rattle.entries.specs.declared.DateWord.{DateWord}
+use Rattle.entries.specs.declared.DateWord.the-variants.{Is, NoDate}
+use Rattle.entries.specs.declared.Line.the-variants.{Malformed}
+use Rattle.entries.specs.Line.{window, next, roll, clear, dateWord, rollOf, nextOf, windowOf, clearIn, rollIn, nextIn, windowIn, lineIn}
 use Rattle.timetable.specs.Run.{LongLines}
 
 -- ---- how long the words are together, each with the space or the end after it

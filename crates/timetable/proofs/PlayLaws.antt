@@ -1,12 +1,11 @@
 -- The list of windows in its places, and what a line leaves.
-use mathlib.Core.Path.{_≡_, refl, sym, ap, _∙_, subst}
-use mathlib.Core.Bool.{Bool, true, false, cond}
+use mathlib.Core.Path.{_≡_, refl, sym, _∙_, subst}
+use mathlib.Core.Bool.{false}
 use mathlib.Core.List.{List, [], _∷_, _++_}
 use Prim.Native.Nat.{ℕ, zero, suc, _+_, _≤_, _<_, min}
 use native.Mathlib.Nat.{add-zero, min-eq-left}
 use native.Mathlib.Numerals.{add-one}
 use native.Mathlib.Omega.{arith}
-use lib.Dec.{ltb, eqb}
 use lib.ListN.{length, take, set, length-take}
 use lib.Seq.{take-suc-set, take-all}
 use borrow.Author.Tests.{lt-ltb, le-ltb, eq-eqb, ne-eqb}
@@ -14,15 +13,14 @@ use Rattle.numbers.proofs.SpliceLaws.{splice-nil}
 use Rattle.numbers.proofs.Cases.{by-order}
 use Rattle.answers.specs.Put.{Put}
 use Rattle.answers.proofs.PutLaws.{put-same}
-use Rattle.calendar.specs.declared.Date.{Date}
-use Rattle.calendar.specs.Calendar.{existsOf, rollDate}
 use Rattle.openings.specs.declared.Window.{Window}
-use Rattle.timetable.specs.declared.Line.{Line}
-use Rattle.timetable.specs.declared.Line.the-variants.{Malformed}
+use Rattle.entries.specs.declared.Line.{Line}
+use Rattle.entries.specs.declared.Line.the-variants.{Malformed}
+use Rattle.entries.specs.Line.{lineOf}
+use Rattle.entries.specs.Print.{badLine, widest}
 use Rattle.timetable.specs.declared.Step.{Step}
-use Rattle.timetable.specs.Line.{lineOf}
-use Rattle.timetable.specs.Table.{addedTo, dateText, lineFeed, badLine, refusedLine, rollLine, widest}
-use Rattle.timetable.specs.Run.{Standing, ended, within, longest, afterByte, bytePrints, atEnd, standing}
+use Rattle.timetable.specs.Table.{addedTo}
+use Rattle.timetable.specs.Run.{Standing, within, longest, afterByte, bytePrints, atEnd, standing}
 use Rattle.timetable.specs.Promise.{Ends, TakesByte}
 
 -- ---- the list
@@ -75,16 +73,3 @@ module _ (s : Standing) (b at : ℕ) (before output : List ℕ) (plays : s .stop
   unfolding afterByte bytePrints
   long-byte r e h x =
       record { stands = x .stands ∙ sym (simp (plays, ne-eqb _ _ e, le-ltb _ _ h)); put = put-same (x .put) (sym (simp (plays, ne-eqb _ _ e, le-ltb _ _ h))) }
-
--- ---- a roll
-pub date-size : (d : Date) → length (dateText d) ≡ 10
-unfolding dateText
-date-size d = refl
-
-pub rolled-line : (d r : Date) → existsOf d ≡ true → r ≡ rollDate d → dateText r ++ lineFeed ≡ rollLine d
-unfolding rollLine
-rolled-line d r e f = ap (λ (z : Date). dateText z ++ lineFeed) f ∙ sym (simp e)
-
-pub refused-roll : (d : Date) → existsOf d ≡ false → refusedLine 15 ≡ rollLine d
-unfolding rollLine
-refused-roll d e = sym (simp e)

@@ -14,8 +14,8 @@ use Rattle.openings.specs.declared.Moment.{Moment}
 use Rattle.openings.specs.declared.Opening.the-variants.{At, None}
 use Rattle.openings.specs.Windows.{minuteExists, minuteNumber, isOpen}
 use Rattle.openings.specs.Find.{inOrder, findOf, openingNumber, openingValues}
-use Rattle.timetable.specs.declared.Line.the-variants.{Malformed}
-use Rattle.timetable.specs.Line.{lineOf}
+use Rattle.entries.specs.declared.Line.the-variants.{Malformed}
+use Rattle.entries.specs.Line.{lineOf}
 use Rattle.timetable.specs.Run.{start, windowsOf, allPrint, joined}
 
 pub record DatesKept : Type 0 where

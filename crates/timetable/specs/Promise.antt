@@ -8,11 +8,12 @@ use lib.ListN.{length, take}
 use Rattle.numbers.specs.Splice.{splice}
 use Rattle.answers.specs.Put.{Put}
 use Rattle.openings.specs.declared.Window.{Window}
-use Rattle.timetable.specs.declared.Line.{Line}
+use Rattle.entries.specs.declared.Line.{Line}
+use Rattle.entries.specs.Print.{widest}
 use Rattle.timetable.specs.declared.Turned.{Turned}
 use Rattle.timetable.specs.declared.Step.{Step}
 use Rattle.timetable.specs.declared.Progress.{Progress}
-use Rattle.timetable.specs.Table.{widest, lineList, linePrints, lineStops, listIn}
+use Rattle.timetable.specs.Table.{lineList, linePrints, lineStops, listIn}
 use Rattle.timetable.specs.Run.{Standing, ended, afterByte, bytePrints, after, prints, standing}
 
 -- a line was played, and what it prints stands in the output from `at` on

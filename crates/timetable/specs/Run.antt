@@ -1,18 +1,19 @@
 -- A run of the program "windows": where it stands between two bytes, and what each prints. That pieces of the input print together what
 -- the whole prints, however it is cut, is the statement `PrintsInPieces`, proved in proofs/Pieces.antt.
 use mathlib.Core.Path.{_≡_}
-use mathlib.Core.Bool.{Bool, true, false, cond}
+use mathlib.Core.Bool.{Bool, false, cond}
 use mathlib.Core.List.{List, [], _∷_, _++_}
 use Prim.Native.Nat.{ℕ, _<_}
 use lib.Dec.{eqb, ltb}
 use lib.ListN.{length, take}
 use Rattle.openings.specs.declared.Window.{Window}
-use Rattle.timetable.specs.declared.Line.{Line}
-use Rattle.timetable.specs.declared.Line.the-variants.{Malformed}
+use Rattle.entries.specs.declared.Line.{Line}
+use Rattle.entries.specs.declared.Line.the-variants.{Malformed}
+use Rattle.entries.specs.Line.{lineOf}
+use Rattle.entries.specs.Print.{badLine}
 use Rattle.timetable.specs.declared.Playing.{Playing}
 use Rattle.timetable.specs.declared.Table.{Table}
-use Rattle.timetable.specs.Line.{lineOf}
-use Rattle.timetable.specs.Table.{lineList, linePrints, lineStops, badLine, listIn}
+use Rattle.timetable.specs.Table.{lineList, linePrints, lineStops, listIn}
 
 -- the list of windows, the bytes of the line so far, and whether "bad" was printed, after which nothing is played
 pub record Standing : Type 0 where

@@ -1,18 +1,14 @@
--- The list of windows after a line, and what a line prints. Characters are ASCII codes: 32 is the space, 10 the line feed.
+-- The list of windows after a line, and what a line prints.
 use mathlib.Core.Bool.{Bool, true, false, cond}
 use mathlib.Core.List.{List, [], _∷_, _++_}
-use Prim.Native.Nat.{ℕ, _+_, _/_, _%_}
+use Prim.Native.Nat.{ℕ}
 use lib.Dec.{ltb}
 use lib.ListN.{length, take}
-use Rattle.calendar.specs.declared.Date.{Date}
-use Rattle.calendar.specs.Calendar.{existsOf, rollDate}
-use Rattle.decimal.specs.Decimal.{decimal}
 use Rattle.openings.specs.declared.Window.{Window}
-use Rattle.openings.specs.declared.Opening.{Opening}
-use Rattle.openings.specs.declared.Opening.the-variants.{At, None, Refused}
 use Rattle.openings.specs.Find.{findOf}
-use Rattle.timetable.specs.declared.Line.{Line}
-use Rattle.timetable.specs.declared.Line.the-variants.{Add, Next, Roll, Clear, Malformed}
+use Rattle.entries.specs.declared.Line.{Line}
+use Rattle.entries.specs.declared.Line.the-variants.{Add, Next, Roll, Clear, Malformed}
+use Rattle.entries.specs.Print.{openingLine, rollLine, badLine}
 use Rattle.timetable.specs.declared.Table.{Table}
 
 -- the list can hold 33 windows, one more than a search takes: from the 33rd on it is too long, and further ones leave it so
@@ -26,43 +22,6 @@ lineList (Next m) ws = ws
 lineList (Roll d) ws = ws
 lineList Clear ws = []
 lineList Malformed ws = ws
-
--- a date is printed as YYYY-MM-DD
-abbrev pub pairText : ℕ → List ℕ
-pairText n = (48 + n / 10) ∷ (48 + n % 10) ∷ []
-
-unfoldable pub dateText : Date → List ℕ
-dateText d = pairText (d .year / 100) ++ (pairText (d .year % 100) ++ (45 ∷ pairText (d .month) ++ (45 ∷ pairText (d .day))))
-
-abbrev pub lineFeed : List ℕ
-lineFeed = 10 ∷ []
-
--- "none", "refused " and "bad"
-abbrev pub noneLine : List ℕ
-noneLine = 110 ∷ 111 ∷ 110 ∷ 101 ∷ 10 ∷ []
-
-abbrev pub refusedWord : List ℕ
-refusedWord = 114 ∷ 101 ∷ 102 ∷ 117 ∷ 115 ∷ 101 ∷ 100 ∷ 32 ∷ []
-
-abbrev pub badLine : List ℕ
-badLine = 98 ∷ 97 ∷ 100 ∷ 10 ∷ []
-
-unfoldable pub refusedLine : ℕ → List ℕ
-refusedLine n = refusedWord ++ (decimal n ++ lineFeed)
-
--- the answer to `next`
-abbrev pub openingLine : Opening → List ℕ
-openingLine (At m) = dateText (m .date) ++ (32 ∷ decimal (m .minute) ++ lineFeed)
-openingLine None = noneLine
-openingLine (Refused n) = refusedLine n
-
--- the answer to `roll`
-unfoldable pub rollLine : Date → List ℕ
-rollLine d = cond (existsOf d) (dateText (rollDate d) ++ lineFeed) (refusedLine 15)
-
--- a date and the day after it, as the test of the calendar prints them
-abbrev pub daysLine : Date → Date → List ℕ
-daysLine d next = dateText d ++ (32 ∷ dateText next ++ lineFeed)
 
 -- what a line prints, and whether it ends the run
 abbrev pub linePrints : Line → List Window → List ℕ
@@ -78,10 +37,6 @@ lineStops (Next m) = false
 lineStops (Roll d) = false
 lineStops Clear = false
 lineStops Malformed = true
-
--- no line that is printed has more bytes
-abbrev pub widest : ℕ
-widest = 32
 
 -- ---- as the code keeps it
 abbrev pub listIn : Table → List Window

@@ -11,7 +11,7 @@ use lib.Dec.{ltb}
 use borrow.Author.Tests.{ltb-true, ltb-false, not-true, not-false}
 use Rattle.numbers.proofs.Cases.{by-order}
 use Rattle.numbers.proofs.SpliceLaws.{length-splice}
-use Rattle.timetable.specs.Table.{widest}
+use Rattle.entries.specs.Print.{widest}
 use Rattle.timetable.specs.declared.Playing.{Playing}
 use Rattle.timetable.specs.declared.Progress.{Progress}
 use Rattle.timetable.specs.Run.{Standing, after, prints, standing}

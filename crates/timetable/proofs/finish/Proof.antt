@@ -3,7 +3,7 @@ use mathlib.Core.Path.{_≡_, refl, sym, ap, _∙_}
 use native.Mathlib.Omega.{arith}
 use lib.ListN.{length}
 use Rattle.numbers.proofs.SpliceLaws.{splice-nil, length-splice}
-use Rattle.timetable.specs.Table.{badLine}
+use Rattle.entries.specs.Print.{badLine}
 use Rattle.timetable.proofs.PlayLaws.{some-line}
 use borrow.Author.Needs.{needs}
 use Rattle.timetable.proofs.finish.Statement.{statement}

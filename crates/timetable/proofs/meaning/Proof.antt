@@ -4,7 +4,7 @@ use mathlib.Core.Path.{sym, ap, _∙_}
 use Prim.Native.Nat.{ℕ}
 use lib.ListN.{take, length-take}
 use lib.Seq.{length-take-le}
-use Rattle.timetable.specs.Line.{lineOf}
+use Rattle.entries.specs.Line.{lineOf}
 use Rattle.timetable.proofs.PlayLaws.{first-bytes}
 use borrow.Author.Needs.{needs}
 use Rattle.timetable.proofs.meaning.Statement.{statement}

@@ -1,8 +1,8 @@
 -- `timetable::play_next` meets its contract: what is printed is the answer of the search.
 use mathlib.Core.Path.{refl, ap}
 use Rattle.answers.proofs.PutLaws.{put-same}
-use Rattle.timetable.specs.Table.{openingLine}
 use borrow.Author.Needs.{needs}
+use Rattle.entries.specs.Print.{openingLine}
 use Rattle.timetable.proofs.play_next.Statement.{statement}
 use Rattle.timetable.proofs.play_next.Tie as tie
 

@@ -53,7 +53,7 @@ seen w (c ∷ cs) =
     ∷ seen (worldAfter w (c .host) (resultOf w c)) cs
 
 -- document 02, P11, of a display: "In the service's runs its RQSTs may arrive." Here any accepted RQST may, whoever asks by it and for
--- whatever, which is more than is asked: a display's are among them (`display`: Foyer.antt)
+-- whatever, which is more than is asked: a display's are among them (`display_history`: Foyer.antt)
 abbrev pub AnyRequest : List ℕ → Type 0
 AnyRequest bytes = (m : Meaning) × (readAs bytes ≡ some m) × (m .kind ≡ RQST)
 

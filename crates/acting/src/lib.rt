@@ -26,7 +26,7 @@ pub fn act(
 {
     match what {
         Event::Moves(m) => membership::moved(end, m),
-        Event::Send => transmit::send(end, draws, cue, out),
+        Event::Send => sending::send(end, draws, cue, out),
         Event::Arrival => receive::arrival(end, draws, message, out),
         Event::Fire => transmit::fire(end, draws, out),
         Event::Report => transmit::report(end, out),

@@ -1,2 +1,3 @@
 pub mod EntryLaws
 pub mod PutLaws
+pub mod GiveLaws

@@ -39,7 +39,7 @@ use Rattle.state.specs.Settled.{Asked, Settled}
 use Rattle.transmit.specs.Given.{Waited}
 use Rattle.transmit.specs.Fired.{nameOf, rankOf, recordOf, askerIn, firedEffect, firedSource}
 use Rattle.compose.proofs.PutLaws.{Answers}
-use Rattle.transmit.proofs.GiveLaws.{Gives, gives}
+use Rattle.compose.proofs.GiveLaws.{Gives, gives}
 
 -- ---- the chosen wait has a name that an end keeps
 abbrev pub Named : Name → Type 0

@@ -1,3 +1,1 @@
-pub mod GiveLaws
-pub mod SendLaws
 pub mod FireLaws

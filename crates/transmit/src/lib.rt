@@ -1,7 +1,7 @@
-// Send, Fire, Report and Announce of a member whose clock is set and whose questions were answered: `sendOf`, `fireOf`, Report's line of
-// `otherOf` and `announceOf` of the crate end, specs/Event.antt and specs/Fire.antt. Send and Fire each take one working copy of the end,
-// change one source of it and store that back. Each has one way out: each further one would cost a copy of the end. They are helpers of
-// the crate link and no calls of the product: what they ask for in their `requires`, the records of specs/Given.antt, the call has seen to.
+// Fire, Report and Announce of a member whose clock is set and whose questions were answered: `fireOf`, Report's line of `otherOf` and
+// `announceOf` of the crate end, specs/Event.antt and specs/Fire.antt. Fire takes one working copy of the end, changes one source of it and
+// stores that back. Each has one way out: each further one would cost a copy of the end. They are helpers of the crates above and no calls
+// of the product: what they ask for in their `requires`, the records of specs/Given.antt, the call has seen to.
 use end::Answer;
 use end::Draw;
 use end::EXPRESS;
@@ -18,7 +18,6 @@ use end::Source;
 use end::Span;
 use end::Stepped;
 use message::CueNumber;
-use message::DATA;
 use message::Host;
 use message::Name;
 use message::REPL;
@@ -32,55 +31,10 @@ ghost use Rattle.message.specs.Limit.{roomNeeded};
 ghost use Rattle.end.specs.Ready.{Ranges, Numbered};
 ghost use Rattle.end.specs.Answer.{Did, done, answerOf, calledOf, bufferOf};
 ghost use Rattle.end.specs.Fire.{keptSender, fireOf};
-ghost use Rattle.end.specs.Event.{Report, extended, sentSource, sendOf, announceOf, otherOf};
-ghost use Rattle.transmit.specs.Given.{Sending, Rising, Firing, Reporting, Waited};
+ghost use Rattle.end.specs.Event.{Report, announceOf, otherOf};
+ghost use Rattle.transmit.specs.Given.{Firing, Reporting, Waited};
 ghost use Rattle.transmit.specs.Announced.{announcedEffect};
 ghost use Rattle.transmit.specs.Fired.{nameOf, rankOf, recordOf, askerIn, askedEffect, firedEffect, askedSource, firedSource};
-
-// ---- Send
-
-// The own source with n for its last number: what goes out of the window is retired, as where another's last rises.
-fn extend(s: Source, t: Moment, draws: &[Draw], n: CueNumber) -> Source
-    requires { ⌜ Rising t s (n .0) (length (now draws)) ⌝ }
-    ensures { λ r. ⌜ r ≡ extended t (now (draws .entry)) (n .0) s (s .span) ⌝ }
-{
-    let span = s.span;
-    match span {
-        Span::Closed => state::with_span(s, Span::Open(n, n)),
-        Span::Open(_, _) => records::rise_to(s, t, draws, n),
-    }
-}
-
-// The own source once cue n is sent.
-fn sent_source(s: Source, t: Moment, draws: &[Draw], n: CueNumber, cue: [u8; 24]) -> Source
-    requires { ⌜ Rising t s (n .0) (length (now draws)) ⌝ }
-    ensures { λ r. ⌜ r ≡ sentSource t (now (draws .entry)) (n .0) cue s ⌝ }
-{
-    let open = extend(s, t, draws, n);
-    records::hold_cue(open, n, cue)
-}
-
-// The cue goes out as DATA under the next number, and is held in the own source.
-pub fn send(e: End, draws: &[Draw], cue: [u8; 24], out: &mut [u8]) -> Stepped
-    requires { ⌜ Sending e (length (now draws)) (length (now out)) ⌝ }
-    ensures { λ r. ⌜ r ≡ calledOf (done (sendOf (now (draws .entry)) cue e)) ⌝ }
-    ensures { λ _. ⌜ now (out .exit) ≡ bufferOf (Did (sendOf (now (draws .entry)) cue e .effect)) (now (out .entry)) ⌝ }
-{
-    let mut end = e;
-    let t = state::moment_of(e);
-    let me = e.host;
-    let mut sources = e.sources;
-    let number = CueNumber(e.next as u16);
-    let name = Name { source: me, number };
-    let answer = compose::put_name(DATA, t, name, me, 1, cue, out);
-    let at = me.0 as usize;
-    let s = sources[at];
-    let s1 = sent_source(s, t, draws, number, cue);
-    sources[at] = s1;
-    end.sources = sources;
-    end.next = end.next + 1;
-    Stepped { answer, end }
-}
 
 // ---- Fire
 

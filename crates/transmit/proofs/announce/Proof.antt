@@ -13,7 +13,7 @@ use Rattle.end.specs.Answer.{Step, give}
 use Rattle.end.specs.Event.{announced, announceOf}
 use Rattle.compose.proofs.PutLaws.{Answers}
 use Rattle.transmit.specs.Announced.{announcedEffect}
-use Rattle.transmit.proofs.GiveLaws.{Gives, gives}
+use Rattle.compose.proofs.GiveLaws.{Gives, gives}
 use borrow.Author.Needs.{needs}
 use Rattle.transmit.proofs.announce.Statement.{statement}
 use Rattle.transmit.proofs.announce.Tie as tie

@@ -5,7 +5,7 @@ use Rattle.message.specs.Message.{Meaning, bytesOf}
 use Rattle.end.specs.Answer.{Out}
 use Rattle.end.specs.Messages.{sessionMessage}
 use Rattle.compose.proofs.PutLaws.{Answers}
-use Rattle.transmit.proofs.GiveLaws.{gives}
+use Rattle.compose.proofs.GiveLaws.{gives}
 use borrow.Author.Needs.{needs}
 use Rattle.transmit.proofs.report.Statement.{statement}
 use Rattle.transmit.proofs.report.Tie as tie

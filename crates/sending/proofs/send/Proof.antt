@@ -1,4 +1,4 @@
--- `transmit::send` meets its contract: the cue goes out as DATA, and the own source and the next number are the definition's.
+-- `sending::send` meets its contract: the cue goes out as DATA, and the own source and the next number are the definition's.
 use mathlib.Core.Path.{subst}
 use mathlib.Core.List.{[], _∷_}
 use Prim.Native.Nat.{_+_}
@@ -11,11 +11,11 @@ use Rattle.end.specs.Messages.{aboutName, dataMessage}
 use Rattle.end.specs.Answer.{Out}
 use Rattle.end.specs.Event.{ownName, sentEnd}
 use Rattle.compose.proofs.PutLaws.{Answers}
-use Rattle.transmit.proofs.GiveLaws.{gives}
-use Rattle.transmit.proofs.SendLaws.{rising, sent}
+use Rattle.compose.proofs.GiveLaws.{gives}
+use Rattle.sending.proofs.SendLaws.{rising, sent}
 use borrow.Author.Needs.{needs}
-use Rattle.transmit.proofs.send.Statement.{statement}
-use Rattle.transmit.proofs.send.Tie as tie
+use Rattle.sending.proofs.send.Statement.{statement}
+use Rattle.sending.proofs.send.Tie as tie
 
 -- ---- the places that the facts stand at: the call, the moment, and what went out
 abbrev call : tie.After-moment-of → tie.Start

@@ -1,8 +1,8 @@
--- `transmit::extend` meets its contract: the span that was matched decides.
-use Rattle.transmit.proofs.SendLaws.{first-sent, later-sent}
+-- `sending::extend` meets its contract: the span that was matched decides.
+use Rattle.sending.proofs.SendLaws.{first-sent, later-sent}
 use borrow.Author.Needs.{needs}
-use Rattle.transmit.proofs.extend.Statement.{statement}
-use Rattle.transmit.proofs.extend.Tie as tie
+use Rattle.sending.proofs.extend.Statement.{statement}
+use Rattle.sending.proofs.extend.Tie as tie
 
 enum-told : tie.Need-enum-told
 enum-told c = search needs

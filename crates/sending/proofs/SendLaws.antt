@@ -11,7 +11,7 @@ use Rattle.end.specs.State.{sourceAt, momentOf, withSource, withNext}
 use Rattle.end.specs.Names.{rise, openAt}
 use Rattle.end.specs.Event.{extended, sentSource, sentEnd}
 use Rattle.end.proofs.Ready.{ranges}
-use Rattle.transmit.specs.Given.{Sending, Rising}
+use Rattle.sending.specs.Given.{Sending, Rising}
 
 -- the own source, by its first and last
 module _ (t : Moment) (us : List ℕ) (n : ℕ) (s x : Source) where

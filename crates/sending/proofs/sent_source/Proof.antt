@@ -1,7 +1,7 @@
--- `transmit::sent_source` meets its contract: the own source with its last risen and the cue held.
+-- `sending::sent_source` meets its contract: the own source with its last risen and the cue held.
 use borrow.Author.Needs.{needs}
-use Rattle.transmit.proofs.sent_source.Statement.{statement}
-use Rattle.transmit.proofs.sent_source.Tie as tie
+use Rattle.sending.proofs.sent_source.Statement.{statement}
+use Rattle.sending.proofs.sent_source.Tie as tie
 
 extend-requires : tie.Need-extend-requires
 extend-requires c κs = search needs

@@ -33,8 +33,8 @@ use Rattle.end.specs.Fetch.{handsLate, mayFetch, reportedBy, nearer, untried, n
 use Rattle.end.proofs.Tools.{byTest, byCond}
 use Rattle.state.specs.declared.Change.{Change}
 use Rattle.compose.proofs.PutLaws.{Answers}
-use Rattle.fetch.specs.Steps.{mayOn, nearestOf, Hosted, fetchEffect, triedSource}
-use Rattle.fetch.specs.Steps.{answers, answeredEffect, hands, lateEffect, lateSource}
+use Rattle.candidates.specs.Candidates.{mayOn, nearestOf, answers, hands}
+use Rattle.fetch.specs.Steps.{Hosted, fetchEffect, triedSource, answeredEffect, lateEffect, lateSource}
 
 -- a source stored as it was
 pub unchanged : (e : End) (h : Host) → withSource e h (sourceAt e h) ≡ e
@@ -60,10 +60,6 @@ module _ (e : End) (name : Name) where
   -- the source that is looked up
   abbrev From : Host
   From = cond (hostIn (name .source)) (name .source) (asHost 0)
-
-  pub may-is : (from : Host) → from ≡ From → mayOn name (sourceAt e from) ≡ mayFetch e name
-  unfolding mayFetch
-  may-is from p = rw p (byTest (hostIn (name .source)) (λ t. rw t) (λ t. rw t))
 
   -- what the code has found by then
   abbrev Tried : Host → Nearest

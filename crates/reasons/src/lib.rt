@@ -34,7 +34,7 @@ fn suits(what: Event, status: Status) -> bool
 fn fetch_reason(end: End, name: Name) -> Why
     ensures { λ r. ⌜ r ≡ because (fetchReason name end) ⌝ }
 {
-    if fetch::may_fetch(end, name) {
+    if candidates::may_fetch(end, name) {
         Why::NoReason
     } else {
         Why::Because(Reason::NoFetch)

@@ -27,7 +27,7 @@ use Rattle.end.specs.Fetch.{mayAnswer, mayHand}
 use Rattle.end.specs.Why.{noFetchIn}
 use Rattle.end.proofs.Tools.{byTest}
 use Rattle.end.proofs.ReasonLaws.{or-none, later, orElse, ifNoFetch, later-decided}
-use Rattle.fetch.specs.Steps.{answers, hands}
+use Rattle.candidates.specs.Candidates.{answers, hands}
 use Rattle.receive.specs.Steps.{isNamed, entryIn}
 use Rattle.receive.specs.Reason.{namedReason, fetchReason}
 

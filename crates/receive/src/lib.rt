@@ -286,8 +286,8 @@ fn fetch_reason(e: End, m: Message) -> Why
     let sender = m.sender;
     let at = entry.name.source.0 as usize;
     let s = e.sources[at];
-    let answers = fetch::may_answer(e.host, entry, s);
-    let hands = fetch::may_hand(e.host, entry, sender, s);
+    let answers = candidates::may_answer(e.host, entry, s);
+    let hands = candidates::may_hand(e.host, entry, sender, s);
     let none = ((m.kind == FTCH) & !answers) | ((m.kind == LATE) & !hands);
     if none {
         Why::Because(Reason::NoFetch)

@@ -1,9 +1,9 @@
--- `fetch::source_of` meets its contract: the test is the definition's.
+-- `candidates::source_of` meets its contract: the test is the definition's.
 use mathlib.Core.Path.{refl}
 use native.Mathlib.Omega.{arith}
 use borrow.Author.Tests.{lt-ltb, le-ltb}
-use Rattle.fetch.proofs.source_of.Statement.{statement}
-use Rattle.fetch.proofs.source_of.Tie as tie
+use Rattle.candidates.proofs.source_of.Statement.{statement}
+use Rattle.candidates.proofs.source_of.Tie as tie
 
 returns : tie.Need-returns
 returns c = (rw (lt-ltb _ _ (c .if1 .taken)), c .if1 .taken)

@@ -1,8 +1,8 @@
--- `fetch::nearer` meets its contract: the nearest so far is the one that was matched.
+-- `candidates::nearer` meets its contract: the nearest so far is the one that was matched.
 use borrow.Author.Tests.{lt-ltb, le-ltb}
 use borrow.Author.Needs.{needs}
-use Rattle.fetch.proofs.nearer.Statement.{statement}
-use Rattle.fetch.proofs.nearer.Tie as tie
+use Rattle.candidates.proofs.nearer.Statement.{statement}
+use Rattle.candidates.proofs.nearer.Tie as tie
 
 enum-told : tie.Need-enum-told
 enum-told c = search needs

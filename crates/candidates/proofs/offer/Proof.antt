@@ -1,7 +1,7 @@
--- `fetch::offer` meets its contract: the test is the definition's.
+-- `candidates::offer` meets its contract: the test is the definition's.
 use borrow.Author.Needs.{needs}
-use Rattle.fetch.proofs.offer.Statement.{statement}
-use Rattle.fetch.proofs.offer.Tie as tie
+use Rattle.candidates.proofs.offer.Statement.{statement}
+use Rattle.candidates.proofs.offer.Tie as tie
 
 has-host-requires : tie.Need-has-host-requires
 has-host-requires c κs = search needs

@@ -1,7 +1,7 @@
--- `fetch::try_host` meets its contract: each step is its callee's.
+-- `candidates::try_host` meets its contract: each step is its callee's.
 use borrow.Author.Needs.{needs}
-use Rattle.fetch.proofs.try_host.Statement.{statement}
-use Rattle.fetch.proofs.try_host.Tie as tie
+use Rattle.candidates.proofs.try_host.Statement.{statement}
+use Rattle.candidates.proofs.try_host.Tie as tie
 
 attempt-at-requires : tie.Need-attempt-at-requires
 attempt-at-requires c κs = search needs

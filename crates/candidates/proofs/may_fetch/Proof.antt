@@ -1,9 +1,9 @@
--- `fetch::may_fetch` meets its contract: the source is the name's, where that is a host.
+-- `candidates::may_fetch` meets its contract: the source is the name's, where that is a host.
 use mathlib.Core.Path.{_∙_}
-use Rattle.fetch.proofs.FetchLaws.{may-is}
+use Rattle.candidates.proofs.MayLaws.{may-is}
 use borrow.Author.Needs.{needs}
-use Rattle.fetch.proofs.may_fetch.Statement.{statement}
-use Rattle.fetch.proofs.may_fetch.Tie as tie
+use Rattle.candidates.proofs.may_fetch.Statement.{statement}
+use Rattle.candidates.proofs.may_fetch.Tie as tie
 
 source-of-requires : tie.Need-source-of-requires
 source-of-requires c κs = search needs

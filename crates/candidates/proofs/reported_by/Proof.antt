@@ -1,7 +1,7 @@
--- `fetch::reported_by` meets its contract: what was heard is what was matched.
+-- `candidates::reported_by` meets its contract: what was heard is what was matched.
 use borrow.Author.Needs.{needs}
-use Rattle.fetch.proofs.reported_by.Statement.{statement}
-use Rattle.fetch.proofs.reported_by.Tie as tie
+use Rattle.candidates.proofs.reported_by.Statement.{statement}
+use Rattle.candidates.proofs.reported_by.Tie as tie
 
 enum-told : tie.Need-enum-told
 enum-told c = search needs

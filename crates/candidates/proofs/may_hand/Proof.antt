@@ -1,7 +1,7 @@
--- `fetch::may_hand` meets its contract: each part is its callee's.
+-- `candidates::may_hand` meets its contract: each part is its callee's.
 use borrow.Author.Needs.{needs}
-use Rattle.fetch.proofs.may_hand.Statement.{statement}
-use Rattle.fetch.proofs.may_hand.Tie as tie
+use Rattle.candidates.proofs.may_hand.Statement.{statement}
+use Rattle.candidates.proofs.may_hand.Tie as tie
 
 attempt-at-requires : tie.Need-attempt-at-requires
 attempt-at-requires c κs = search needs

@@ -1,13 +1,13 @@
--- `fetch::nearest` meets its contract: after h turns the nearest of the first h hosts is found.
+-- `candidates::nearest` meets its contract: after h turns the nearest of the first h hosts is found.
 use mathlib.Core.Path.{_≡_, refl}
 use Prim.Native.Nat.{_-_, _≤_}
 use native.Mathlib.Omega.{arith}
 use borrow.Author.Needs.{needs}
 use Rattle.end.specs.Fire.{foldUp}
 use Rattle.end.proofs.FireLaws.{fold-more}
-use Rattle.fetch.specs.Steps.{nearestOf}
-use Rattle.fetch.proofs.nearest.Statement.{statement}
-use Rattle.fetch.proofs.nearest.Tie as tie
+use Rattle.candidates.specs.Candidates.{nearestOf}
+use Rattle.candidates.proofs.nearest.Statement.{statement}
+use Rattle.candidates.proofs.nearest.Tie as tie
 
 abbrev Inv-loop : tie.InvT-loop
 Inv-loop me source tried sources best₀ h₀ best h = (h ≤ 8) × (best ≡ nearestOf me sources source tried h)

@@ -1,7 +1,7 @@
--- `fetch::may_answer` meets its contract: each part is its callee's.
+-- `candidates::may_answer` meets its contract: each part is its callee's.
 use borrow.Author.Needs.{needs}
-use Rattle.fetch.proofs.may_answer.Statement.{statement}
-use Rattle.fetch.proofs.may_answer.Tie as tie
+use Rattle.candidates.proofs.may_answer.Statement.{statement}
+use Rattle.candidates.proofs.may_answer.Tie as tie
 
 record-at-requires : tie.Need-record-at-requires
 record-at-requires c κs = search needs

@@ -45,7 +45,7 @@ fn take_cue(t: Moment, draws: &[Draw], w: Word, s: Source) -> Source
 {
     let n = w.name.number;
     let cue = w.cue;
-    let higher = records::rise_by_data(s, t, draws, n);
+    let higher = rises::rise_by_data(s, t, draws, n);
     records::hold_cue(higher, n, cue)
 }
 
@@ -66,7 +66,7 @@ fn repair(t: Moment, draws: &[Draw], w: Word, s: Source) -> Source
 {
     let n = w.name.number;
     let cue = w.cue;
-    let higher = records::rise_to(s, t, draws, n);
+    let higher = rises::rise_to(s, t, draws, n);
     let held = records::hold_cue(higher, n, cue);
     hush(t, w, held)
 }
@@ -79,7 +79,7 @@ fn learn(t: Moment, draws: &[Draw], w: Word, s: Source) -> Source
     ensures { λ r. ⌜ r ≡ setRound t (now (draws .entry)) (number w) 2 (risen t (now (draws .entry)) w s) ⌝ }
 {
     let n = w.name.number;
-    let higher = records::rise_to(s, t, draws, n);
+    let higher = rises::rise_to(s, t, draws, n);
     records::set_round(higher, t, draws, n, 2)
 }
 

@@ -195,7 +195,7 @@ fn report(t: Moment, draws: &[Draw], r: Report, s: Source) -> Source
     let other = !(r.source.0 == t.me.0);
     let rises = other & state::is_above(span, r.last);
     if rises {
-        records::rise_to(s, t, draws, r.last)
+        rises::rise_to(s, t, draws, r.last)
     } else {
         s
     }

@@ -24,7 +24,7 @@ fn extend(s: Source, t: Moment, draws: &[Draw], n: CueNumber) -> Source
     let span = s.span;
     match span {
         Span::Closed => state::with_span(s, Span::Open(n, n)),
-        Span::Open(_, _) => records::rise_to(s, t, draws, n),
+        Span::Open(_, _) => rises::rise_to(s, t, draws, n),
     }
 }
 

@@ -1,8 +1,8 @@
--- `records::rise_by_data` meets its contract: each new number has the express wait of a gap before a DATA.
+-- `rises::rise_by_data` meets its contract: each new number has the express wait of a gap before a DATA.
 use borrow.Author.Needs.{needs}
-use Rattle.records.proofs.Steps.{rise-data}
-use Rattle.records.proofs.rise_by_data.Statement.{statement}
-use Rattle.records.proofs.rise_by_data.Tie as tie
+use Rattle.rises.proofs.Steps.{rise-data}
+use Rattle.rises.proofs.rise_by_data.Statement.{statement}
+use Rattle.rises.proofs.rise_by_data.Tie as tie
 
 express-by-data-requires : tie.Need-express-by-data-requires
 express-by-data-requires c κs = search needs

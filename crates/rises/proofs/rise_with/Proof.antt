@@ -1,10 +1,10 @@
--- `records::rise_with` meets its contract: the span is the one that was matched.
+-- `rises::rise_with` meets its contract: the span is the one that was matched.
 use Rattle.end.specs.Names.{riseWith}
 use borrow.Author.Needs.{needs}
 use Rattle.state.proofs.Counted.{count-small}
-use Rattle.records.proofs.Steps.{rise-open}
-use Rattle.records.proofs.rise_with.Statement.{statement}
-use Rattle.records.proofs.rise_with.Tie as tie
+use Rattle.rises.proofs.Steps.{rise-open}
+use Rattle.rises.proofs.rise_with.Statement.{statement}
+use Rattle.rises.proofs.rise_with.Tie as tie
 
 enum-told : tie.Need-enum-told
 enum-told c = search needs

@@ -1,4 +1,4 @@
--- `records::request_all` meets its contract: with the numbers that are left to ask for, the records are what is wanted.
+-- `rises::request_all` meets its contract: with the numbers that are left to ask for, the records are what is wanted.
 use borrow.Author.Needs.{needs}
 use mathlib.Core.Path.{_≡_, refl, sym, _∙_}
 use Prim.Native.Nat.{ℕ, _-_}
@@ -9,8 +9,8 @@ use Rattle.end.specs.declared.Record.{Record}
 use Rattle.end.specs.declared.Moment.{Moment}
 use Rattle.end.specs.Names.{expressed, asked, filled}
 use Rattle.end.proofs.RiseLaws.{filled-none, filled-more}
-use Rattle.records.proofs.request_all.Statement.{statement}
-use Rattle.records.proofs.request_all.Tie as tie
+use Rattle.rises.proofs.request_all.Statement.{statement}
+use Rattle.rises.proofs.request_all.Tie as tie
 
 -- the record of a new number
 abbrev new : Moment → List ℕ → ℕ → Express → ℕ → Record

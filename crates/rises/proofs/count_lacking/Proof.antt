@@ -1,4 +1,4 @@
--- `records::count_lacking` meets its contract: with those that are left to look at, the count is what is wanted.
+-- `rises::count_lacking` meets its contract: with those that are left to look at, the count is what is wanted.
 use mathlib.Core.Path.{_≡_, refl}
 use mathlib.Core.Bool.{Bool}
 use mathlib.Core.List.{List}
@@ -8,8 +8,8 @@ use Rattle.end.specs.declared.Record.{Record}
 use Rattle.end.specs.Records.{isHeld, rawAt}
 use Rattle.end.specs.Names.{lacking}
 use Rattle.end.proofs.Lacking.{lacking-none, lacking-more, lacking-most}
-use Rattle.records.proofs.count_lacking.Statement.{statement}
-use Rattle.records.proofs.count_lacking.Tie as tie
+use Rattle.rises.proofs.count_lacking.Statement.{statement}
+use Rattle.rises.proofs.count_lacking.Tie as tie
 
 abbrev heldIn : List Record → ℕ → Bool
 heldIn names m = isHeld (rawAt names m .slot)

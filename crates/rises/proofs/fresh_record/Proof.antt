@@ -1,7 +1,7 @@
--- `records::fresh_record` meets its contract: a blank record with its request.
+-- `rises::fresh_record` meets its contract: a blank record with its request.
 use borrow.Author.Needs.{needs}
-use Rattle.records.proofs.fresh_record.Statement.{statement}
-use Rattle.records.proofs.fresh_record.Tie as tie
+use Rattle.rises.proofs.fresh_record.Statement.{statement}
+use Rattle.rises.proofs.fresh_record.Tie as tie
 
 request-for-requires : tie.Need-request-for-requires
 request-for-requires c κs = search needs

@@ -6,6 +6,8 @@ use crate::why;
 use end::Answer;
 use end::Draw;
 use end::End;
+use end::Event;
+use end::Move;
 use end::Params;
 use end::Status;
 use end::Stepped;
@@ -18,38 +20,27 @@ use picture::same;
 use picture::text;
 use trace::words;
 
-// What the line of an event says: its word and clock, the cue of a `send` and the name of a `fetch`. What an event has not is zeros.
+// What the line of an event says: the event, its clock, and the cue of a `send`, which is zeros for the others.
 pub struct Said {
-    pub word: u64,
+    pub what: Event,
     pub clock: u64,
     pub cue: [u8; 24],
-    pub name: Name,
 }
 
-// The moves of membership.
-fn call_move(e: End, word: u64, clock: u64, draws: &[Draw], out: &mut [u8]) -> Stepped {
+// The event of a word; a `fetch` has the name.
+fn event_of(word: u64, name: Name) -> Event {
     match word {
-        words::JOIN => link::join(e, clock, draws, out),
-        words::JOINED => link::joined(e, clock, draws, out),
-        words::LEAVE => link::leave(e, clock, draws, out),
-        words::LEFT => link::left(e, clock, draws, out),
-        _ => link::crash(e, clock, draws, out),
-    }
-}
-
-fn call(e: End, said: Said, bytes: &[u8], draws: &[Draw], out: &mut [u8]) -> Stepped {
-    let word = said.word;
-    let clock = said.clock;
-    let cue = said.cue;
-    let name = said.name;
-    match word {
-        words::SEND => link::send(e, clock, draws, cue, out),
-        words::HEAR => link::arrival(e, clock, draws, bytes, out),
-        words::FIRE => link::fire(e, clock, draws, out),
-        words::REPORT => link::report(e, clock, draws, out),
-        words::ANNOUNCE => link::announce(e, clock, draws, out),
-        words::FETCH => link::fetch(e, clock, draws, name, out),
-        _ => call_move(e, word, clock, draws, out),
+        words::JOIN => Event::Moves(Move::Join),
+        words::JOINED => Event::Moves(Move::Joined),
+        words::LEAVE => Event::Moves(Move::Leave),
+        words::LEFT => Event::Moves(Move::Left),
+        words::SEND => Event::Send,
+        words::HEAR => Event::Arrival,
+        words::FIRE => Event::Fire,
+        words::REPORT => Event::Report,
+        words::ANNOUNCE => Event::Announce,
+        words::FETCH => Event::Fetch(name),
+        _ => Event::Moves(Move::Crash),
     }
 }
 
@@ -80,7 +71,17 @@ fn call_parts(
     if out.len() < room {
         return untouched(e);
     }
-    call(e, said, &bytes[0..len], &draws[0..count], &mut out[0..room])
+    let what = said.what;
+    let cue = said.cue;
+    link::event(
+        e,
+        said.clock,
+        &draws[0..count],
+        what,
+        cue,
+        &bytes[0..len],
+        &mut out[0..room],
+    )
 }
 
 // The same on whole arrays, whose lengths are known.
@@ -247,12 +248,8 @@ pub fn read(word: u64, line: &[u8; 1000], end: usize, at: &mut usize) -> Said {
     let clock = clock_of(word, line, end, at);
     let cue = cue_for(word, line, end, at);
     let name = name_for(word, line, end, at);
-    Said {
-        word,
-        clock,
-        cue,
-        name,
-    }
+    let what = event_of(word, name);
+    Said { what, clock, cue }
 }
 
 // In the mode RECORD the line that the event leaves in a run's record stands in place of what was told of it, up to FROM.
@@ -266,9 +263,8 @@ fn keep_line(
 ) {
     if n[crate::MODE] == crate::RECORD {
         let host = e.host;
+        let what = said.what;
         let cue = said.cue;
-        let name = said.name;
-        let what = why::event_of(said.word, name);
         let at = n[crate::START];
         n[crate::FROM] = keeping::put(text, at, host, what, cue, a, out);
     }

@@ -3,39 +3,18 @@ use crate::answer;
 use crate::event;
 use crate::event::Said;
 use end::End;
-use end::Event;
-use end::Move;
 use end::Reason;
 use end::Why;
-use message::Name;
 use picture::text;
 use trace::words;
-
-// The event of a word; a `fetch` has the name.
-pub fn event_of(word: u64, name: Name) -> Event {
-    match word {
-        words::JOIN => Event::Moves(Move::Join),
-        words::JOINED => Event::Moves(Move::Joined),
-        words::LEAVE => Event::Moves(Move::Leave),
-        words::LEFT => Event::Moves(Move::Left),
-        words::SEND => Event::Send,
-        words::HEAR => Event::Arrival,
-        words::FIRE => Event::Fire,
-        words::REPORT => Event::Report,
-        words::ANNOUNCE => Event::Announce,
-        words::FETCH => Event::Fetch(name),
-        _ => Event::Moves(Move::Crash),
-    }
-}
 
 // The call with the first bytes of the buffer; it is long enough.
 fn asked(e: End, said: Said, bytes: &[u8], len: usize) -> Why {
     if bytes.len() < len {
         return Why::NoReason;
     }
+    let what = said.what;
     let cue = said.cue;
-    let name = said.name;
-    let what = event_of(said.word, name);
     link::reason(e, said.clock, what, cue, &bytes[0..len])
 }
 

@@ -1,5 +1,6 @@
-// The one frame of all events: the questions, the crashed end, the clock, membership. What the event then does is the crate acting's. It is a
-// helper of the crate link and no call of the product: it asks in its `requires` for the reading that goes with the event.
+// The one frame of all events: the questions, the crashed end, the clock, membership. What an event that is taken does is the crate acting's.
+// Its promise, specs/Promise.antt, is that of every event's call. It is a helper of the crate link and no call of the product: it asks in its
+// `requires` for the reading that goes with the event.
 use end::Answer;
 use end::Draw;
 use end::End;

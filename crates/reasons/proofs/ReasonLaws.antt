@@ -2,9 +2,9 @@
 use mathlib.Core.Path.{_≡_, refl, sym, ap, subst, _∙_}
 use Prim.Native.Nat.{ℕ}
 use mathlib.Core.Bool.{Bool, true, false, cond, not}
-use mathlib.Core.List.{List, [], _∷_, _++_}
+use mathlib.Core.List.{List, [], _∷_}
 use mathlib.Core.Option.{Option, none, some}
-use lib.Dec.{eqb, leb}
+use lib.Dec.{leb}
 use native.Mathlib.Omega.{arith}
 use borrow.Author.Tests.{ne-eqb}
 use Rattle.message.specs.declared.Message.{Message}
@@ -21,10 +21,10 @@ use Rattle.end.specs.declared.End.{End}
 use Rattle.end.specs.State.{isMember, isCrashed, withClock}
 use Rattle.end.specs.Reasons.{nameReasons, reasons, firstThat}
 use Rattle.end.specs.Sound.{soundOf}
-use Rattle.end.specs.Event.{Action, moves, actionOf, ownQuestions, stateQuestions}
+use Rattle.end.specs.Event.{Action, moves, actionOf, ownQuestions}
 use Rattle.end.specs.Fetch.{mayFetch}
 use Rattle.end.specs.Why.{noFetchIn, reasonHolds, refusedAs, because, whyOf, whyRefusal}
-use Rattle.end.proofs.Tools.{byTest, byCond}
+use Rattle.end.proofs.Tools.{byTest}
 use Rattle.end.specs.Arrival.{namedIn}
 use Rattle.end.proofs.ReasonLaws.{first-of-both, later, orElse, ifNoFetch}
 use Rattle.receive.specs.Reason.{reasonFor}

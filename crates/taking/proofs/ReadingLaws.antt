@@ -10,7 +10,8 @@ use lib.Dec.{leb, eqb}
 use Rattle.message.specs.declared.Message.{Message}
 use Rattle.message.specs.Limit.{numberLimit}
 use Rattle.message.specs.Message.{Meaning, meaningOf, heldAs, meaningWith, kindByte, kindOf, mostNumber, meaningFrom, countsOf, sizeFrom}
-use Rattle.message.specs.Question.{ask, firstNo, verdictFor, refusalOf, kindHasCounts, inRange, hostsFit, messageQuestions, meaningQuestions, readRefusal, messageFor, readOf}
+use Rattle.message.specs.Question.{ask, firstNo, kindHasCounts, inRange, hostsFit, messageQuestions, meaningQuestions}
+use Rattle.message.specs.Question.{verdictFor, refusalOf, readRefusal, messageFor, readOf}
 use Rattle.message.proofs.QuestionLaws.{all-passed, most-below, range-rises, counts-fit, number-of-verdict}
 use Rattle.message.proofs.LayoutLaws.{held-back}
 use Rattle.end.specs.declared.Event.{Event}

@@ -1,10 +1,7 @@
 -- `reasons::reason` meets its contract: the number of the first no, or the reason that the code finds, which is the first that holds.
 use mathlib.Core.Path.{_≡_, sym, ap, subst, _∙_}
-use mathlib.Core.Bool.{Bool}
 use denote.Ref.{now}
 use borrow.Author.Needs.{needs}
-use Rattle.message.specs.declared.Verdict.{Verdict}
-use Rattle.message.specs.declared.Message.{Message}
 use Rattle.message.specs.declared.Reading.{Reading}
 use Rattle.message.specs.Message.{meaningOf}
 use Rattle.end.specs.declared.Event.{Event}

@@ -24,10 +24,13 @@ use Rattle.end.specs.Arrival.{arrivalOf}
 use Rattle.end.proofs.Ready.{ranges}
 use Rattle.state.specs.declared.Change.{Change}
 use Rattle.state.specs.Change.{changed}
+use Rattle.says.specs.Said.{isAbout, askerIn, subjectOf}
+use Rattle.session.proofs.Lists.{used-at}
+use Rattle.session.proofs.Passes.{report-in, in-range}
 use Rattle.receive.specs.Hearing.{AllCounted, Hearing, HearingOn}
-use Rattle.receive.specs.Steps.{isAbout, askerIn, reportsFor, subjectOf, effectOn, leftOn}
-use Rattle.receive.proofs.Lists.{used-at, none-taken, none-most, none-all}
-use Rattle.receive.proofs.Passes.{report-in, in-range, asker-in}
+use Rattle.receive.specs.Steps.{reportsFor, effectOn, leftOn}
+use Rattle.receive.proofs.Lists.{none-taken, none-most, none-all}
+use Rattle.receive.proofs.Passes.{asker-in}
 use Rattle.receive.proofs.Reports.{reports-ranges}
 use Rattle.receive.proofs.Whole.{whole}
 
@@ -77,7 +80,8 @@ module _ (e : End) (m : Message) (draws room : ℕ) (t : Moment) (d count : ℕ)
     }
 
   -- after all reports, the step on the source that the message is about is the arrival's
-  pub gives : (us : List ℕ) (i : ℕ) (x : End) (h : Host) (c : Change) (out after : List ℕ) → i ≡ count → x ≡ allReported t us (take i (m .reports)) e → h ≡ subjectOf (meaningOf m)
+  pub gives : (us : List ℕ) (i : ℕ) (x : End) (h : Host) (c : Change) (out after : List ℕ) → i ≡ count
+      → x ≡ allReported t us (take i (m .reports)) e → h ≡ subjectOf (meaningOf m)
       → c ≡ record { answer = answerOf (Did (effectOn t d (meaningOf m) (sourceAt x h))); source = leftOn t us d (meaningOf m) (sourceAt x h) }
       → after ≡ bufferOf (Did (effectOn t d (meaningOf m) (sourceAt x h))) out
       → (changed x h c ≡ calledOf (done (arrivalOf us (meaningOf m) e))) × (after ≡ bufferOf (Did (arrivalOf us (meaningOf m) e .effect)) out)
@@ -86,5 +90,6 @@ module _ (e : End) (m : Message) (draws room : ℕ) (t : Moment) (d count : ℕ)
       let left : x ≡ allReported (momentOf e) us (reportsFor (e .host) M) e =
       p ∙ ap (λ (n : ℕ). allReported t us (take n (m .reports)) e) all ∙ λ j. allReported (k .moment j) us (k .heard j) e in
       let same : give (effectOn t d M (sourceAt x h)) (onSource x h (leftOn t us d M)) ≡ arrivalOf us M e =
-      (λ j. give (effectOn (k .moment j) (k .away j) M (sourceAt (left j) (q j))) (onSource (left j) (q j) (leftOn (k .moment j) us (k .away j) M))) ∙ sym (whole us M e) in
+      (λ j. give (effectOn (k .moment j) (k .away j) M (sourceAt (left j) (q j))) (onSource (left j) (q j) (leftOn (k .moment j) us (k .away j) M)))
+      ∙ sym (whole us M e) in
       (ap (changed x h) r ∙ ap (λ (s : Step). calledOf (done s)) same, b ∙ ap (λ (s : Step). bufferOf (Did (s .effect)) out) same)

@@ -27,8 +27,8 @@ use Rattle.end.specs.Fetch.{mayAnswer, mayHand}
 use Rattle.end.specs.Why.{noFetchIn}
 use Rattle.end.proofs.Tools.{byTest}
 use Rattle.end.proofs.ReasonLaws.{or-none, later, orElse, ifNoFetch, later-decided}
+use Rattle.says.specs.Said.{isNamed, entryIn}
 use Rattle.candidates.specs.Candidates.{answers, hands}
-use Rattle.receive.specs.Steps.{isNamed, entryIn}
 use Rattle.receive.specs.Reason.{namedReason, fetchReason}
 
 -- the word of a message, with any distance to who asked
@@ -44,7 +44,8 @@ wordAway says m d = record {
 }
 
 -- a decision does not look at the distance
-apart : (t : Moment) (m : Meaning) (d k : ℕ) (r : Record) (says : Says) (x : Span) → decideAs says t (wordAway says m d) r x ≡ decideAs says t (wordAway says m k) r x
+apart : (t : Moment) (m : Meaning) (d k : ℕ) (r : Record) (says : Says) (x : Span)
+    → decideAs says t (wordAway says m d) r x ≡ decideAs says t (wordAway says m k) r x
 unfolding decideAs decideData reached decideRequest decideExpress decideRepair
 apart t m d k r Data Closed = refl
 apart t m d k r Data (Open first last) = refl
@@ -59,7 +60,8 @@ module _ (m : Meaning) (e : End) where
   decided : (says : Says) → reasonOf (decide (momentOf e) (wordAway says m 0) (sourceAt e (messageName m .source))) ≡ later e (some (wordOf says m e))
   decided says =
       let s = sourceAt e (messageName m .source) in
-      ap reasonOf (apart (momentOf e) m 0 (distanceTo e (requesterIn says m)) (known (wordOf says m e) s) says (s .span)) ∙ sym (later-decided e (wordOf says m e))
+      ap reasonOf (apart (momentOf e) m 0 (distanceTo e (requesterIn says m)) (known (wordOf says m e) s) says (s .span))
+      ∙ sym (later-decided e (wordOf says m e))
 
   -- a message with a word is of neither of the kinds 22 and 23
   worded : (kind : ℕ) (says : Says) → eqb (m .kind) kind ≡ true → eqb kind FTCH ≡ false → eqb kind LATE ≡ false

@@ -1,14 +1,12 @@
--- The reports and the echoes of a session message: what a turn of each loop adds, and that reports leave every distance as it was and every
--- source counted.
+-- The reports of a session message: what a turn of the loop over them adds, and that they leave every distance as it was and every source
+-- counted.
 use mathlib.Core.Path.{_≡_, refl, sym, ap, _∙_}
 use Prim.Native.Nat.{ℕ, _+_, _<_}
 use mathlib.Core.Bool.{not, _&&_}
 use mathlib.Core.List.{List, [], _∷_}
 use lib.ListN.{length, take, getD}
-use Rattle.numbers.specs.Bits.{withBit}
 use Rattle.message.specs.declared.Host.{Host}
 use Rattle.message.specs.declared.Report.{Report}
-use Rattle.message.specs.declared.Echo.{Echo}
 use Rattle.message.specs.Limit.{numberLimit}
 use Rattle.message.specs.Entry.{blankReport}
 use Rattle.message.specs.Question.{sameHost}
@@ -19,28 +17,15 @@ use Rattle.end.specs.State.{noSource, sourceAt, distanceTo, momentOf, withSourc
 use Rattle.end.specs.Records.{isAbove}
 use Rattle.end.specs.Names.{asked}
 use Rattle.end.specs.Ready.{Ranges, Ready}
-use Rattle.end.specs.Session.{reportedSource, allReported, measured, reportedAfter}
+use Rattle.end.specs.Session.{reportedSource, allReported}
 use Rattle.end.proofs.Tools.{byCond, set-elim}
 use Rattle.end.proofs.RiseLaws.{rise-distance}
 use Rattle.end.proofs.Ready.{ranges}
 use Rattle.state.specs.Counted.{Counted}
 use Rattle.state.proofs.Counted.{counted-rise}
+use Rattle.session.proofs.Lists.{through-turn}
 use Rattle.receive.specs.Hearing.{AllCounted}
-use Rattle.receive.proofs.Lists.{through-turn}
 
--- ---- the echoes
-pub echoes-turn : (me : Host) (clock : ℕ) (l : List Echo) (i : ℕ) (d : Echo) (start before after : ℕ) → i < length l
-    → before ≡ measured me clock (take i l) start → after ≡ measured me clock (getD l i d ∷ []) before → after ≡ measured me clock (take (i + 1) l) start
-unfolding measured
-echoes-turn me clock = through-turn (measured me clock) (λ x. measured me clock (x ∷ [])) (λ b. refl) (λ a l b. refl)
-
--- ---- the sources that were reported
-pub sources-turn : (l : List Report) (i : ℕ) (d : Report) (start before after : ℕ) → i < length l
-    → before ≡ reportedAfter start (take i l) → after ≡ withBit before (getD l i d .source .0) → after ≡ reportedAfter start (take (i + 1) l)
-unfolding reportedAfter
-sources-turn = through-turn (λ l b. reportedAfter b l) (λ r b. withBit b (r .source .0)) (λ b. refl) (λ r l b. refl)
-
--- ---- the reports
 module _ (t : Moment) (us : List ℕ) where
   -- a turn steps the source of its report
   pub reports-turn : (l : List Report) (i : ℕ) (r : Report) (start before : End) (s : Source) → i < length l → r ≡ getD l i blankReport

@@ -23,10 +23,11 @@ use Rattle.end.specs.Fetch.{fetchedOf, lateOf}
 use Rattle.end.specs.Arrival.{messageName, messageCue, wordStep, messageStep, arrivalOf}
 use Rattle.end.proofs.Tools.{byTest}
 use Rattle.state.specs.declared.Change.{Change}
+use Rattle.says.specs.Said.{isNamed, saysIn, entryIn, askerIn, wordIn, subjectOf}
 use Rattle.heed.specs.Step.{decidedEffect, stepped}
 use Rattle.fetch.specs.Steps.{answeredEffect, lateEffect, lateSource}
 use Rattle.fetch.proofs.FetchLaws.{unchanged, fetched-is, late-is}
-use Rattle.receive.specs.Steps.{isNamed, saysIn, entryIn, askerIn, wordIn, reportsFor, subjectOf, unnamedEffect, unnamedSource, effectOn, leftOn}
+use Rattle.receive.specs.Steps.{reportsFor, unnamedEffect, unnamedSource, effectOn, leftOn}
 
 -- a choice by the kinds that have a word is one choice
 choice : (f : Says → Step) (x : Step) (a b c d : Bool)

@@ -12,7 +12,7 @@ use Rattle.end.specs.Decide.{decide}
 use Rattle.end.specs.Reasons.{reasonOf}
 use Rattle.end.specs.Arrival.{messageName}
 use Rattle.end.specs.Why.{noFetchIn}
-use Rattle.receive.specs.Steps.{isNamed, wordIn}
+use Rattle.says.specs.Said.{isNamed, wordIn}
 
 -- the distance to the requester is not looked at, and stands as 0
 abbrev pub namedReason : Meaning → End → Option Reason

@@ -48,7 +48,8 @@ aimed c = c .before .before .before
 
 -- ---- what holds where the loop starts
 facts : (c : tie.After-asked Inv-loop μ-loop) → let a = call (asked c) .args in
-    Known (a .e) (a .m) (length (a .draws .now)) (length (a .out .now)) (asked c .before .moment-of .result) (distanceTo (a .e) (asked c .asker-in .result)) (counted c .report-count .result)
+    Known (a .e) (a .m) (length (a .draws .now)) (length (a .out .now)) (asked c .before .moment-of .result)
+    (distanceTo (a .e) (asked c .asker-in .result)) (counted c .report-count .result)
 facts c =
     known _ _ _ _ _ (asked c .asker-in .result) _ _ (call (asked c) .pre) (asked c .before .moment-of .ensures) (asked c .asker-in .ensures)
     refl (counted c .report-count .ensures)
@@ -173,6 +174,6 @@ returns c =
     all (loop .inv .1) (at .subject-of .ensures) (step .ensures .0) (step .ensures .1)
 
 pub arrival-spec : {M : Type 1} → statement M
-arrival-spec = tie.close (tie.spec Inv-loop μ-loop moment-of-requires asker-in-requires report-count-requires cast-to mul-asked element-copy-out-asked loop-holds
-    report-at-requires cast-at mul-s element-copy-out-s report-requires mul-s1 element-set-from-s1 add-i loop-less loop-again subject-of-requires
+arrival-spec = tie.close (tie.spec Inv-loop μ-loop moment-of-requires asker-in-requires report-count-requires cast-to mul-asked element-copy-out-asked
+    loop-holds report-at-requires cast-at mul-s element-copy-out-s report-requires mul-s1 element-set-from-s1 add-i loop-less loop-again subject-of-requires
     cast-at-2 mul-s-2 element-copy-out-s-2 step-source-requires mul-s1-2 element-set-from-s1-2 same-length returns)

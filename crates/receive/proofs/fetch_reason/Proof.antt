@@ -5,7 +5,7 @@ use mathlib.Core.Bool.{not, _&&_, _||_}
 use lib.Dec.{eqb}
 use Rattle.message.specs.Message.{FTCH, LATE, meaningOf}
 use Rattle.end.specs.Why.{noFetchIn}
-use Rattle.receive.proofs.Passes.{in-range}
+use Rattle.session.proofs.Passes.{in-range}
 use Rattle.receive.proofs.Reasons.{no-fetch}
 use borrow.Author.Needs.{needs}
 use Rattle.receive.proofs.fetch_reason.Statement.{statement}

@@ -1,7 +1,7 @@
 -- `receive::named_reason` meets its contract: the decision on the word, in the source that it names.
 use Prim.Native.Nat.{_<_}
 use Rattle.message.specs.Message.{meaningOf}
-use Rattle.receive.proofs.Passes.{in-range}
+use Rattle.session.proofs.Passes.{in-range}
 use borrow.Author.Needs.{needs}
 use Rattle.receive.proofs.named_reason.Statement.{statement}
 use Rattle.receive.proofs.named_reason.Tie as tie

@@ -1,7 +1,7 @@
 -- `receive::step_unnamed` meets its contract: kind 22, kind 23, kind 24, or a session message.
 use Rattle.message.specs.Message.{meaningOf}
 use Rattle.message.proofs.QuestionLaws.{counts-small}
-use Rattle.receive.proofs.Passes.{in-range}
+use Rattle.session.proofs.Passes.{in-range}
 use Rattle.receive.proofs.Whole.{fetched-gives, late-gives, announce-gives, session-gives}
 use borrow.Author.Needs.{needs}
 use Rattle.receive.proofs.step_unnamed.Statement.{statement}

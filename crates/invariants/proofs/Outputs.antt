@@ -236,11 +236,14 @@ module _ (e : End) (f : SoundState e) where
   fired-right us NoWait c = silent-right e (Else Fire) (give Nothing e) refl
   fired-right us (First w) c = fire-right us (w .rank) (w .name) (keptUnder e (w .name) .slot) refl c
 
+  pub session-written : Written (sessionMessage e)
+  session-written = written (sessionMessage e) (session-counts e f) (session-passes e f) none
+
   -- Report, and a probe that arrives
   report-right : (a : Action) → ((cue : List ℕ) → a ≡ Send cue → ⊥) → ((b : ℕ) (s : List ℕ) → a ≡ Arrival (b ∷ s) → ⊥)
       → ((name : Name) → a ≡ Else (Fetch name) → ⊥) → (a ≡ Else Announce → ⊥) → (us : List ℕ) → Right e a (otherOf us Report e)
   report-right a no-send no-message no-fetch no-announce us =
-      out-right e a (sessionMessage e) e (written (sessionMessage e) (session-counts e f) (session-passes e f) none) (record {
+      out-right e a (sessionMessage e) e session-written (record {
         sender = refl;
         stamp = refl;
         sent = λ c p. absurd (no-send c p);

@@ -262,7 +262,7 @@ aside-heeds : (m : Meaning) (h : ℕ) (e : End) → isMember (e .status) ≡ fal
 unfolding heeds
 aside-heeds m h e t = rw t
 
-arrives : (us : List ℕ) (e : End) → Facts e → (x : List ℕ) (m : Meaning) → readAs x ≡ some m → Hears (e .host .0) e m (ifMember e (arrivalOf us m e))
+pub arrives : (us : List ℕ) (e : End) → Facts e → (x : List ℕ) (m : Meaning) → readAs x ≡ some m → Hears (e .host .0) e m (ifMember e (arrivalOf us m e))
 unfolding arrivalOf
 arrives us e f x m p =
     let h = e .host .0 in

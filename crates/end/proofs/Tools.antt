@@ -34,6 +34,10 @@ pub and-right : (a b : Bool) → a && b ≡ true → b ≡ true
 and-right true b h = h
 and-right false b h = clash′ h
 
+pub and-no : (a : Bool) → a && false ≡ false
+and-no true = refl
+and-no false = refl
+
 pub or-left : (a b : Bool) → a || b ≡ false → a ≡ false
 or-left true b h = h
 or-left false b h = refl

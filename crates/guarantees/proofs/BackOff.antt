@@ -361,7 +361,7 @@ less-product f a b d hf l hd =
     let sum : f * (a + 1) * d ≡ f * a * d + f * d = omega arith in
     omega arith
 
-set-quiet : (e : End) (clock : ℕ) (draws : List ℕ) (h n : ℕ) (q : Request) → h < 8 → e .params .c3 < e .params .c1 → sameHost (asHost h) (e .host) ≡ false → SetNow e clock draws h n q → q .quiet < q .due
+pub set-quiet : (e : End) (clock : ℕ) (draws : List ℕ) (h n : ℕ) (q : Request) → h < 8 → e .params .c3 < e .params .c1 → sameHost (asHost h) (e .host) ≡ false → SetNow e clock draws h n q → q .quiet < q .due
 set-quiet e clock draws h n q hh l other s =
     let quiet : q .quiet ≡ clock + factor (q .round) * e .params .c3 * distanceTo e (asHost h) = ap (λ (r : Request). r .quiet) (s .is) in
     let less = less-product (factor (q .round)) (e .params .c3) (e .params .c1) (distanceTo e (asHost h)) (factor-least (q .round)) l (far e (s .sound) h hh other) in

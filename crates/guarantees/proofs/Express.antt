@@ -41,7 +41,7 @@ use Rattle.end.specs.Arrival.{messageName, messageHost, wordOf, wordStep, messa
 use Rattle.end.specs.Fire.{requestRank, replyRank, fireAt, fired}
 use Rattle.end.specs.Event.{Action, Moves, Send, Arrival, Else, actOf, stepOf, questionOf, eventOf}
 use Rattle.end.proofs.RecordLaws.{at-outside}
-use Rattle.end.proofs.Tools.{byCond, byTest, clash′}
+use Rattle.end.proofs.Tools.{byCond, byTest, clash′, and-no}
 use Rattle.guarantees.specs.Calls.{momentAt}
 use Rattle.guarantees.specs.Records.{slotOf, requestIn, retired, Cause, ExpressStays, MayBecome, HeardAs}
 use Rattle.guarantees.specs.Waits.{waitsAt}
@@ -217,16 +217,12 @@ module _ (m : Meaning) (is : m .kind ≡ XPRS) where
   it-is : eqb (m .kind) XPRS ≡ true
   it-is = eq-eqb (m .kind) XPRS is
 
-  as-word : (us : List ℕ) (e : End) → sameHost (m .sender) (e .host) ≡ false → arrivalOf us m e ≡ wordStep us Xprs m e
+  pub as-word : (us : List ℕ) (e : End) → sameHost (m .sender) (e .host) ≡ false → arrivalOf us m e ≡ wordStep us Xprs m e
   unfolding arrivalOf messageStep
   as-word us e another = rw (another, no-data, no-request, no-repair, it-is)
 
 -- a name inside first..last passes RQST's first line
-and-no : (a : Bool) → a && false ≡ false
-and-no true = refl
-and-no false = refl
-
-reached-inside : (t : Moment) (w : Word) (x : Span) (d : Decision) → within x (w .name .number .0) ≡ true → reached t w x d ≡ d
+pub reached-inside : (t : Moment) (w : Word) (x : Span) (d : Decision) → within x (w .name .number .0) ≡ true → reached t w x d ≡ d
 unfolding reached
 reached-inside t w Closed d i = clash′ i
 reached-inside t w (Open first last) d i =

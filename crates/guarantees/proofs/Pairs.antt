@@ -45,7 +45,7 @@ use Rattle.end.specs.Opening.{openRefusal, endFor, openingOf}
 use Rattle.end.specs.Book.{source, isRepair, readAs}
 use Rattle.end.proofs.Grounds.{isRequest, Grounds, grounds}
 use Rattle.end.proofs.Readings.{reads}
-use Rattle.end.proofs.Tools.{byCond, byTest, clash′, set-elim, eqb-flip}
+use Rattle.end.proofs.Tools.{byCond, byTest, clash′, and-no, set-elim, eqb-flip}
 use Rattle.invariants.proofs.Facts.{facts}
 use Rattle.invariants.proofs.Questions.{Passed}
 use Rattle.guarantees.specs.Calls.{OneCall, after, afterAll}
@@ -113,10 +113,6 @@ unheard-pair me s hs = set-elim (λ (y : Source). y .pair ≡ NoPair) (replicate
 -- ---- what a message makes of a pair
 
 -- nothing, unless it is a REPL of this source, answered Got or Done
-and-no : (a : Bool) → a && false ≡ false
-and-no true = refl
-and-no false = refl
-
 module _ (s : ℕ) (p : Pair) (m : Meaning) (a : Effect) where
   other-kind : isRepair m ≡ false → pairMessage s p m a ≡ p
   unfolding pairMessage

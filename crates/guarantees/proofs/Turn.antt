@@ -55,18 +55,19 @@ turn-next p d t j =
 
 -- ---- a call
 
-refused-same : (e : End) (c : OneCall) → Taken e c ⊎ (after e c ≡ e)
+pub refused-same : (e : End) (c : OneCall) → Taken e c ⊎ (after e c ≡ e)
 unfolding eventOf
 refused-same e c = byCond (λ (r : Result). Taken e c ⊎ (r .left ≡ e)) (eqb (questionOf e (c .action) (c .clock) (c .room) (length (c .draws))) 0)
     (λ t. inl (eqb-true _ 0 t)) (λ t. inr refl)
 
-clock-after : (e : End) (c : OneCall) → (after e c .clock ≡ e .clock) ⊎ (after e c .clock ≡ c .clock)
-clock-after e c = call-cases (λ (r : Result). (r .left .clock ≡ e .clock) ⊎ (r .left .clock ≡ c .clock)) e (c .action) (c .clock) (c .room) (c .draws)
+-- the end is the same, or its clock is the call's
+pub clock-after : (e : End) (c : OneCall) → (after e c ≡ e) ⊎ (after e c .clock ≡ c .clock)
+clock-after e c = call-cases (λ (r : Result). (r .left ≡ e) ⊎ (r .left .clock ≡ c .clock)) e (c .action) (c .clock) (c .room) (c .draws)
     (λ k. inl refl) (λ z w. inl refl) (λ z w. inr (act-clock (c .draws) (withClock e (c .clock)) (c .action)))
 
 -- the end's clock is at most a time that neither its clock before nor the call's passes
 clock-by : (e : End) (c : OneCall) (due : ℕ) → e .clock ≤ due → c .clock ≤ due → after e c .clock ≤ due
-clock-by e c due a b = ⊎-elim (λ same. omega arith) (λ set. omega arith) (clock-after e c)
+clock-by e c due a b = ⊎-elim (λ same. omega (arith, ap (λ (x : End). x .clock) same)) (λ set. omega arith) (clock-after e c)
 
 -- ---- a request that waits in time: in round j, due by B(j), and the clock is not past its due time
 record InTime (p : Params) (h n d t j : ℕ) (e : End) : Type 0 where

@@ -54,7 +54,7 @@ unfolding sameBytes wasSent comes brings isArray allowed
 tests = 0
 
 -- ---- what they tell
-same-bytes : (xs ys : List ℕ) → sameBytes xs ys ≡ true → xs ≡ ys
+pub same-bytes : (xs ys : List ℕ) → sameBytes xs ys ≡ true → xs ≡ ys
 unfolding sameBytes
 same-bytes [] [] h = refl
 same-bytes [] (y ∷ ys) h = clash′ h
@@ -83,7 +83,7 @@ brought l (Arrival bytes) (Refused k) h = tt
 brought l (Arrival bytes) (Did a) h = from-out bytes l h
 brought l (Else e) o h = tt
 
-is-array : (ev : Action) → isArray ev ≡ true → CueArray ev
+pub is-array : (ev : Action) → isArray ev ≡ true → CueArray ev
 unfolding isArray
 is-array (Moves m) h = tt
 is-array (Send cue) h = eqb-true (length cue) 24 h

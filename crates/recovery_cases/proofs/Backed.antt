@@ -1,0 +1,213 @@
+-- The lists of what the statements suppose (specs/Needs.antt), each with a list of tests that computes; and that all of a list suffices for its claim, by
+-- the theorem.
+use Prim.Native.Nat.{ℕ, zero, suc, _+_, _*_, _≤_, _<_, min}
+use native.Mathlib.Omega.{arith}
+use mathlib.Core.Path.{_≡_, refl, sym, ap, _∙_, subst}
+use mathlib.Core.Bool.{Bool, true, false, not, _&&_, _||_}
+use mathlib.Core.List.{List, [], _∷_, _++_}
+use mathlib.Core.Option.{some as just}
+use lib.ListN.{length}
+use lib.Dec.{eqb, leb, ltb}
+use borrow.Author.Tests.{not-true, leb-true, ltb-true}
+use Rattle.message.specs.Entry.{asHost}
+use Rattle.message.specs.Question.{sameHost}
+use Rattle.message.proofs.QuestionLaws.{and-both}
+use Rattle.end.specs.declared.End.{End}
+use Rattle.end.specs.State.{sourceAt}
+use Rattle.end.specs.Records.{isClosed, isHeld}
+use Rattle.end.specs.Round.{factor}
+use Rattle.guarantees.specs.Calls.{OneCall, afterAll}
+use Rattle.guarantees.specs.Records.{slotOf, requestOf}
+use Rattle.guarantees.specs.Turn.{Claim, Always, Sometime, Taken, NeitherLeavesNorCrashes}
+use Rattle.cases.specs.Turn.{All, AllBut}
+use Rattle.recovery.specs.Recovery.{Side, opened, begun, timeOf, Recovery, UpTo, GotBy, Passes, Passed, RecoversBy}
+use Rattle.recovery.specs.Supposed.{AsksInTime, RepliesInTime, Keeps, Reaches, Settled, Supposed}
+use Rattle.recovery.specs.Whole.{RequestsReach, RequestsShared, RepairsReach, RepairsShared, Whole}
+use Rattle.recovery_cases.specs.Needs.{Needed, endsSuppose, networkSupposes}
+use Rattle.recovery_cases.proofs.Log.{gives, log, left, every, some, entry, fit, Fit, fits, Logs, logs, always, sometime, did, taken, start-is, at-start, always-before, always-behind, sometime-behind, never-behind}
+use Rattle.recovery_cases.proofs.Tests.{stays, stays-shows, upTo, up-to-shows, passes, passes-shows, keeps, keeps-shows, asksInTime, asks-in-time-shows, repliesInTime, replies-in-time-shows, reaches, reaches-shows, settled, settled-shows, gotBy, shows-got-by, requestsReach, requests-reach-shows, requestsShared, requests-shared-shows, repairsReach, repairs-reach-shows, repairsShared, repairs-shared-shows}
+
+-- ---- a list of facts with a list of tests
+abbrev pub Backed : List (Type 0) → List Bool → Type 0
+Backed [] bs = Unit {0}
+Backed (x ∷ xs) [] = ⊥
+Backed (x ∷ xs) (b ∷ bs) = (b ≡ true → x) × Backed xs bs
+
+and-then : (xs ys : List (Type 0)) (bs ds : List Bool) → length xs ≡ length bs → Backed xs bs → Backed ys ds → Backed (xs ++ ys) (bs ++ ds)
+and-then [] ys [] ds n k l = l
+and-then [] ys (b ∷ bs) ds n k l = absurd (let z : _≡_ {A = ℕ} 0 (suc (length bs)) = n in omega arith)
+and-then (x ∷ xs) ys [] ds n k l = absurd k
+and-then (x ∷ xs) ys (b ∷ bs) ds n k l = (k .0, and-then xs ys bs ds (let z : suc (length xs) ≡ suc (length bs) = n in omega arith) (k .1) l)
+
+abbrev pub allTrue : List Bool → Bool
+allTrue [] = true
+allTrue (b ∷ bs) = b && allTrue bs
+
+abbrev pub allBut : ℕ → List Bool → Bool
+allBut i [] = true
+allBut zero (b ∷ bs) = allTrue bs
+allBut (suc i) (b ∷ bs) = b && allBut i bs
+
+pub all-hold : (xs : List (Type 0)) (bs : List Bool) → Backed xs bs → allTrue bs ≡ true → All xs
+all-hold [] bs k h = tt
+all-hold (x ∷ xs) [] k h = absurd k
+all-hold (x ∷ xs) (b ∷ bs) k h = let both = and-both b (allTrue bs) h in (k .0 (both .0), all-hold xs bs (k .1) (both .1))
+
+-- all but one hold, and not all do: so that one fails
+all-but : (i : ℕ) (xs : List (Type 0)) (bs : List Bool) → Backed xs bs → allBut i bs ≡ true → (All xs → ⊥) → AllBut i xs
+all-but i [] bs k h fails = tt
+all-but i (x ∷ xs) [] k h fails = absurd k
+all-but zero (x ∷ xs) (b ∷ bs) k h fails = let rest = all-hold xs bs (k .1) h in (λ y. fails (y, rest), rest)
+all-but (suc i) (x ∷ xs) (b ∷ bs) k h fails =
+    let both = and-both b (allBut i bs) h in
+    let here = k .0 (both .0) in
+    (here, all-but i xs bs (k .1) (both .1) (λ rest. fails (here, rest)))
+
+pub needed : (i : ℕ) (xs : List (Type 0)) (claim : Type 0) (bs : List Bool) → Backed xs bs → (All xs → claim) → allBut i bs ≡ true → (claim → ⊥)
+    → Needed i xs claim
+needed i xs claim bs k suffices h missed = record { alone = all-but i xs bs k h (λ a. missed (suffices a)); missed = missed }
+
+-- the three parts of a list of which all hold
+first-part : (xs ys : List (Type 0)) → All (xs ++ ys) → All xs × All ys
+first-part [] ys a = (tt, a)
+first-part (x ∷ xs) ys a = let rest = first-part xs ys (a .1) in ((a .0, rest .0), rest .1)
+
+pub three-parts : (xs ys zs : List (Type 0)) → All (xs ++ (ys ++ zs)) → All xs × All ys × All zs
+three-parts xs ys zs a =
+    let one = first-part xs (ys ++ zs) a in
+    let two = first-part ys zs (one .1) in
+    (one .0, two .0, two .1)
+
+-- and a list of three parts with its tests
+pub three-backed : (xs ys zs : List (Type 0)) (bs ds es : List Bool) → length xs ≡ length bs → length ys ≡ length ds → Backed xs bs → Backed ys ds → Backed zs es
+    → Backed (xs ++ (ys ++ zs)) (bs ++ (ds ++ es))
+three-backed xs ys zs bs ds es n o k l p = and-then xs (ys ++ zs) bs (ds ++ es) n k (and-then ys zs ds es o l p)
+
+-- ---- the two ends
+abbrev pub endsTests : Recovery → ℕ → Logs → Logs → List Bool
+endsTests m t1 a h =
+    ltb (m .source) 8
+    ∷ not (sameHost (opened (m .asker) .host) (opened (m .holder) .host))
+    ∷ not (sameHost (asHost (m .source)) (opened (m .asker) .host))
+    ∷ every (upTo (m .asker) t1) (a .before)
+    ∷ every (upTo (m .holder) t1) (h .before)
+    ∷ not (isClosed (sourceAt (a .start) (asHost (m .source)) .span))
+    ∷ not (isHeld (slotOf (a .start) (m .source) (m .number)))
+    ∷ isHeld (slotOf (h .start) (m .source) (m .number))
+    ∷ true
+    ∷ true
+    ∷ every stays (a .behind)
+    ∷ every stays (h .behind)
+    ∷ every (keeps m) (a .behind)
+    ∷ every (keeps m) (h .behind)
+    ∷ every (asksInTime m) (a .behind)
+    ∷ every (repliesInTime m) (h .behind)
+    ∷ settled m (h .start)
+    ∷ every (reaches m) (h .behind)
+    ∷ []
+
+-- ---- the network, at the times that a predicate names, by a test of the times
+abbrev pub networkTests : (m : Recovery) (on : ℕ → Type 0) (when : ℕ → Bool) → ((t : ℕ) → on t → when t ≡ true) → Logs → Logs → List Bool
+networkTests m on when says a h =
+    every (requestsReach m on when says h) (a .behind)
+    ∷ every (requestsShared m on when says h) (a .behind)
+    ∷ every (repairsReach m on when says a) (h .behind)
+    ∷ every (repairsShared m on when says a) (h .behind)
+    ∷ []
+
+-- the calls of a side have arguments of their declared types
+pub record SideFits (x : Side) : Type 0 where
+  pub earlier : Fit (x .earlier)
+  pub later : Fit (x .later)
+
+abbrev pub sideFit : Side → Bool
+sideFit x = fit (x .earlier) && fit (x .later)
+
+pub side-fits : (x : Side) → sideFit x ≡ true → SideFits x
+side-fits x h = let both = and-both (fit (x .earlier)) (fit (x .later)) h in record { earlier = fits (x .earlier) (both .0); later = fits (x .later) (both .1) }
+
+module _ (m : Recovery) (fa : SideFits (m .asker)) (fh : SideFits (m .holder)) where
+  abbrev asker : Side
+  asker = m .asker
+
+  abbrev holder : Side
+  holder = m .holder
+
+  pub ends-backed : (t1 : ℕ) → Backed (endsSuppose m t1) (endsTests m t1 (logs asker) (logs holder))
+  ends-backed t1 =
+      let ea = fa .earlier in
+      let la = fa .later in
+      let eh = fh .earlier in
+      let lh = fh .later in
+      (ltb-true (m .source) 8,
+      (not-true _,
+      (not-true _,
+      (always-before asker ea la (UpTo asker t1) (upTo asker t1) (up-to-shows asker t1),
+      (always-before holder eh lh (UpTo holder t1) (upTo holder t1) (up-to-shows holder t1),
+      (λ h. at-start asker ea la (λ (e : End). isClosed (sourceAt e (asHost (m .source)) .span) ≡ false) (not-true _ h),
+      (λ h. at-start asker ea la (λ (e : End). isHeld (slotOf e (m .source) (m .number)) ≡ false) (not-true _ h),
+      (λ h. at-start holder eh lh (λ (e : End). isHeld (slotOf e (m .source) (m .number)) ≡ true) h,
+      (λ _. la .0,
+      (λ _. lh .0,
+      (always-behind asker ea la NeitherLeavesNorCrashes stays stays-shows,
+      (always-behind holder eh lh NeitherLeavesNorCrashes stays stays-shows,
+      (always-behind asker ea la (Keeps m) (keeps m) (keeps-shows m),
+      (always-behind holder eh lh (Keeps m) (keeps m) (keeps-shows m),
+      (always-behind asker ea la (AsksInTime m) (asksInTime m) (asks-in-time-shows m),
+      (always-behind holder eh lh (RepliesInTime m) (repliesInTime m) (replies-in-time-shows m),
+      (λ h. at-start holder eh lh (λ (e : End). Settled m e) (settled-shows m (logs holder .start) h),
+      (always-behind holder eh lh (Reaches m) (reaches m) (reaches-shows m),
+      tt))))))))))))))))))
+
+  module _ (on : ℕ → Type 0) (when : ℕ → Bool) (says : (t : ℕ) → on t → when t ≡ true) where
+    pub network-backed : Backed (networkSupposes m on) (networkTests m on when says (logs asker) (logs holder))
+    network-backed =
+        let ea = fa .earlier in
+        let la = fa .later in
+        let eh = fh .earlier in
+        let lh = fh .later in
+        (always-behind asker ea la (RequestsReach m on) (requestsReach m on when says (logs holder)) (requests-reach-shows m on when says eh lh),
+        (always-behind asker ea la (RequestsShared m on) (requestsShared m on when says (logs holder)) (requests-shared-shows m on when says eh lh),
+        (always-behind holder eh lh (RepairsReach m on) (repairsReach m on when says (logs asker)) (repairs-reach-shows m on when says ea la),
+        (always-behind holder eh lh (RepairsShared m on) (repairsShared m on when says (logs asker)) (repairs-shared-shows m on when says ea la),
+        tt))))
+
+  -- ---- a side has passed a time; the cue is not got by a time
+  pub asker-passed : (t : ℕ) → some (passes asker t) (logs asker .behind) ≡ true → Passed asker t
+  asker-passed t = sometime-behind asker (fa .earlier) (fa .later) (λ e c. Taken e c × (t < timeOf asker c)) (passes asker t) (passes-shows asker t)
+
+  pub holder-passed : (t : ℕ) → some (passes holder t) (logs holder .behind) ≡ true → Passed holder t
+  holder-passed t = sometime-behind holder (fh .earlier) (fh .later) (λ e c. Taken e c × (t < timeOf holder c)) (passes holder t) (passes-shows holder t)
+
+  pub not-got : (t : ℕ) → every (λ x. not (gotBy m t x)) (logs asker .behind) ≡ true → RecoversBy m t → ⊥
+  not-got t = never-behind asker (fa .earlier) (fa .later) (GotBy m t) (gotBy m t) (shows-got-by m t)
+
+-- ---- the records of the crate recovery
+pub supposed-of : (m : Recovery) (t1 : ℕ) → All (endsSuppose m t1) → Supposed m t1
+supposed-of m t1 (source, (two, (other, (asker-by, (holder-by, (open-there, (lacks, (holds, (asker-drawn, (holder-drawn, (asker-stays, (holder-stays, (asker-keeps, (holder-keeps, (asker-fires, (holder-fires, (settles, (reach, _)))))))))))))))))) =
+    record {
+      begins = record {
+        source = source;
+        two = two;
+        other = other;
+        asker-by = asker-by;
+        holder-by = holder-by;
+        open-there = open-there;
+        lacks = lacks;
+        holds = holds;
+      };
+      asker-drawn = asker-drawn;
+      holder-drawn = holder-drawn;
+      asker-stays = asker-stays;
+      holder-stays = holder-stays;
+      asker-keeps = asker-keeps;
+      holder-keeps = holder-keeps;
+      asker-fires = asker-fires;
+      holder-fires = holder-fires;
+      holder-settled = settles;
+      holder-reaches = reach;
+    }
+
+pub whole-of : (m : Recovery) (on : ℕ → Type 0) → All (networkSupposes m on) → Whole m on
+whole-of m on (requests, (shared, (mends, (mends-shared, _)))) =
+    record { requests = requests; requests-shared = shared; repairs = mends; repairs-shared = mends-shared }

@@ -1,0 +1,137 @@
+-- `Steady`, `Recovers` and `AfterOutage` on computed lists: lists in which all that they suppose holds; and lists in which `LongRound`, in either part,
+-- `Between`, in either part, or `Outlasts` alone fails and the bound is missed. What they suppose of the ends and the network is needed by OneRound.antt.
+use mathlib.Core.Path.{_≡_, refl}
+use mathlib.Core.List.{List, [], _∷_, _++_}
+use mathlib.Core.Option.{none, some}
+use Prim.Native.Nat.{ℕ, _+_, _≤_, _<_}
+use Rattle.message.specs.Entry.{asHost}
+use Rattle.end.specs.declared.Params.{Params}
+use Rattle.end.specs.declared.Request.{Request}
+use Rattle.end.specs.State.{distanceTo}
+use Rattle.end.specs.Event.{Send}
+use Rattle.end.specs.Opening.{houseParams}
+use Rattle.guarantees.specs.Calls.{OneCall, after}
+use Rattle.guarantees.specs.Records.{requestOf}
+use Rattle.cases.specs.Listing.{minusTwo}
+use Rattle.recovery.specs.Recovery.{begun, timeOf, Recovery, lookback, Passes, Passed, RecoversBy}
+use Rattle.recovery.specs.Supposed.{Supposed}
+use Rattle.recovery.specs.Whole.{Whole}
+use Rattle.recovery.specs.Answered.{steadyBy}
+use Rattle.recovery_cases.specs.Needs.{Met, Needed, Steadily, steadilySupposes, steadilyClaims, Rounds, roundsSuppose, roundsClaim, Outage, outageSupposes, outageClaims}
+use Rattle.recovery_cases.specs.Calls.{at, slow, fire, past, cue, request, echo, repair, heard0, sent, side, between, prompt}
+
+-- ---- the steady state, with the house's parameters and every wait as long as it can be
+
+-- The holder has the cue since t1 = 20; the asker learns of it by the gap of t0 = 400, asks at 1080, and has the repair of 1410 at 1420, the very bound:
+-- 400 + 680 + 20 + 320.
+abbrev pub steadyRest : List OneCall
+steadyRest = slow 1080 fire ∷ at 1420 (repair 0 1410 1) ∷ past 1421 ∷ []
+
+abbrev pub steady : Steadily
+steady = record {
+  recovery = between (side 1 houseParams heard0 (slow 400 (cue 2) ∷ steadyRest))
+      (side 0 houseParams sent (slow 1090 (request 1 1080) ∷ at 1410 fire ∷ past 1421 ∷ [])) 10 40;
+  t1 = 20;
+  far = 40;
+  mid = [];
+  call = slow 400 (cue 2);
+  rest = steadyRest;
+  parts = refl;
+  request = record { round = 1; due = 1080; quiet = 560 };
+}
+
+-- ---- a loss, with the parameters `prompt` and every wait as long as it can be
+
+-- The request of 712 is lost. That of 2072 is heard, and answered at once, at 2082; the cue is got at 2092.
+abbrev pub lossAsker : List OneCall
+lossAsker = slow 32 (cue 2) ∷ slow 712 fire ∷ slow 2072 fire ∷ at 2092 (repair 0 2082 1) ∷ []
+
+abbrev pub lossHolder : List OneCall
+lossHolder = at 2082 (request 1 2072) ∷ at 2082 fire ∷ []
+
+-- both ends have passed a time
+abbrev pub loss : ℕ → Recovery
+loss passed = between (side 1 prompt heard0 (lossAsker ++ (past passed ∷ []))) (side 0 prompt sent (lossHolder ++ (past passed ∷ []))) 10 40
+
+-- `Recovers`: J is 1 and k is 1, so the bound is 32 + 3×680 + 20, met exactly
+abbrev pub lossRounds : Rounds
+lossRounds = record { recovery = loss 2093; near = 40; far = 40; t1 = 32; t0 = 32; round = 1; j = 1; lost = 712 ∷ [] }
+
+-- `AfterOutage`: the outage ends at t1 = 712, F is 2, so the bound is 712 + 20 + 2×680 + 20
+abbrev pub lossOutage : Outage
+lossOutage = record { recovery = loss 2113; near = 40; far = 40; t1 = 712; t0 = 32; round = 1; f = 2 }
+
+-- ---- `Outlasts` alone fails: F is taken for 1, though round 2 is set at 712; the bound is 1432, and the next request is due at 2072
+abbrev pub outageLonger : Outage
+outageLonger = record {
+  recovery = between (side 1 prompt heard0 (slow 32 (cue 2) ∷ slow 712 fire ∷ past 1433 ∷ [])) (side 0 prompt sent (past 1433 ∷ [])) 10 40;
+  near = 40;
+  far = 40;
+  t1 = 712;
+  t0 = 32;
+  round = 1;
+  f = 1;
+}
+
+-- ---- round 1 is too short, with the house's parameters
+
+-- The asker's distance is 84. At t0 = 800 a repair of host 3 for host 2 goes out, is lost to the asker, and makes the holder, who hears it at 810, quiet
+-- up to 1130. A request of host 2, put out at 1127, is heard by the holder at once, and passed over, and by the asker at 1137, just after its quiet time:
+-- its next request is due at 2649, after the bound for J = 1, 800 + 1428 + 340.
+abbrev pub nearby : Recovery
+nearby = between (side 1 houseParams (heard0 ++ (at 700 (echo 0 1 28) ∷ [])) (at 800 (cue 2) ∷ at 1137 (request 2 1127) ∷ past 2569 ∷ []))
+    (side 0 houseParams sent (at 810 (repair 3 800 2) ∷ at 1127 (request 2 1127) ∷ past 2569 ∷ [])) 10 40
+
+-- J = 1 is not long enough at a distance of 84; it would be at 170, which the asker's distance is not
+abbrev pub quietTooShort : Rounds
+quietTooShort = record { recovery = nearby; near = 84; far = 84; t1 = 800; t0 = 800; round = 1; j = 1; lost = [] }
+
+abbrev pub nearerThan : Rounds
+nearerThan = record { recovery = nearby; near = 170; far = 84; t1 = 800; t0 = 800; round = 1; j = 1; lost = [] }
+
+-- the asker's distance is 1000, and not up to 40: its first request is due at 17010, after the bound for J = 3, 8010 + 7×680 + 340
+abbrev pub fartherThan : Rounds
+fartherThan = record {
+  recovery = between (side 1 houseParams (heard0 ++ (at 8000 (echo 0 1 0) ∷ [])) (at 8010 (cue 2) ∷ past 13111 ∷ [])) (side 0 houseParams sent (past 13111 ∷ []))
+      10 40;
+  near = 40;
+  far = 40;
+  t1 = 8000;
+  t0 = 8010;
+  round = 1;
+  j = 3;
+  lost = [];
+}
+
+-- ---- the round after it is too short, with D3 = 0
+
+-- The asker's distance to the source is 10, the holder's to the asker 100. The reply to the request of 890 waits up to 1699, and is lost; the requests of
+-- 1070 and 1430 find it waiting. The next is due at 2150, which is the bound for J = 1 and k = 1: 800 + 3×170 + 40 + 800.
+abbrev pub neverQuiet : Params
+neverQuiet = record { c1 = 9; c2 = 8; c3 = 4; d1 = 4; d2 = 4; d3 = 0; express = 0 }
+
+abbrev pub nextTooShort : Rounds
+nextTooShort = record {
+  recovery = between
+      (side 1 neverQuiet (heard0 ++ (at 90 (echo 0 1 10) ∷ [])) (at 800 (cue 2) ∷ at 890 fire ∷ at 1070 fire ∷ at 1430 fire ∷ at 2150 fire ∷ past 2151 ∷ []))
+      (side 0 neverQuiet (sent ++ (at 799 (echo 1 0 0) ∷ []))
+      (slow 899 (request 1 890) ∷ at 1079 (request 1 1070) ∷ at 1439 (request 1 1430) ∷ at 1699 fire ∷ at 2150 (request 1 2150) ∷ past 2151 ∷ []))
+      20 100;
+  near = 10;
+  far = 10;
+  t1 = 800;
+  t0 = 800;
+  round = 1;
+  j = 1;
+  lost = 1699 ∷ [];
+}
+
+pub record RoundsShown : Type 0 where
+  pub steady : Met (steadilySupposes steady) (steadilyClaims steady) (RecoversBy (steady .recovery) 1419)
+  pub loss : Met (roundsSuppose lossRounds) (roundsClaim lossRounds) (RecoversBy (lossRounds .recovery) 2091)
+  pub outage : Met (outageSupposes lossOutage) (outageClaims lossOutage) (RecoversBy (lossOutage .recovery) 2091)
+  pub quiet : Needed 25 (roundsSuppose quietTooShort) (roundsClaim quietTooShort)
+  pub next : Needed 26 (roundsSuppose nextTooShort) (roundsClaim nextTooShort)
+  pub near : Needed 27 (roundsSuppose nearerThan) (roundsClaim nearerThan)
+  pub far : Needed 27 (roundsSuppose fartherThan) (roundsClaim fartherThan)
+  pub outlasts : Needed 24 (outageSupposes outageLonger) (outageClaims outageLonger)

@@ -1,30 +1,27 @@
 -- The lists of what the statements suppose (specs/Needs.antt), each with a list of tests that computes; and that all of a list suffices for its claim, by
 -- the theorem.
-use Prim.Native.Nat.{ℕ, zero, suc, _+_, _*_, _≤_, _<_, min}
+use Prim.Native.Nat.{ℕ, zero, suc, _+_, _<_}
 use native.Mathlib.Omega.{arith}
-use mathlib.Core.Path.{_≡_, refl, sym, ap, _∙_, subst}
-use mathlib.Core.Bool.{Bool, true, false, not, _&&_, _||_}
+use mathlib.Core.Path.{_≡_, refl}
+use mathlib.Core.Bool.{Bool, true, false, not, _&&_}
 use mathlib.Core.List.{List, [], _∷_, _++_}
-use mathlib.Core.Option.{some as just}
 use lib.ListN.{length}
-use lib.Dec.{eqb, leb, ltb}
-use borrow.Author.Tests.{not-true, leb-true, ltb-true}
+use lib.Dec.{ltb}
+use borrow.Author.Tests.{not-true, ltb-true}
 use Rattle.message.specs.Entry.{asHost}
 use Rattle.message.specs.Question.{sameHost}
 use Rattle.message.proofs.QuestionLaws.{and-both}
 use Rattle.end.specs.declared.End.{End}
 use Rattle.end.specs.State.{sourceAt}
 use Rattle.end.specs.Records.{isClosed, isHeld}
-use Rattle.end.specs.Round.{factor}
-use Rattle.guarantees.specs.Calls.{OneCall, afterAll}
-use Rattle.guarantees.specs.Records.{slotOf, requestOf}
-use Rattle.guarantees.specs.Turn.{Claim, Always, Sometime, Taken, NeitherLeavesNorCrashes}
+use Rattle.guarantees.specs.Records.{slotOf}
+use Rattle.guarantees.specs.Turn.{Taken, NeitherLeavesNorCrashes}
 use Rattle.cases.specs.Turn.{All, AllBut}
-use Rattle.recovery.specs.Recovery.{Side, opened, begun, timeOf, Recovery, UpTo, GotBy, Passes, Passed, RecoversBy}
+use Rattle.recovery.specs.Recovery.{Side, opened, timeOf, Recovery, UpTo, GotBy, Passed, RecoversBy}
 use Rattle.recovery.specs.Supposed.{AsksInTime, RepliesInTime, Keeps, Reaches, Settled, Supposed}
 use Rattle.recovery.specs.Whole.{RequestsReach, RequestsShared, RepairsReach, RepairsShared, Whole}
-use Rattle.recovery_cases.specs.Needs.{Needed, endsSuppose, networkSupposes}
-use Rattle.recovery_cases.proofs.Log.{gives, log, left, every, some, entry, fit, Fit, fits, Logs, logs, always, sometime, did, taken, start-is, at-start, always-before, always-behind, sometime-behind, never-behind}
+use Rattle.recovery_cases.specs.Needs.{endsSuppose, networkSupposes, Statement, supposes, claims, Met, Needed}
+use Rattle.recovery_cases.proofs.Log.{every, some, fit, Fit, fits, Logs, logs, at-start, always-before, always-behind, sometime-behind, never-behind}
 use Rattle.recovery_cases.proofs.Tests.{stays, stays-shows, upTo, up-to-shows, passes, passes-shows, keeps, keeps-shows, asksInTime, asks-in-time-shows, repliesInTime, replies-in-time-shows, reaches, reaches-shows, settled, settled-shows, gotBy, shows-got-by, requestsReach, requests-reach-shows, requestsShared, requests-shared-shows, repairsReach, repairs-reach-shows, repairsShared, repairs-shared-shows}
 
 -- ---- a list of facts with a list of tests
@@ -62,10 +59,6 @@ all-but (suc i) (x ∷ xs) (b ∷ bs) k h fails =
     let both = and-both b (allBut i bs) h in
     let here = k .0 (both .0) in
     (here, all-but i xs bs (k .1) (both .1) (λ rest. fails (here, rest)))
-
-pub needed : (i : ℕ) (xs : List (Type 0)) (claim : Type 0) (bs : List Bool) → Backed xs bs → (All xs → claim) → allBut i bs ≡ true → (claim → ⊥)
-    → Needed i xs claim
-needed i xs claim bs k suffices h missed = record { alone = all-but i xs bs k h (λ a. missed (suffices a)); missed = missed }
 
 -- the three parts of a list of which all hold
 first-part : (xs ys : List (Type 0)) → All (xs ++ ys) → All xs × All ys
@@ -106,13 +99,13 @@ endsTests m t1 a h =
     ∷ every (reaches m) (h .behind)
     ∷ []
 
--- ---- the network, at the times that a predicate names, by a test of the times
-abbrev pub networkTests : (m : Recovery) (on : ℕ → Type 0) (when : ℕ → Bool) → ((t : ℕ) → on t → when t ≡ true) → Logs → Logs → List Bool
-networkTests m on when says a h =
-    every (requestsReach m on when says h) (a .behind)
-    ∷ every (requestsShared m on when says h) (a .behind)
-    ∷ every (repairsReach m on when says a) (h .behind)
-    ∷ every (repairsShared m on when says a) (h .behind)
+-- ---- the network, by a test of the times at which nothing is lost
+abbrev pub networkTests : Recovery → (ℕ → Bool) → Logs → Logs → List Bool
+networkTests m when a h =
+    every (requestsReach m when h) (a .behind)
+    ∷ every (requestsShared m when h) (a .behind)
+    ∷ every (repairsReach m when a) (h .behind)
+    ∷ every (repairsShared m when a) (h .behind)
     ∷ []
 
 -- the calls of a side have arguments of their declared types
@@ -160,16 +153,16 @@ module _ (m : Recovery) (fa : SideFits (m .asker)) (fh : SideFits (m .holder)) w
       tt))))))))))))))))))
 
   module _ (on : ℕ → Type 0) (when : ℕ → Bool) (says : (t : ℕ) → on t → when t ≡ true) where
-    pub network-backed : Backed (networkSupposes m on) (networkTests m on when says (logs asker) (logs holder))
+    pub network-backed : Backed (networkSupposes m on) (networkTests m when (logs asker) (logs holder))
     network-backed =
         let ea = fa .earlier in
         let la = fa .later in
         let eh = fh .earlier in
         let lh = fh .later in
-        (always-behind asker ea la (RequestsReach m on) (requestsReach m on when says (logs holder)) (requests-reach-shows m on when says eh lh),
-        (always-behind asker ea la (RequestsShared m on) (requestsShared m on when says (logs holder)) (requests-shared-shows m on when says eh lh),
-        (always-behind holder eh lh (RepairsReach m on) (repairsReach m on when says (logs asker)) (repairs-reach-shows m on when says ea la),
-        (always-behind holder eh lh (RepairsShared m on) (repairsShared m on when says (logs asker)) (repairs-shared-shows m on when says ea la),
+        (always-behind asker ea la (RequestsReach m on) (requestsReach m when (logs holder)) (requests-reach-shows m when on says eh lh),
+        (always-behind asker ea la (RequestsShared m on) (requestsShared m when (logs holder)) (requests-shared-shows m when on says eh lh),
+        (always-behind holder eh lh (RepairsReach m on) (repairsReach m when (logs asker)) (repairs-reach-shows m when on says ea la),
+        (always-behind holder eh lh (RepairsShared m on) (repairsShared m when (logs asker)) (repairs-shared-shows m when on says ea la),
         tt))))
 
   -- ---- a side has passed a time; the cue is not got by a time
@@ -211,3 +204,36 @@ supposed-of m t1 (source, (two, (other, (asker-by, (holder-by, (open-there, (lac
 pub whole-of : (m : Recovery) (on : ℕ → Type 0) → All (networkSupposes m on) → Whole m on
 whole-of m on (requests, (shared, (mends, (mends-shared, _)))) =
     record { requests = requests; requests-shared = shared; repairs = mends; repairs-shared = mends-shared }
+
+-- ---- a statement, with tests of what it supposes of its own
+abbrev pub testsOf : Statement → (ℕ → Bool) → (Logs → Logs → List Bool) → Logs → Logs → List Bool
+testsOf s when own a h = endsTests (s .recovery) (s .t1) a h ++ (networkTests (s .recovery) when a h ++ own a h)
+
+module _ (s : Statement) (suffices : Supposed (s .recovery) (s .t1) → Whole (s .recovery) (s .on) → All (s .own) → claims s)
+    (when : ℕ → Bool) (says : (t : ℕ) → s .on t → when t ≡ true) (own : Logs → Logs → List Bool) (fa : SideFits (s .recovery .asker)) (fh : SideFits (s .recovery .holder))
+    (own-backed : Backed (s .own) (own (logs (s .recovery .asker)) (logs (s .recovery .holder)))) where
+  abbrev m₀ : Recovery
+  m₀ = s .recovery
+
+  abbrev tests₀ : List Bool
+  tests₀ = testsOf s when own (logs (m₀ .asker)) (logs (m₀ .holder))
+
+  backed : Backed (supposes s) tests₀
+  backed = three-backed (endsSuppose m₀ (s .t1)) (networkSupposes m₀ (s .on)) (s .own)
+      (endsTests m₀ (s .t1) (logs (m₀ .asker)) (logs (m₀ .holder))) (networkTests m₀ when (logs (m₀ .asker)) (logs (m₀ .holder)))
+      (own (logs (m₀ .asker)) (logs (m₀ .holder))) refl refl (ends-backed m₀ fa fh (s .t1)) (network-backed m₀ fa fh (s .on) when says) own-backed
+
+  all-suffice : All (supposes s) → claims s
+  all-suffice a =
+      let parts = three-parts (endsSuppose m₀ (s .t1)) (networkSupposes m₀ (s .on)) (s .own) a in
+      suffices (supposed-of m₀ (s .t1) (parts .0)) (whole-of m₀ (s .on) (parts .1)) (parts .2)
+
+  pub met : (t : ℕ) → allTrue tests₀ ≡ true → every (λ x. not (gotBy m₀ t x)) (logs (m₀ .asker) .behind) ≡ true → Met s t
+  met t h unseen =
+      let a = all-hold (supposes s) tests₀ backed h in
+      record { holds = a; reached = all-suffice a; no-sooner = not-got m₀ fa fh t unseen }
+
+  pub needed : (i : ℕ) → allBut i tests₀ ≡ true → every (λ x. not (gotBy m₀ (s .by) x)) (logs (m₀ .asker) .behind) ≡ true → Needed i s
+  needed i h unseen =
+      let missed = not-got m₀ fa fh (s .by) unseen in
+      record { alone = all-but i (supposes s) tests₀ backed h (λ a. missed (all-suffice a)); missed = missed }

@@ -1,6 +1,6 @@
 -- Calls on an end, computed once: a log of what each call finds and gives. Question 3, whether the state is sound, is by far the dearest part of a call;
 -- an end that was opened is always sound (the crate invariants), so the log does not ask it.
-use Prim.Native.Nat.{ℕ, zero, suc, _≤_}
+use Prim.Native.Nat.{ℕ, zero, suc}
 use native.Mathlib.Omega.{arith}
 use mathlib.Core.Path.{_≡_, refl, sym, ap, _∙_, subst}
 use mathlib.Core.Bool.{Bool, true, false, cond, not, _&&_, _||_}

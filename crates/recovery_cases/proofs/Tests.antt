@@ -1,9 +1,9 @@
 -- A test for each thing that is supposed of a call, on the entry that the log has of it: where it computes to true, the thing holds.
-use Prim.Native.Nat.{ℕ, _+_, _-_, _*_, _≤_, _<_}
+use Prim.Native.Nat.{ℕ, _+_, _-_, _*_, _<_}
 use native.Mathlib.Omega.{arith}
 use mathlib.Core.Path.{_≡_, refl, sym, ap, _∙_}
 use mathlib.Core.Bool.{Bool, true, false, not, _&&_, _||_}
-use mathlib.Core.List.{List, [], _∷_}
+use mathlib.Core.List.{List}
 use mathlib.Core.Option.{Option, none, some as just}
 use lib.Dec.{eqb, leb, ltb}
 use borrow.Author.Tests.{not-true, eq-eqb, leb-true, ltb-true, le-leb, lt-leb}
@@ -16,12 +16,12 @@ use Rattle.end.specs.declared.Reply.{Reply}
 use Rattle.end.specs.declared.Reply.the-variants.{No, Due}
 use Rattle.end.specs.declared.End.{End}
 use Rattle.end.specs.State.{sourceAt, distanceTo}
-use Rattle.end.specs.Records.{isBelow, isHeld, replyIn}
+use Rattle.end.specs.Records.{isBelow, replyIn}
 use Rattle.end.specs.Sound.{allBelow}
 use Rattle.end.specs.Answer.{Effect, Out, Got, Done, Ignored, Nothing, Clash, Late, Exhausted, Outcome, Refused, Did}
 use Rattle.end.specs.Event.{Action, Moves, Send, Arrival, Else}
 use Rattle.end.proofs.SoundLaws.{all-at}
-use Rattle.end.proofs.Tools.{clash, clash′, or-alone}
+use Rattle.end.proofs.Tools.{clash′, or-alone}
 use Rattle.guarantees.specs.Calls.{OneCall}
 use Rattle.guarantees.specs.Records.{recordOf, slotOf, requestOf, clearing}
 use Rattle.guarantees.specs.Arrivals.{isAbout, asks}
@@ -207,13 +207,19 @@ module _ (m : Recovery) where
   pub shows-got-by : (t : ℕ) (e : End) (c : OneCall) → GotBy m t e c → gotBy t (entry e c (gives e c)) ≡ true
   shows-got-by t e c g = rw (ap (gets (m .number)) (g .0 .1) ∙ eq-eqb (m .number) (m .number) refl, le-leb (timeOf (m .asker) c) t (g .1)) refl
 
--- ---- of the network, at the times that a predicate names, by a test of the times
-module _ (m : Recovery) (on : ℕ → Type 0) (when : ℕ → Bool) (says : (t : ℕ) → on t → when t ≡ true) where
-  abbrev clear : ℕ → Bool
-  clear t = when t && when (t - m .delay)
+-- ---- of the network, by a test of the times at which nothing is lost
 
-  clear-says : (t : ℕ) → Clear m on t → clear t ≡ true
-  clear-says t c = rw (says t (c t (omega arith) (omega arith)), says (t - m .delay) (c (t - m .delay) (omega arith) (omega arith))) refl
+-- no request waits, or it is quiet
+abbrev quietThen : ℕ → Option Request → Bool
+quietThen clock none = true
+quietThen clock (just q) = leb clock (q .quiet)
+
+module _ (m : Recovery) (when : ℕ → Bool) where
+  abbrev pub isAsking : Meaning → Bool
+  isAsking y = asks y (m .source) (m .number)
+
+  abbrev pub isMending : Meaning → Bool
+  isMending y = isAbout REPL y (m .source) (m .number)
 
   -- what this side puts out of a kind, the other takes
   abbrev reach : ℕ → Side → Side → Logs → Test
@@ -226,33 +232,14 @@ module _ (m : Recovery) (on : ℕ → Type 0) (when : ℕ → Bool) (says : (t :
   abbrev pub repairsReach : Logs → Test
   repairsReach l = reach REPL (m .holder) (m .asker) l
 
-  reach-heard : (kind : ℕ) (x y : Side) → Fit (y .earlier) → Fit (y .later) → (e : End) (c : OneCall)
-      → reach kind x y (logs y) (entry e c (gives e c)) ≡ true → (bytes : List ℕ) → answerOf e c ≡ Did (Out bytes)
-      → isAbout kind (meaningFrom bytes) (m .source) (m .number) ≡ true → on (timeOf x c) → HearsAbout m y bytes (timeOf x c)
-  reach-heard kind x y f g e c p bytes out about now = hears-about m y f g bytes (timeOf x c)
-      (holds-if _ _ (holds-if _ _ (sym (ap (outs _) out) ∙ p) about) (says (timeOf x c) now))
-
-  pub requests-reach-shows : Fit (m .holder .earlier) → Fit (m .holder .later) → Shows (requestsReach (logs (m .holder))) (RequestsReach m on)
-  requests-reach-shows f g = reach-heard RQST (m .asker) (m .holder) f g
-
-  pub repairs-reach-shows : Fit (m .asker .earlier) → Fit (m .asker .later) → Shows (repairsReach (logs (m .asker))) (RepairsReach m on)
-  repairs-reach-shows f g = reach-heard REPL (m .holder) (m .asker) f g
-
-  -- no request waits, or it is quiet
-  abbrev quietThen : ℕ → Option Request → Bool
-  quietThen clock none = true
-  quietThen clock (just q) = leb clock (q .quiet)
+  -- nothing is lost from Δ before a time up to it: tested at both
+  abbrev clear : ℕ → Bool
+  clear t = when t && when (t - m .delay)
 
   -- what this side takes of messages that `which` tells, the other takes too, and takes it for another's
   abbrev sharedBy : (Meaning → Bool) → Side → Side → Logs → Entry → List ℕ → Bool
   sharedBy which x y l z b = not (which (meaningFrom b)) || (not (clear (timeOf x (z .call)))
       || (not (sameHost (meaningFrom b .sender) (opened y .host)) && hears m y l b (timeOf x (z .call))))
-
-  abbrev isAsking : Meaning → Bool
-  isAsking y = asks y (m .source) (m .number)
-
-  abbrev isMending : Meaning → Bool
-  isMending y = isAbout REPL y (m .source) (m .number)
 
   abbrev pub requestsShared : Logs → Test
   requestsShared l z = quietThen (z .call .clock) (requestOf (z .state) (m .source) (m .number))
@@ -261,18 +248,35 @@ module _ (m : Recovery) (on : ℕ → Type 0) (when : ℕ → Bool) (says : (t :
   abbrev pub repairsShared : Logs → Test
   repairsShared l z = arrives (sharedBy isMending (m .holder) (m .asker) l z) (z .call .action)
 
-  shared-heard : (which : Meaning → Bool) (x y : Side) → Fit (y .earlier) → Fit (y .later) → (e : End) (c : OneCall) (bytes : List ℕ)
-      → arrives (sharedBy which x y (logs y) (entry e c (gives e c))) (c .action) ≡ true → c .action ≡ Arrival bytes
-      → which (meaningFrom bytes) ≡ true → Clear m on (timeOf x c) → FromOther bytes (opened y) × HearsAbout m y bytes (timeOf x c)
-  shared-heard which x y f g e c bytes p is tells free =
-      let both = and-both (not (sameHost (meaningFrom bytes .sender) (opened y .host))) _
-      (holds-if _ _ (holds-if _ _ (sym (ap (arrives _) is) ∙ p) tells) (clear-says (timeOf x c) free)) in
-      (not-true _ (both .0), hears-about m y f g bytes (timeOf x c) (both .1))
+  -- where the test tells the times that a predicate names
+  module _ (on : ℕ → Type 0) (says : (t : ℕ) → on t → when t ≡ true) where
+    clear-says : (t : ℕ) → Clear m on t → clear t ≡ true
+    clear-says t c = rw (says t (c t (omega arith) (omega arith)), says (t - m .delay) (c (t - m .delay) (omega arith) (omega arith))) refl
 
-  pub requests-shared-shows : Fit (m .holder .earlier) → Fit (m .holder .later) → Shows (requestsShared (logs (m .holder))) (RequestsShared m on)
-  requests-shared-shows f g e c p tk q found over bytes is tells another free =
-      let loud : quietThen (c .clock) (requestOf e (m .source) (m .number)) ≡ false = ap (quietThen (c .clock)) found ∙ lt-leb (c .clock) (q .quiet) over in
-      shared-heard isAsking (m .asker) (m .holder) f g e c bytes (or-alone _ _ p loud) is tells free
+    reach-heard : (kind : ℕ) (x y : Side) → Fit (y .earlier) → Fit (y .later) → (e : End) (c : OneCall)
+        → reach kind x y (logs y) (entry e c (gives e c)) ≡ true → (bytes : List ℕ) → answerOf e c ≡ Did (Out bytes)
+        → isAbout kind (meaningFrom bytes) (m .source) (m .number) ≡ true → on (timeOf x c) → HearsAbout m y bytes (timeOf x c)
+    reach-heard kind x y f g e c p bytes out about now = hears-about m y f g bytes (timeOf x c)
+        (holds-if _ _ (holds-if _ _ (sym (ap (outs _) out) ∙ p) about) (says (timeOf x c) now))
 
-  pub repairs-shared-shows : Fit (m .asker .earlier) → Fit (m .asker .later) → Shows (repairsShared (logs (m .asker))) (RepairsShared m on)
-  repairs-shared-shows f g e c p tk bytes is tells another free = shared-heard isMending (m .holder) (m .asker) f g e c bytes p is tells free
+    pub requests-reach-shows : Fit (m .holder .earlier) → Fit (m .holder .later) → Shows (requestsReach (logs (m .holder))) (RequestsReach m on)
+    requests-reach-shows f g = reach-heard RQST (m .asker) (m .holder) f g
+
+    pub repairs-reach-shows : Fit (m .asker .earlier) → Fit (m .asker .later) → Shows (repairsReach (logs (m .asker))) (RepairsReach m on)
+    repairs-reach-shows f g = reach-heard REPL (m .holder) (m .asker) f g
+
+    shared-heard : (which : Meaning → Bool) (x y : Side) → Fit (y .earlier) → Fit (y .later) → (e : End) (c : OneCall) (bytes : List ℕ)
+        → arrives (sharedBy which x y (logs y) (entry e c (gives e c))) (c .action) ≡ true → c .action ≡ Arrival bytes
+        → which (meaningFrom bytes) ≡ true → Clear m on (timeOf x c) → FromOther bytes (opened y) × HearsAbout m y bytes (timeOf x c)
+    shared-heard which x y f g e c bytes p is tells free =
+        let both = and-both (not (sameHost (meaningFrom bytes .sender) (opened y .host))) _
+        (holds-if _ _ (holds-if _ _ (sym (ap (arrives _) is) ∙ p) tells) (clear-says (timeOf x c) free)) in
+        (not-true _ (both .0), hears-about m y f g bytes (timeOf x c) (both .1))
+
+    pub requests-shared-shows : Fit (m .holder .earlier) → Fit (m .holder .later) → Shows (requestsShared (logs (m .holder))) (RequestsShared m on)
+    requests-shared-shows f g e c p tk q found over bytes is tells another free =
+        let loud : quietThen (c .clock) (requestOf e (m .source) (m .number)) ≡ false = ap (quietThen (c .clock)) found ∙ lt-leb (c .clock) (q .quiet) over in
+        shared-heard isAsking (m .asker) (m .holder) f g e c bytes (or-alone _ _ p loud) is tells free
+
+    pub repairs-shared-shows : Fit (m .asker .earlier) → Fit (m .asker .later) → Shows (repairsShared (logs (m .asker))) (RepairsShared m on)
+    repairs-shared-shows f g e c p tk bytes is tells another free = shared-heard isMending (m .holder) (m .asker) f g e c bytes p is tells free

@@ -23,19 +23,6 @@ use Rattle.recovery.specs.Answered.{answeredBy, steadyBy}
 use Rattle.recovery.specs.Losses.{Between, FirstAsks, lossesBy}
 use Rattle.recovery.specs.Outage.{Outlasts, outageBy}
 
--- ---- met, and needed
-
--- all that is supposed holds; the claim holds, as the statement says; and what is said of a tick sooner does not, so the bound is met exactly
-pub record Met (supposed : List (Type 0)) (claim sooner : Type 0) : Type 0 where
-  pub holds : All supposed
-  pub reached : claim
-  pub no-sooner : sooner → ⊥
-
--- what is supposed at place i fails, all else holds, and the claim fails
-pub record Needed (i : ℕ) (supposed : List (Type 0)) (claim : Type 0) : Type 0 where
-  pub alone : AllBut i supposed
-  pub missed : claim → ⊥
-
 -- ---- what is supposed of the two ends (`Supposed`), places 0 to 17
 abbrev pub endsSuppose : Recovery → ℕ → List (Type 0)
 endsSuppose m t1 =
@@ -68,6 +55,39 @@ networkSupposes m on =
     ∷ Always (RepairsShared m on) (begun (m .holder)) (m .holder .later)
     ∷ []
 
+-- ---- a statement on a recovery
+
+-- What it supposes of the ends at t1 and of the network at the times that `on` names, what it supposes besides, and the time by which the cue is got.
+pub record Statement : Type 1 where
+  pub recovery : Recovery
+  pub t1 : ℕ
+  pub on : ℕ → Type 0
+  pub own : List (Type 0)
+  pub by : ℕ
+
+abbrev pub supposes : Statement → List (Type 0)
+supposes s = endsSuppose (s .recovery) (s .t1) ++ (networkSupposes (s .recovery) (s .on) ++ s .own)
+
+abbrev pub claims : Statement → Type 0
+claims s = RecoversBy (s .recovery) (s .by)
+
+-- All that it supposes holds; its claim holds, as the theorem says; and the cue is not got by t. Where t + 1 is the bound, the bound is met exactly.
+pub record Met (s : Statement) (t : ℕ) : Type 0 where
+  pub holds : All (supposes s)
+  pub reached : claims s
+  pub no-sooner : RecoversBy (s .recovery) t → ⊥
+
+-- What it supposes at place i fails, all else that it supposes holds, and so does not its claim.
+pub record Needed (i : ℕ) (s : Statement) : Type 0 where
+  pub alone : AllBut i (supposes s)
+  pub missed : claims s → ⊥
+
+-- The same of a statement of another shape: all that it supposes, what it claims, and what would be sooner.
+pub record Reached (supposed : List (Type 0)) (claim sooner : Type 0) : Type 0 where
+  pub holds : All supposed
+  pub reached : claim
+  pub no-sooner : sooner → ⊥
+
 -- ---- `Answered`: places 22 to 25
 pub record OneRound : Type 0 where
   pub recovery : Recovery
@@ -77,27 +97,22 @@ pub record OneRound : Type 0 where
   pub parts : recovery .asker .later ≡ mid ++ rest
   pub request : Request
 
-abbrev pub oneRoundBy : OneRound → ℕ
-oneRoundBy r = answeredBy (r .recovery) (r .request)
-
-abbrev pub oneRoundOn : OneRound → ℕ → Type 0
-oneRoundOn r t = (r .t1 < t) × (t + r .recovery .delay ≤ oneRoundBy r)
-
-abbrev pub oneRoundOwn : OneRound → List (Type 0)
-oneRoundOwn r =
+abbrev pub answering : OneRound → Statement
+answering r =
     let m = r .recovery in
     let e = afterAll (begun (m .asker)) (r .mid) in
-    (requestOf e (m .source) (m .number) ≡ some (r .request))
-    ∷ Always (LaterThan (m .asker) (r .t1 + lookback m)) e (r .rest)
-    ∷ Passes (m .asker) (oneRoundBy r) e (r .rest)
-    ∷ Passed (m .holder) (oneRoundBy r)
-    ∷ []
-
-abbrev pub oneRoundSupposes : OneRound → List (Type 0)
-oneRoundSupposes r = endsSuppose (r .recovery) (r .t1) ++ (networkSupposes (r .recovery) (oneRoundOn r) ++ oneRoundOwn r)
-
-abbrev pub oneRoundClaims : OneRound → Type 0
-oneRoundClaims r = RecoversBy (r .recovery) (oneRoundBy r)
+    let bound = answeredBy m (r .request) in
+    record {
+      recovery = m;
+      t1 = r .t1;
+      on = λ t. (r .t1 < t) × (t + m .delay ≤ bound);
+      own = (requestOf e (m .source) (m .number) ≡ some (r .request))
+          ∷ Always (LaterThan (m .asker) (r .t1 + lookback m)) e (r .rest)
+          ∷ Passes (m .asker) bound e (r .rest)
+          ∷ Passed (m .holder) bound
+          ∷ [];
+      by = bound;
+    }
 
 -- ---- `Steady`: places 22 to 27
 pub record Steadily : Type 0 where
@@ -110,29 +125,24 @@ pub record Steadily : Type 0 where
   pub parts : recovery .asker .later ≡ mid ++ (call ∷ rest)
   pub request : Request
 
-abbrev pub steadilyBy : Steadily → ℕ
-steadilyBy r = steadyBy (r .recovery) (r .far) (timeOf (r .recovery .asker) (r .call)) (r .request .round)
-
-abbrev pub steadilyOn : Steadily → ℕ → Type 0
-steadilyOn r t = (r .t1 < t) × (t + r .recovery .delay ≤ steadilyBy r)
-
-abbrev pub steadilyOwn : Steadily → List (Type 0)
-steadilyOwn r =
+abbrev pub steadying : Steadily → Statement
+steadying r =
     let m = r .recovery in
     let e = afterAll (begun (m .asker)) (r .mid) in
-    (requestOf e (m .source) (m .number) ≡ none)
-    ∷ (requestOf (after e (r .call)) (m .source) (m .number) ≡ some (r .request))
-    ∷ (distanceTo e (asHost (m .source)) ≤ r .far)
-    ∷ (r .t1 + lookback m < timeOf (m .asker) (r .call))
-    ∷ Passes (m .asker) (steadilyBy r) (after e (r .call)) (r .rest)
-    ∷ Passed (m .holder) (steadilyBy r)
-    ∷ []
-
-abbrev pub steadilySupposes : Steadily → List (Type 0)
-steadilySupposes r = endsSuppose (r .recovery) (r .t1) ++ (networkSupposes (r .recovery) (steadilyOn r) ++ steadilyOwn r)
-
-abbrev pub steadilyClaims : Steadily → Type 0
-steadilyClaims r = RecoversBy (r .recovery) (steadilyBy r)
+    let bound = steadyBy m (r .far) (timeOf (m .asker) (r .call)) (r .request .round) in
+    record {
+      recovery = m;
+      t1 = r .t1;
+      on = λ t. (r .t1 < t) × (t + m .delay ≤ bound);
+      own = (requestOf e (m .source) (m .number) ≡ none)
+          ∷ (requestOf (after e (r .call)) (m .source) (m .number) ≡ some (r .request))
+          ∷ (distanceTo e (asHost (m .source)) ≤ r .far)
+          ∷ (r .t1 + lookback m < timeOf (m .asker) (r .call))
+          ∷ Passes (m .asker) bound (after e (r .call)) (r .rest)
+          ∷ Passed (m .holder) bound
+          ∷ [];
+      by = bound;
+    }
 
 -- ---- `Recovers`: places 22 to 29; `LongRound` as its two parts
 pub record Rounds : Type 0 where
@@ -145,30 +155,25 @@ pub record Rounds : Type 0 where
   pub j : ℕ
   pub lost : List ℕ
 
-abbrev pub roundsBy : Rounds → ℕ
-roundsBy r = lossesBy (r .recovery) (r .far) (r .t0) (r .round) (r .j + length (r .lost))
-
-abbrev pub roundsOn : Rounds → ℕ → Type 0
-roundsOn r t = (r .t0 < t) × (List·Memᴰ t (r .lost) → ⊥)
-
-abbrev pub roundsOwn : Rounds → List (Type 0)
-roundsOwn r =
+abbrev pub recovering : Rounds → Statement
+recovering r =
     let m = r .recovery in
-    (r .t1 ≤ r .t0)
-    ∷ FirstAsks m (r .t0) (r .round)
-    ∷ (r .round ≤ r .j)
-    ∷ (lookback m ≤ factor (min (r .j) 16) * askerParams m .c3 * r .near)
-    ∷ (lookback m + m .delay + replyTime m ≤ factor (min (suc (r .j)) 16) * askerParams m .c3 * r .near)
-    ∷ Always (Between m (r .near) (r .far)) (begun (m .asker)) (m .asker .later)
-    ∷ Passed (m .asker) (roundsBy r)
-    ∷ Passed (m .holder) (roundsBy r)
-    ∷ []
-
-abbrev pub roundsSuppose : Rounds → List (Type 0)
-roundsSuppose r = endsSuppose (r .recovery) (r .t1) ++ (networkSupposes (r .recovery) (roundsOn r) ++ roundsOwn r)
-
-abbrev pub roundsClaim : Rounds → Type 0
-roundsClaim r = RecoversBy (r .recovery) (roundsBy r)
+    let bound = lossesBy m (r .far) (r .t0) (r .round) (r .j + length (r .lost)) in
+    record {
+      recovery = m;
+      t1 = r .t1;
+      on = λ t. (r .t0 < t) × (List·Memᴰ t (r .lost) → ⊥);
+      own = (r .t1 ≤ r .t0)
+          ∷ FirstAsks m (r .t0) (r .round)
+          ∷ (r .round ≤ r .j)
+          ∷ (lookback m ≤ factor (min (r .j) 16) * askerParams m .c3 * r .near)
+          ∷ (lookback m + m .delay + replyTime m ≤ factor (min (suc (r .j)) 16) * askerParams m .c3 * r .near)
+          ∷ Always (Between m (r .near) (r .far)) (begun (m .asker)) (m .asker .later)
+          ∷ Passed (m .asker) bound
+          ∷ Passed (m .holder) bound
+          ∷ [];
+      by = bound;
+    }
 
 -- ---- `AfterOutage`: places 22 to 27
 pub record Outage : Type 0 where
@@ -180,25 +185,20 @@ pub record Outage : Type 0 where
   pub round : ℕ
   pub f : ℕ
 
-abbrev pub outageEnds : Outage → ℕ
-outageEnds r = outageBy (r .recovery) (r .far) (r .t1) (r .f)
-
-abbrev pub outageOn : Outage → ℕ → Type 0
-outageOn r t = (r .t1 < t) × (t + r .recovery .delay ≤ outageEnds r)
-
-abbrev pub outageOwn : Outage → List (Type 0)
-outageOwn r =
+abbrev pub outlasting : Outage → Statement
+outlasting r =
     let m = r .recovery in
-    FirstAsks m (r .t0) (r .round)
-    ∷ (r .t0 ≤ r .t1 + lookback m)
-    ∷ Outlasts m (r .near) (r .t1) (r .t0) (r .round) (r .f)
-    ∷ Always (Between m (r .near) (r .far)) (begun (m .asker)) (m .asker .later)
-    ∷ Passed (m .asker) (outageEnds r)
-    ∷ Passed (m .holder) (outageEnds r)
-    ∷ []
-
-abbrev pub outageSupposes : Outage → List (Type 0)
-outageSupposes r = endsSuppose (r .recovery) (r .t1) ++ (networkSupposes (r .recovery) (outageOn r) ++ outageOwn r)
-
-abbrev pub outageClaims : Outage → Type 0
-outageClaims r = RecoversBy (r .recovery) (outageEnds r)
+    let bound = outageBy m (r .far) (r .t1) (r .f) in
+    record {
+      recovery = m;
+      t1 = r .t1;
+      on = λ t. (r .t1 < t) × (t + m .delay ≤ bound);
+      own = FirstAsks m (r .t0) (r .round)
+          ∷ (r .t0 ≤ r .t1 + lookback m)
+          ∷ Outlasts m (r .near) (r .t1) (r .t0) (r .round) (r .f)
+          ∷ Always (Between m (r .near) (r .far)) (begun (m .asker)) (m .asker .later)
+          ∷ Passed (m .asker) bound
+          ∷ Passed (m .holder) bound
+          ∷ [];
+      by = bound;
+    }

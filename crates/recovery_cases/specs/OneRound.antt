@@ -2,7 +2,7 @@
 -- and for each thing that it supposes a list in which that alone fails and the cue is not got by the bound. Not among these: that the source is
 -- another's than the asker's and that the asker lacks the cue at the beginning, without which no request waits later; that the request waits; that the
 -- source is a host; and that draws have their declared type.
-use mathlib.Core.Path.{_≡_, refl}
+use mathlib.Core.Path.{refl}
 use mathlib.Core.List.{List, [], _∷_, _++_}
 use Prim.Native.Nat.{ℕ}
 use Rattle.end.specs.declared.Request.{Request}
@@ -11,8 +11,7 @@ use Rattle.end.specs.Event.{Moves, Send}
 use Rattle.end.specs.Opening.{houseParams}
 use Rattle.guarantees.specs.Calls.{OneCall}
 use Rattle.cases.specs.Listing.{minusTwo}
-use Rattle.recovery.specs.Recovery.{RecoversBy}
-use Rattle.recovery_cases.specs.Needs.{Met, Needed, OneRound, oneRoundSupposes, oneRoundClaims}
+use Rattle.recovery_cases.specs.Needs.{Met, Needed, OneRound, answering}
 use Rattle.recovery_cases.specs.Calls.{at, slow, fire, past, cue, request, repair, echo, joined, heard0, sent, heardBoth, side, between}
 
 -- The asker is host 1. `first` is the request for number 1 that it sets where it hears number 2 at 32: due at 392, so the bound is 732.
@@ -167,29 +166,26 @@ notOpen = openedLate [] (opens ++ (at 490 (cue 2) ∷ []))
 abbrev pub askerLater : OneRound
 askerLater = openedLate opens (at 490 (cue 2) ∷ [])
 
-abbrev pub NeededAt : ℕ → OneRound → Type 0
-NeededAt i r = Needed i (oneRoundSupposes r) (oneRoundClaims r)
-
 pub record OneRoundShown : Type 0 where
-  pub listing : Met (oneRoundSupposes listing) (oneRoundClaims listing) (RecoversBy (listing .recovery) 569)
-  pub slowest : Met (oneRoundSupposes slowest) (oneRoundClaims slowest) (RecoversBy (slowest .recovery) 1051)
-  pub two : NeededAt 1 sameNumber
-  pub asker-by : NeededAt 3 askerLater
-  pub holder-by : NeededAt 4 holderLater
-  pub open-there : NeededAt 5 notOpen
-  pub holds : NeededAt 7 lacking
-  pub asker-stays : NeededAt 10 askerLeaves
-  pub holder-stays : NeededAt 11 holderLeaves
-  pub asker-keeps : NeededAt 12 askerRetires
-  pub holder-keeps : NeededAt 13 holderRetires
-  pub asker-fires : NeededAt 14 askerIdle
-  pub holder-fires : NeededAt 15 holderIdle
-  pub settled : NeededAt 16 unsettled
-  pub reaches : NeededAt 17 farAway
-  pub requests : NeededAt 18 requestLost
-  pub requests-shared : NeededAt 19 otherRequestLost
-  pub repairs : NeededAt 20 repairLost
-  pub repairs-shared : NeededAt 21 otherRepairLost
-  pub late : NeededAt 23 tooEarly
-  pub asker-passed : NeededAt 24 askerStops
-  pub holder-passed : NeededAt 25 holderStops
+  pub listing : Met (answering listing) 569
+  pub slowest : Met (answering slowest) 1051
+  pub two : Needed 1 (answering sameNumber)
+  pub asker-by : Needed 3 (answering askerLater)
+  pub holder-by : Needed 4 (answering holderLater)
+  pub open-there : Needed 5 (answering notOpen)
+  pub holds : Needed 7 (answering lacking)
+  pub asker-stays : Needed 10 (answering askerLeaves)
+  pub holder-stays : Needed 11 (answering holderLeaves)
+  pub asker-keeps : Needed 12 (answering askerRetires)
+  pub holder-keeps : Needed 13 (answering holderRetires)
+  pub asker-fires : Needed 14 (answering askerIdle)
+  pub holder-fires : Needed 15 (answering holderIdle)
+  pub settled : Needed 16 (answering unsettled)
+  pub reaches : Needed 17 (answering farAway)
+  pub requests : Needed 18 (answering requestLost)
+  pub requests-shared : Needed 19 (answering otherRequestLost)
+  pub repairs : Needed 20 (answering repairLost)
+  pub repairs-shared : Needed 21 (answering otherRepairLost)
+  pub late : Needed 23 (answering tooEarly)
+  pub asker-passed : Needed 24 (answering askerStops)
+  pub holder-passed : Needed 25 (answering holderStops)

@@ -3,16 +3,14 @@ use mathlib.Core.Path.{_≡_}
 use mathlib.Core.Bool.{false}
 use mathlib.Core.List.{List, [], _∷_, _++_, List·Memᴰ}
 use mathlib.Core.Option.{some}
-use Prim.Native.Nat.{ℕ, _+_, _*_, _≤_, _<_}
-use lib.ListN.{length}
+use Prim.Native.Nat.{ℕ, _+_, _≤_, _<_}
 use Rattle.message.specs.Entry.{asHost, asNumber}
-use Rattle.message.specs.Message.{REPL, XPRS}
 use Rattle.message.specs.Question.{sameHost}
 use Rattle.end.specs.declared.Params.{Params}
 use Rattle.end.specs.declared.Request.{Request}
 use Rattle.end.specs.declared.Express.the-variants.{Soon}
 use Rattle.end.specs.declared.Slot.the-variants.{Waiting}
-use Rattle.end.specs.Event.{Arrival, Else, Report as Reporting}
+use Rattle.end.specs.Event.{Else, Report as Reporting}
 use Rattle.end.specs.Opening.{houseParams}
 use Rattle.guarantees.specs.Calls.{OneCall, afterAll}
 use Rattle.guarantees.specs.Records.{slotOf, requestOf}
@@ -26,7 +24,7 @@ use Rattle.recovery.specs.Outage.{Outlasts, outageBy}
 use Rattle.recovery.specs.Several.{EachSupposed, WholeAmong, AllPassed}
 use Rattle.recovery.specs.Detection.{Listens, ReportsEvery, detectedBy, KnownBy}
 use Rattle.recovery.specs.Express.{BothStay, ExpressInTime, ExpressReaches, ExpressReturns, expressBy}
-use Rattle.recovery_cases.specs.Needs.{Met}
+use Rattle.recovery_cases.specs.Needs.{Reached}
 use Rattle.recovery_cases.specs.Calls.{at, slow, fire, past, cue, request, repair, report, heard0, sent, heardBoth, side, between, prompt}
 
 -- ---- several holders: the list of the loss (Rounds.antt), in which the request of 2072 reaches host 2, and not the source
@@ -125,8 +123,8 @@ hasteSupposes =
     ∷ []
 
 pub record OthersShown : Type 0 where
-  pub answered-among : Met answeredAmong (RecoversBy among (answeredBy among second)) (RecoversBy among 2091)
-  pub recovers-among : Met recoversAmong (RecoversBy among (lossesBy among 40 32 1 2)) (RecoversBy among 2091)
-  pub after-outage-among : Met afterOutageAmong (RecoversBy among (outageBy among 40 712 2)) (RecoversBy among 2091)
-  pub detected : Met detectionSupposes (Known (detectedBy detection 100 50 1)) (Known 259)
-  pub express : Met hasteSupposes (RecoversBy haste (expressBy haste 300)) (RecoversBy haste 319)
+  pub answered-among : Reached answeredAmong (RecoversBy among (answeredBy among second)) (RecoversBy among 2091)
+  pub recovers-among : Reached recoversAmong (RecoversBy among (lossesBy among 40 32 1 2)) (RecoversBy among 2091)
+  pub after-outage-among : Reached afterOutageAmong (RecoversBy among (outageBy among 40 712 2)) (RecoversBy among 2091)
+  pub detected : Reached detectionSupposes (Known (detectedBy detection 100 50 1)) (Known 259)
+  pub express : Reached hasteSupposes (RecoversBy haste (expressBy haste 300)) (RecoversBy haste 319)

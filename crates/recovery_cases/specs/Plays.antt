@@ -18,7 +18,7 @@ use Rattle.recovery.specs.Recovery.{RecoversBy}
 use Rattle.recovery.specs.Whole.{Whole}
 use Rattle.recovery.specs.Network.{Network}
 use Rattle.recovery.specs.Timely.{Spared, timelyBy, TimelySupposed, timelySteadyBy, SteadySupposed, Play, sidesIn, recoveryIn, reporterIn, HandedOutBy}
-use Rattle.recovery_cases.specs.Needs.{Met}
+use Rattle.recovery_cases.specs.Needs.{Reached}
 use Rattle.recovery_cases.specs.Calls.{fire, request, repair, report}
 
 -- the house's ends are from openings that were not refused
@@ -162,6 +162,6 @@ calmSupposes opens =
 
 pub record PlaysShown : Type 0 where
   pub opens : Opens
-  pub timely : Met (crashSupposes opens) (HandedOutBy (crash opens) (timelyBy (recoveryIn (crash opens)) 40 100 30 1 4)) (RecoversBy (recoveryIn (crash opens)) 1389)
+  pub timely : Reached (crashSupposes opens) (HandedOutBy (crash opens) (timelyBy (recoveryIn (crash opens)) 40 100 30 1 4)) (RecoversBy (recoveryIn (crash opens)) 1389)
   pub network : Whole (recoveryIn (crash opens)) (Spared 30 (660 ∷ []))
-  pub steady : Met (calmSupposes opens) (HandedOutBy (calm opens) (timelySteadyBy (recoveryIn (calm opens)) 40 100 400 0)) (RecoversBy (recoveryIn (calm opens)) 1049)
+  pub steady : Reached (calmSupposes opens) (HandedOutBy (calm opens) (timelySteadyBy (recoveryIn (calm opens)) 40 100 400 0)) (RecoversBy (recoveryIn (calm opens)) 1049)

@@ -1,23 +1,13 @@
 -- `Steady`, `Recovers` and `AfterOutage` on computed lists: lists in which all that they suppose holds; and lists in which `LongRound`, in either part,
 -- `Between`, in either part, or `Outlasts` alone fails and the bound is missed. What they suppose of the ends and the network is needed by OneRound.antt.
-use mathlib.Core.Path.{_≡_, refl}
+use mathlib.Core.Path.{refl}
 use mathlib.Core.List.{List, [], _∷_, _++_}
-use mathlib.Core.Option.{none, some}
-use Prim.Native.Nat.{ℕ, _+_, _≤_, _<_}
-use Rattle.message.specs.Entry.{asHost}
+use Prim.Native.Nat.{ℕ, _+_}
 use Rattle.end.specs.declared.Params.{Params}
-use Rattle.end.specs.declared.Request.{Request}
-use Rattle.end.specs.State.{distanceTo}
-use Rattle.end.specs.Event.{Send}
 use Rattle.end.specs.Opening.{houseParams}
-use Rattle.guarantees.specs.Calls.{OneCall, after}
-use Rattle.guarantees.specs.Records.{requestOf}
-use Rattle.cases.specs.Listing.{minusTwo}
-use Rattle.recovery.specs.Recovery.{begun, timeOf, Recovery, lookback, Passes, Passed, RecoversBy}
-use Rattle.recovery.specs.Supposed.{Supposed}
-use Rattle.recovery.specs.Whole.{Whole}
-use Rattle.recovery.specs.Answered.{steadyBy}
-use Rattle.recovery_cases.specs.Needs.{Met, Needed, Steadily, steadilySupposes, steadilyClaims, Rounds, roundsSuppose, roundsClaim, Outage, outageSupposes, outageClaims}
+use Rattle.guarantees.specs.Calls.{OneCall}
+use Rattle.recovery.specs.Recovery.{Recovery}
+use Rattle.recovery_cases.specs.Needs.{Met, Needed, Steadily, steadying, Rounds, recovering, Outage, outlasting}
 use Rattle.recovery_cases.specs.Calls.{at, slow, fire, past, cue, request, echo, repair, heard0, sent, side, between, prompt}
 
 -- ---- the steady state, with the house's parameters and every wait as long as it can be
@@ -127,11 +117,11 @@ nextTooShort = record {
 }
 
 pub record RoundsShown : Type 0 where
-  pub steady : Met (steadilySupposes steady) (steadilyClaims steady) (RecoversBy (steady .recovery) 1419)
-  pub loss : Met (roundsSuppose lossRounds) (roundsClaim lossRounds) (RecoversBy (lossRounds .recovery) 2091)
-  pub outage : Met (outageSupposes lossOutage) (outageClaims lossOutage) (RecoversBy (lossOutage .recovery) 2091)
-  pub quiet : Needed 25 (roundsSuppose quietTooShort) (roundsClaim quietTooShort)
-  pub next : Needed 26 (roundsSuppose nextTooShort) (roundsClaim nextTooShort)
-  pub near : Needed 27 (roundsSuppose nearerThan) (roundsClaim nearerThan)
-  pub far : Needed 27 (roundsSuppose fartherThan) (roundsClaim fartherThan)
-  pub outlasts : Needed 24 (outageSupposes outageLonger) (outageClaims outageLonger)
+  pub steady : Met (steadying steady) 1419
+  pub loss : Met (recovering lossRounds) 2091
+  pub outage : Met (outlasting lossOutage) 2091
+  pub quiet : Needed 25 (recovering quietTooShort)
+  pub next : Needed 26 (recovering nextTooShort)
+  pub near : Needed 27 (recovering nearerThan)
+  pub far : Needed 27 (recovering fartherThan)
+  pub outlasts : Needed 24 (outlasting outageLonger)

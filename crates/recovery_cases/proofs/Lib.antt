@@ -4,3 +4,6 @@ pub mod Backed
 pub mod Computed
 pub mod OneRound
 pub mod Rounds
+pub mod Several
+pub mod Reports
+pub mod Others

@@ -103,7 +103,7 @@ fits (c ∷ cs) h =
     ((fews (c .draws) (a .0), rest .0), (is-array (c .action) (b .0), rest .1))
 
 -- ---- what a log tells of the calls
-sound-after : (e : End) (c : OneCall) (cs : List OneCall) → soundOf e ≡ true → Fit (c ∷ cs) → soundOf (after e c) ≡ true
+pub sound-after : (e : End) (c : OneCall) (cs : List OneCall) → soundOf e ≡ true → Fit (c ∷ cs) → soundOf (after e c) ≡ true
 sound-after e c cs sound f = stays-sound e (c .action) (c .clock) (c .room) (c .draws) (f .0 .0) (f .1 .0) sound
 
 pub left-is : (cs : List OneCall) (e : End) → soundOf e ≡ true → Fit cs → afterAll e cs ≡ left e (log e cs)
@@ -179,7 +179,7 @@ module _ (x : Side) (f : Fit (x .earlier)) (g : Fit (x .later)) where
   pub start-sound : soundOf (begun x) ≡ true
   start-sound = sound-left (x .earlier) (opened x) opened-sound f
 
-  behind-is : logs x .behind ≡ log (begun x) (x .later)
+  pub behind-is : logs x .behind ≡ log (begun x) (x .later)
   behind-is = ap (λ (e : End). log e (x .later)) (sym start-is)
 
   -- what is tested of the state between

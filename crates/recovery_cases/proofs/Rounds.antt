@@ -92,7 +92,7 @@ abbrev pub among : ℕ → List ℕ → Bool
 among t [] = false
 among t (u ∷ us) = eqb t u || among t us
 
-is-among : (t : ℕ) (us : List ℕ) → among t us ≡ true → List·Memᴰ t us
+pub is-among : (t : ℕ) (us : List ℕ) → among t us ≡ true → List·Memᴰ t us
 is-among t [] h = clash′ h
 is-among t (u ∷ us) h = ⊎-elim (λ a. List·Memᴰ·head (eqb-true t u a)) (λ a. List·Memᴰ·tail (is-among t us a)) (or-either (eqb t u) (among t us) h)
 

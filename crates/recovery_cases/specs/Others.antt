@@ -34,8 +34,11 @@ amongAsker = slow 32 (cue 2) ∷ slow 712 fire ∷ slow 2072 fire ∷ at 2092 (r
 abbrev pub among : Recovery
 among = between (side 1 prompt heard0 amongAsker) (side 0 prompt sent (past 2113 ∷ [])) 10 40
 
+abbrev pub another : Side
+another = side 2 prompt heardBoth (at 2082 (request 1 2072) ∷ at 2082 fire ∷ past 2113 ∷ [])
+
 abbrev pub others : List Side
-others = side 2 prompt heardBoth (at 2082 (request 1 2072) ∷ at 2082 fire ∷ past 2113 ∷ []) ∷ []
+others = another ∷ []
 
 -- the second request, due at 2072
 abbrev pub second : Request

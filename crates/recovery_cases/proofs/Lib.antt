@@ -7,3 +7,6 @@ pub mod Rounds
 pub mod Several
 pub mod Reports
 pub mod Others
+pub mod Networks
+pub mod Plays
+pub mod Rows

@@ -7,7 +7,7 @@ use mathlib.Core.List.{List, [], _∷_, List·Memᴰ}
 use mathlib.Core.Option.{Option, none, some as just}
 use mathlib.Core.Logic.{inl, inr}
 use lib.Dec.{leb, ltb}
-use borrow.Author.Tests.{not-true, leb-true, lt-ltb, le-leb}
+use borrow.Author.Tests.{leb-true, lt-ltb, le-leb}
 use Rattle.message.specs.Entry.{asHost}
 use Rattle.message.specs.Message.{REPL, XPRS, meaningFrom}
 use Rattle.message.specs.Question.{sameHost}
@@ -21,18 +21,18 @@ use Rattle.end.specs.State.{sourceAt}
 use Rattle.end.specs.Records.{isClosed, isHeld}
 use Rattle.end.specs.Arrival.{messageHost}
 use Rattle.guarantees.specs.Calls.{OneCall}
-use Rattle.guarantees.specs.Records.{recordOf, slotOf, requestIn, requestOf}
+use Rattle.guarantees.specs.Records.{recordOf, slotOf, requestOf}
 use Rattle.guarantees.specs.Arrivals.{isAbout}
 use Rattle.guarantees.specs.Turn.{Always, Taken, NeitherLeavesNorCrashes}
 use Rattle.cases.specs.Turn.{All}
-use Rattle.recovery.specs.Recovery.{Side, opened, begun, timeOf, Recovery, lookback, LaterThan, RecoversBy}
+use Rattle.recovery.specs.Recovery.{opened, begun, timeOf, lookback, LaterThan, RecoversBy}
 use Rattle.recovery.specs.Supposed.{Keeps}
 use Rattle.recovery.specs.Whole.{TakesBy}
 use Rattle.recovery.specs.Answered.{answeredBy}
 use Rattle.recovery.specs.Losses.{Between, FirstAsks, lossesBy}
 use Rattle.recovery.specs.Outage.{outageBy}
-use Rattle.recovery.specs.Several.{heldBy, EachSupposed, WholeAmong, AllPassed}
-use Rattle.recovery.specs.Detection.{Knows, KnownBy, detectedBy, Listens}
+use Rattle.recovery.specs.Several.{EachSupposed, WholeAmong, AllPassed}
+use Rattle.recovery.specs.Detection.{KnownBy, detectedBy, Listens}
 use Rattle.recovery.specs.Express.{BothStay, ExpressInTime, ExpressReaches, ExpressReturns, expressBy}
 use Rattle.recovery.proofs.Several.{answered-among, recovers-among, after-outage-among}
 use Rattle.recovery.proofs.Detected.{detected}
@@ -40,12 +40,12 @@ use Rattle.recovery.proofs.Express.{express-recovers}
 use Rattle.recovery_cases.specs.Needs.{Reached}
 use Rattle.recovery_cases.specs.Calls.{slow, cue}
 use Rattle.recovery_cases.specs.Others.{among, another, others, second, amongMid, amongRest, answeredAmong, recoversAmong, afterOutageAmong, reporter, detection, detectionSupposes, Known, haste, hasteSupposes, OthersShown}
-use Rattle.recovery_cases.proofs.Log.{gives, entry, log, every, some, Test, Fit, fits, did, taken, Logs, logs, atPlace, at-start, at-place, always-behind, sometime-behind, never-behind, always-rest, sometime-rest}
-use Rattle.recovery_cases.proofs.Tests.{Shows, holds-if, outs, takesBy, takes-by, stays, stays-shows, keeps, keeps-shows, laterThan, later-than-shows, passes, passes-shows, betweenTest, between-shows, gotBy, shows-got-by}
+use Rattle.recovery_cases.proofs.Log.{gives, entry, log, every, some, Test, Fit, fits, Logs, logs, atPlace, at-start, at-place, always-behind, sometime-behind, never-behind, always-rest, sometime-rest}
+use Rattle.recovery_cases.proofs.Tests.{Shows, holds-if, outs, takesBy, takes-by, stays, stays-shows, keeps, keeps-shows, laterThan, later-than-shows, passes, passes-shows, betweenTest, between-shows}
 use Rattle.recovery_cases.proofs.Backed.{SideFits, side-fits, asker-passed, not-got}
 use Rattle.recovery_cases.proofs.Rounds.{among as amongTimes, not-among, first-asks, outlasts-shows}
 use Rattle.recovery_cases.proofs.Several.{each-supposed, all-passed, whole-among}
-use Rattle.recovery_cases.proofs.Reports.{covers, reports-every}
+use Rattle.recovery_cases.proofs.Reports.{reports-every}
 use Rattle.recovery_cases.proofs.Computed.{computed}
 
 -- ---- several holders

@@ -2,8 +2,8 @@
 use Prim.Native.Nat.{ℕ, _+_, _≤_, _<_}
 use native.Mathlib.Omega.{arith}
 use mathlib.Core.Path.{_≡_, refl, sym, ap, _∙_, subst}
-use mathlib.Core.Bool.{Bool, true, false, cond, not, _&&_, _||_}
-use mathlib.Core.List.{List, [], _∷_, List·Memᴰ}
+use mathlib.Core.Bool.{Bool, true, false, cond, _&&_, _||_}
+use mathlib.Core.List.{List, [], _∷_}
 use mathlib.Core.Logic.{_⊎_, inl, inr, ⊎-elim}
 use lib.Dec.{leb, ltb}
 use borrow.Author.Tests.{leb-true, ltb-true, ltb-false}
@@ -14,14 +14,14 @@ use Rattle.end.specs.declared.Span.the-variants.{Closed, Open}
 use Rattle.end.specs.declared.End.{End}
 use Rattle.end.specs.State.{sourceAt, isMember}
 use Rattle.end.specs.Sound.{soundOf}
-use Rattle.end.specs.Answer.{Out, Did, Result}
+use Rattle.end.specs.Answer.{Result}
 use Rattle.end.specs.Event.{Action, Moves, Send, Arrival, Else, Fire, Report as Reporting, Announce, Fetch}
-use Rattle.end.proofs.Tools.{byTest, byCond, clash, clash′, or-alone}
+use Rattle.end.proofs.Tools.{byTest, byCond, clash′, or-alone}
 use Rattle.guarantees.specs.Calls.{OneCall, after}
-use Rattle.guarantees.specs.Turn.{Sometime, Taken}
-use Rattle.recovery.specs.Recovery.{Side, timeOf, answerOf, Recovery}
+use Rattle.guarantees.specs.Turn.{Sometime}
+use Rattle.recovery.specs.Recovery.{Side, timeOf, Recovery}
 use Rattle.recovery.specs.Whole.{TakesBy}
-use Rattle.recovery.specs.Detection.{reporting, lastIsAtLeast, ReportHeard, ReportsWithin, ReportsEvery}
+use Rattle.recovery.specs.Detection.{reporting, lastIsAtLeast, ReportsWithin, ReportsEvery}
 use Rattle.recovery_cases.proofs.Log.{gives, Entry, entry, log, some, Test, Fit, did, taken, given-is, sound-after, Logs, logs, behind-is, start-sound, sometime-behind}
 use Rattle.recovery_cases.proofs.Tests.{outs, takesBy, takes-by}
 use Rattle.recovery_cases.proofs.Rounds.{among, is-among}

@@ -6,7 +6,6 @@ use mathlib.Core.Bool.{Bool, true, false, not, _&&_, _||_}
 use mathlib.Core.List.{List, [], _∷_, _++_, List·Memᴰ, List·Memᴰ·head, List·Memᴰ·tail}
 use mathlib.Core.Option.{none, some as just}
 use mathlib.Core.Logic.{⊎-elim}
-use lib.ListN.{length}
 use lib.Dec.{eqb, leb, ltb}
 use borrow.Author.Tests.{eqb-true, leb-true, ltb-true, lt-ltb, le-leb}
 use Rattle.message.specs.Entry.{asHost}
@@ -20,9 +19,9 @@ use Rattle.end.proofs.SoundLaws.{all-at}
 use Rattle.end.proofs.Tools.{byTest, clash′}
 use Rattle.guarantees.specs.Calls.{OneCall}
 use Rattle.guarantees.specs.Records.{requestOf}
-use Rattle.guarantees.specs.Turn.{Always, Taken}
+use Rattle.guarantees.specs.Turn.{Taken}
 use Rattle.cases.specs.Turn.{All}
-use Rattle.recovery.specs.Recovery.{Side, begun, timeOf, Recovery, askerParams, lookback, replyTime, Passes, Passed}
+use Rattle.recovery.specs.Recovery.{begun, timeOf, Recovery, askerParams, lookback, replyTime, Passes}
 use Rattle.recovery.specs.Supposed.{Supposed}
 use Rattle.recovery.specs.Whole.{Whole}
 use Rattle.recovery.specs.Losses.{Between, FirstAsks}
@@ -34,7 +33,7 @@ use Rattle.recovery.proofs.Outage.{after-outage}
 use Rattle.recovery_cases.specs.Needs.{claims, Met, Needed, Steadily, steadying, Rounds, recovering, Outage, outlasting}
 use Rattle.recovery_cases.specs.Calls.{at, slow, cue}
 use Rattle.recovery_cases.specs.Rounds.{steady as steadyList, lossRounds, lossOutage, outageLonger, quietTooShort, nearerThan, fartherThan, nextTooShort, RoundsShown}
-use Rattle.recovery_cases.proofs.Log.{given, log, every, some, fit, Fit, fits, Logs, logs, atPlace, at-place, after-place, always-behind, sometime-rest}
+use Rattle.recovery_cases.proofs.Log.{given, log, every, some, Fit, fits, Logs, logs, atPlace, at-place, after-place, always-behind, sometime-rest}
 use Rattle.recovery_cases.proofs.Tests.{holds-if, passes, passes-shows, betweenTest, between-shows, gotBy}
 use Rattle.recovery_cases.proofs.Backed.{Backed, allTrue, allBut, SideFits, side-fits, asker-passed, holder-passed, testsOf, met, needed}
 use Rattle.recovery_cases.proofs.Computed.{computed}

@@ -1,16 +1,15 @@
 -- Two holders on computed lists: the tests for what is supposed of several.
-use Prim.Native.Nat.{ℕ, _≤_, _<_}
+use Prim.Native.Nat.{ℕ, _≤_}
 use native.Mathlib.Omega.{arith}
 use mathlib.Core.Path.{_≡_, refl, sym, ap, _∙_, subst}
 use mathlib.Core.Bool.{Bool, true, not, _||_}
-use mathlib.Core.List.{List, [], _∷_, List·Memᴰ, List·Memᴰ·head, List·Memᴰ·tail, List·Memᴰ·not-nil, List·Memᴰ·cases-cons}
+use mathlib.Core.List.{[], _∷_, List·Memᴰ, List·Memᴰ·head, List·Memᴰ·tail, List·Memᴰ·not-nil, List·Memᴰ·cases-cons}
 use mathlib.Core.Logic.{⊎-elim}
 use borrow.Author.Tests.{not-true}
 use Rattle.message.specs.Message.{RQST, meaningFrom}
 use Rattle.message.proofs.QuestionLaws.{or-either}
 use Rattle.end.proofs.Tools.{clash}
 use Rattle.guarantees.specs.Arrivals.{isAbout}
-use Rattle.guarantees.specs.Turn.{Taken}
 use Rattle.recovery.specs.Recovery.{Side, timeOf, Recovery, lookback, replyTime}
 use Rattle.recovery.specs.Whole.{RepairsReach, RepairsShared}
 use Rattle.recovery.specs.Several.{heldBy, EachSupposed, RequestsReachSome, RequestsSharedSome, WholeAmong, AllPassed}

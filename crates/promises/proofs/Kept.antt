@@ -11,6 +11,19 @@ use Rattle.guarantees.proofs.Fires.{out-is-earliest, nothing-means-none, none-m
 use Rattle.guarantees.proofs.BackOff.{opened-c3-below-c1, opened-firing-ends, rounds-rise, set-or-kept, quiet-ignores, once-per-quiet, always-due, rounds-through, always-set, quiet-before-due, one-round-per-quiet}
 use Rattle.guarantees.proofs.Slots.{host-and-params-stay, slots-may-become, waits-until-held, held-until-cleared, spans-may-become, retired-are-gone, held-through, waits-or-held-through}
 use Rattle.guarantees.proofs.Turn.{turn-comes, opened-turn-comes}
+use Rattle.recovery.proofs.Settles.{settles}
+use Rattle.recovery.proofs.Exchange.{answered}
+use Rattle.recovery.proofs.Steady.{steady}
+use Rattle.recovery.proofs.Losses.{recovers}
+use Rattle.recovery.proofs.Outage.{after-outage}
+use Rattle.recovery.proofs.Several.{answered-among, recovers-among, after-outage-among}
+use Rattle.recovery.proofs.Detects.{detects}
+use Rattle.recovery.proofs.Detected.{reports-it, detected}
+use Rattle.recovery.proofs.Express.{express-recovers}
+use Rattle.recovery.proofs.Network.{network-is-whole}
+use Rattle.recovery.proofs.Views.{each-sees-its-own, side-is-end, claims-carry-over}
+use Rattle.recovery.proofs.Timely.{two-ends-recover, two-ends-recover-among, two-ends-recover-steadily, timely-recovery, steady-recovery}
+use Rattle.recovery_cases.proofs.Rows.{rows-shown}
 use Rattle.guarantees.proofs.History.{count-over-history, non-members-count-none}
 use Rattle.guarantees.proofs.HistoryRows.{ten-to-eighty, left-again, whole-season}
 use Rattle.guarantees.proofs.Rises.{rises-by-64, places-as-before, rise-as-before, data-rises-alike, nothing-retired-up-to-63, none-missed-up-to-63}
@@ -150,6 +163,30 @@ promises = record {
     one-round-per-quiet = one-round-per-quiet;
   };
   turn = record { turn-comes = turn-comes; opened-turn-comes = opened-turn-comes; four-rounds = four-rounds; each-is-needed = each-is-needed };
+  recovery = record {
+    settles = settles;
+    answered = answered;
+    steady = steady;
+    recovers = recovers;
+    after-outage = after-outage;
+    answered-among = answered-among;
+    recovers-among = recovers-among;
+    after-outage-among = after-outage-among;
+    detects = detects;
+    reports-it = reports-it;
+    detected = detected;
+    express-recovers = express-recovers;
+    network-is-whole = network-is-whole;
+    each-sees-its-own = each-sees-its-own;
+    side-is-end = side-is-end;
+    claims-carry-over = claims-carry-over;
+    two-ends-recover = two-ends-recover;
+    two-ends-recover-among = two-ends-recover-among;
+    two-ends-recover-steadily = two-ends-recover-steadily;
+    timely-recovery = timely-recovery;
+    steady-recovery = steady-recovery;
+    rows = rows-shown;
+  };
   season = record {
     count-over-history = count-over-history;
     non-members-count-none = non-members-count-none;

@@ -13,3 +13,4 @@ pub mod Fetch
 pub mod Announce
 pub mod Displays
 pub mod Judge
+pub mod Recovery

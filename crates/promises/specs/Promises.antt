@@ -40,6 +40,7 @@ use Rattle.promises.specs.Fetch.{FetchKept}
 use Rattle.promises.specs.Announce.{AnnounceKept}
 use Rattle.promises.specs.Displays.{DisplaysKept}
 use Rattle.promises.specs.Judge.{JudgeKept}
+use Rattle.promises.specs.Recovery.{RecoveryKept}
 
 -- document 01's cases and what else is pinned by computed rows: the answers one by one, the 25 moves by status, messages as bytes, times, a run by answers and
 -- buffers, reply-quiet times, clashes, the probe, a season's rises, express repair, fetching, kind 24 as bytes and Announce
@@ -62,7 +63,7 @@ pub record CasesKept : Type 0 where
   pub announced : Hold announcedRows
   pub announce : Hold announceRows
 
-pub record Promises : Type 0 where
+pub record Promises : Type 1 where
   -- demand 2, the wire: "Each message written reads back as itself, and each accepted message is the very bytes .."
   pub wire : WireKept
   -- demand 3: "the list is a run of the reliable multicast service by document 01's book"; and no Clash comes up in it
@@ -83,6 +84,8 @@ pub record Promises : Type 0 where
   pub back-off : BackOffKept
   -- how long a request may wait for its next round: document 02, P12
   pub turn : TurnKept
+  -- by when a lost cue is there: source document 001, theorems 4.35 to 4.37, 6.34 and 6.35
+  pub recovery : RecoveryKept
   -- the latest 64 numbers of a source are kept, and the count of those retired without a cue is right: document 02, P7
   pub season : SeasonKept
   -- a lost cue is asked for of the host that answered last, and repaired at once: document 02, P8

@@ -24,6 +24,23 @@ use Rattle.recovery_cases.specs.Needs.{endsSuppose, networkSupposes, Sta
 use Rattle.recovery_cases.proofs.Log.{every, some, fit, Fit, fits, Logs, logs, at-start, always-before, always-behind, sometime-behind, never-behind}
 use Rattle.recovery_cases.proofs.Tests.{stays, stays-shows, upTo, up-to-shows, passes, passes-shows, keeps, keeps-shows, asksInTime, asks-in-time-shows, repliesInTime, replies-in-time-shows, reaches, reaches-shows, settled, settled-shows, gotBy, shows-got-by, requestsReach, requests-reach-shows, requestsShared, requests-shared-shows, repairsReach, repairs-reach-shows, repairsShared, repairs-shared-shows}
 
+-- all of a list, from the things one by one
+pub chain4 : {A B C D : Type 0} → A → B → C → D → All (A ∷ B ∷ C ∷ D ∷ [])
+chain4 a b c d = (a, (b, (c, (d, tt))))
+
+pub chain6 : {A B C D E F : Type 0} → A → B → C → D → E → F → All (A ∷ B ∷ C ∷ D ∷ E ∷ F ∷ [])
+chain6 a b c d e f = (a, (b, (c, (d, (e, (f, tt))))))
+
+pub chain7 : {A B C D E F G : Type 0} → A → B → C → D → E → F → G → All (A ∷ B ∷ C ∷ D ∷ E ∷ F ∷ G ∷ [])
+chain7 a b c d e f g = (a, (b, (c, (d, (e, (f, (g, tt)))))))
+
+pub chain8 : {A B C D E F G H : Type 0} → A → B → C → D → E → F → G → H → All (A ∷ B ∷ C ∷ D ∷ E ∷ F ∷ G ∷ H ∷ [])
+chain8 a b c d e f g h = (a, (b, (c, (d, (e, (f, (g, (h, tt))))))))
+
+pub chain18 : {A B C D E F G H I J K L M N O P Q R : Type 0} → A → B → C → D → E → F → G → H → I → J → K → L → M → N → O → P → Q → R
+    → All (A ∷ B ∷ C ∷ D ∷ E ∷ F ∷ G ∷ H ∷ I ∷ J ∷ K ∷ L ∷ M ∷ N ∷ O ∷ P ∷ Q ∷ R ∷ [])
+chain18 a b c d e f g h i j k l m n o p q r = (a, (b, (c, (d, (e, (f, (g, (h, (i, (j, (k, (l, (m, (n, (o, (p, (q, (r, tt))))))))))))))))))
+
 -- ---- a list of facts with a list of tests
 abbrev pub Backed : List (Type 0) → List Bool → Type 0
 Backed [] bs = Unit {0}
@@ -72,7 +89,8 @@ three-parts xs ys zs a =
     (one .0, two .0, two .1)
 
 -- and a list of three parts with its tests
-pub three-backed : (xs ys zs : List (Type 0)) (bs ds es : List Bool) → length xs ≡ length bs → length ys ≡ length ds → Backed xs bs → Backed ys ds → Backed zs es
+pub three-backed : (xs ys zs : List (Type 0)) (bs ds es : List Bool) → length xs ≡ length bs → length ys ≡ length ds → Backed xs bs → Backed ys ds
+    → Backed zs es
     → Backed (xs ++ (ys ++ zs)) (bs ++ (ds ++ es))
 three-backed xs ys zs bs ds es n o k l p = and-then xs (ys ++ zs) bs (ds ++ es) n k (and-then ys zs ds es o l p)
 
@@ -132,25 +150,25 @@ module _ (m : Recovery) (fa : SideFits (m .asker)) (fh : SideFits (m .holder)) w
       let la = fa .later in
       let eh = fh .earlier in
       let lh = fh .later in
-      (ltb-true (m .source) 8,
-      (not-true _,
-      (not-true _,
-      (always-before asker ea la (UpTo asker t1) (upTo asker t1) (up-to-shows asker t1),
-      (always-before holder eh lh (UpTo holder t1) (upTo holder t1) (up-to-shows holder t1),
-      (λ h. at-start asker ea la (λ (e : End). isClosed (sourceAt e (asHost (m .source)) .span) ≡ false) (not-true _ h),
-      (λ h. at-start asker ea la (λ (e : End). isHeld (slotOf e (m .source) (m .number)) ≡ false) (not-true _ h),
-      (λ h. at-start holder eh lh (λ (e : End). isHeld (slotOf e (m .source) (m .number)) ≡ true) h,
-      (λ _. la .0,
-      (λ _. lh .0,
-      (always-behind asker ea la NeitherLeavesNorCrashes stays stays-shows,
-      (always-behind holder eh lh NeitherLeavesNorCrashes stays stays-shows,
-      (always-behind asker ea la (Keeps m) (keeps m) (keeps-shows m),
-      (always-behind holder eh lh (Keeps m) (keeps m) (keeps-shows m),
-      (always-behind asker ea la (AsksInTime m) (asksInTime m) (asks-in-time-shows m),
-      (always-behind holder eh lh (RepliesInTime m) (repliesInTime m) (replies-in-time-shows m),
-      (λ h. at-start holder eh lh (λ (e : End). Settled m e) (settled-shows m (logs holder .start) h),
-      (always-behind holder eh lh (Reaches m) (reaches m) (reaches-shows m),
-      tt))))))))))))))))))
+      chain18
+      (ltb-true (m .source) 8)
+      (not-true _)
+      (not-true _)
+      (always-before asker ea la (UpTo asker t1) (upTo asker t1) (up-to-shows asker t1))
+      (always-before holder eh lh (UpTo holder t1) (upTo holder t1) (up-to-shows holder t1))
+      (λ h. at-start asker ea la (λ (e : End). isClosed (sourceAt e (asHost (m .source)) .span) ≡ false) (not-true _ h))
+      (λ h. at-start asker ea la (λ (e : End). isHeld (slotOf e (m .source) (m .number)) ≡ false) (not-true _ h))
+      (λ h. at-start holder eh lh (λ (e : End). isHeld (slotOf e (m .source) (m .number)) ≡ true) h)
+      (λ _. la .0)
+      (λ _. lh .0)
+      (always-behind asker ea la NeitherLeavesNorCrashes stays stays-shows)
+      (always-behind holder eh lh NeitherLeavesNorCrashes stays stays-shows)
+      (always-behind asker ea la (Keeps m) (keeps m) (keeps-shows m))
+      (always-behind holder eh lh (Keeps m) (keeps m) (keeps-shows m))
+      (always-behind asker ea la (AsksInTime m) (asksInTime m) (asks-in-time-shows m))
+      (always-behind holder eh lh (RepliesInTime m) (repliesInTime m) (replies-in-time-shows m))
+      (λ h. at-start holder eh lh (λ (e : End). Settled m e) (settled-shows m (logs holder .start) h))
+      (always-behind holder eh lh (Reaches m) (reaches m) (reaches-shows m))
 
   module _ (on : ℕ → Type 0) (when : ℕ → Bool) (says : (t : ℕ) → on t → when t ≡ true) where
     pub network-backed : Backed (networkSupposes m on) (networkTests m when (logs asker) (logs holder))
@@ -159,11 +177,11 @@ module _ (m : Recovery) (fa : SideFits (m .asker)) (fh : SideFits (m .holder)) w
         let la = fa .later in
         let eh = fh .earlier in
         let lh = fh .later in
-        (always-behind asker ea la (RequestsReach m on) (requestsReach m when (logs holder)) (requests-reach-shows m when on says eh lh),
-        (always-behind asker ea la (RequestsShared m on) (requestsShared m when (logs holder)) (requests-shared-shows m when on says eh lh),
-        (always-behind holder eh lh (RepairsReach m on) (repairsReach m when (logs asker)) (repairs-reach-shows m when on says ea la),
-        (always-behind holder eh lh (RepairsShared m on) (repairsShared m when (logs asker)) (repairs-shared-shows m when on says ea la),
-        tt))))
+        chain4
+        (always-behind asker ea la (RequestsReach m on) (requestsReach m when (logs holder)) (requests-reach-shows m when on says eh lh))
+        (always-behind asker ea la (RequestsShared m on) (requestsShared m when (logs holder)) (requests-shared-shows m when on says eh lh))
+        (always-behind holder eh lh (RepairsReach m on) (repairsReach m when (logs asker)) (repairs-reach-shows m when on says ea la))
+        (always-behind holder eh lh (RepairsShared m on) (repairsShared m when (logs asker)) (repairs-shared-shows m when on says ea la))
 
   -- ---- a side has passed a time; the cue is not got by a time
   pub asker-passed : (t : ℕ) → some (passes asker t) (logs asker .behind) ≡ true → Passed asker t
@@ -177,28 +195,28 @@ module _ (m : Recovery) (fa : SideFits (m .asker)) (fh : SideFits (m .holder)) w
 
 -- ---- the records of the crate recovery
 pub supposed-of : (m : Recovery) (t1 : ℕ) → All (endsSuppose m t1) → Supposed m t1
-supposed-of m t1 (source, (two, (other, (asker-by, (holder-by, (open-there, (lacks, (holds, (asker-drawn, (holder-drawn, (asker-stays, (holder-stays, (asker-keeps, (holder-keeps, (asker-fires, (holder-fires, (settles, (reach, _)))))))))))))))))) =
+supposed-of m t1 (s, (two, (other, (ab, (hb, (open-there, (lacks, (holds, (ad, (hd, (az, (hs, (ak, (hk, (af, (hf, (st, (re, _)))))))))))))))))) =
     record {
       begins = record {
-        source = source;
+        source = s;
         two = two;
         other = other;
-        asker-by = asker-by;
-        holder-by = holder-by;
+        asker-by = ab;
+        holder-by = hb;
         open-there = open-there;
         lacks = lacks;
         holds = holds;
       };
-      asker-drawn = asker-drawn;
-      holder-drawn = holder-drawn;
-      asker-stays = asker-stays;
-      holder-stays = holder-stays;
-      asker-keeps = asker-keeps;
-      holder-keeps = holder-keeps;
-      asker-fires = asker-fires;
-      holder-fires = holder-fires;
-      holder-settled = settles;
-      holder-reaches = reach;
+      asker-drawn = ad;
+      holder-drawn = hd;
+      asker-stays = az;
+      holder-stays = hs;
+      asker-keeps = ak;
+      holder-keeps = hk;
+      asker-fires = af;
+      holder-fires = hf;
+      holder-settled = st;
+      holder-reaches = re;
     }
 
 pub whole-of : (m : Recovery) (on : ℕ → Type 0) → All (networkSupposes m on) → Whole m on
@@ -210,7 +228,8 @@ abbrev pub testsOf : Statement → (ℕ → Bool) → (Logs → Logs → List Bo
 testsOf s when own a h = endsTests (s .recovery) (s .t1) a h ++ (networkTests (s .recovery) when a h ++ own a h)
 
 module _ (s : Statement) (suffices : Supposed (s .recovery) (s .t1) → Whole (s .recovery) (s .on) → All (s .own) → claims s)
-    (when : ℕ → Bool) (says : (t : ℕ) → s .on t → when t ≡ true) (own : Logs → Logs → List Bool) (fa : SideFits (s .recovery .asker)) (fh : SideFits (s .recovery .holder))
+    (when : ℕ → Bool) (says : (t : ℕ) → s .on t → when t ≡ true) (own : Logs → Logs → List Bool) (fa : SideFits (s .recovery .asker))
+    (fh : SideFits (s .recovery .holder))
     (own-backed : Backed (s .own) (own (logs (s .recovery .asker)) (logs (s .recovery .holder)))) where
   abbrev m₀ : Recovery
   m₀ = s .recovery

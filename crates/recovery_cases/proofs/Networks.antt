@@ -66,7 +66,8 @@ module _ (m : Recovery) (which : Meaning → Bool) where
   abbrev takesFrom : Side → List ℕ → ℕ → Test
   takesFrom y bytes t z = takesBy y bytes (t + m .delay) z && leb t (timeOf y (z .call))
 
-  takes-from : (y : Side) (bytes : List ℕ) (t : ℕ) → Shows (takesFrom y bytes t) (λ e c. Taken e c × (c .action ≡ Arrival bytes) × (t ≤ timeOf y c) × (timeOf y c ≤ t + m .delay))
+  takes-from : (y : Side) (bytes : List ℕ) (t : ℕ)
+      → Shows (takesFrom y bytes t) (λ e c. Taken e c × (c .action ≡ Arrival bytes) × (t ≤ timeOf y c) × (timeOf y c ≤ t + m .delay))
   takes-from y bytes t e c h =
       let both = and-both (takesBy y bytes (t + m .delay) (entry e c (gives e c))) _ h in
       let b = takes-by y bytes (t + m .delay) e c (both .0) in

@@ -20,7 +20,7 @@ use Rattle.recovery_cases.specs.Needs.{claims, Met, Needed, OneRound, an
 use Rattle.recovery_cases.specs.OneRound.{listing, slowest, sameNumber, holderLater, lacking, askerLeaves, holderLeaves, askerRetires, holderRetires, askerIdle, holderIdle, farAway, requestLost, otherRequestLost, repairLost, otherRepairLost, askerStops, holderStops, tooEarly, unsettled, notOpen, askerLater, OneRoundShown}
 use Rattle.recovery_cases.proofs.Log.{log, every, some, fit, fits, Logs, logs, atPlace, at-place, always-rest, sometime-rest}
 use Rattle.recovery_cases.proofs.Tests.{laterThan, later-than-shows, passes, passes-shows, gotBy}
-use Rattle.recovery_cases.proofs.Backed.{Backed, allTrue, allBut, SideFits, sideFit, side-fits, holder-passed, testsOf, met, needed}
+use Rattle.recovery_cases.proofs.Backed.{chain4, Backed, allTrue, allBut, SideFits, sideFit, side-fits, holder-passed, testsOf, met, needed}
 use Rattle.recovery_cases.proofs.Computed.{computed}
 
 suffices : (r : OneRound) → Supposed (r .recovery) (r .t1) → Whole (r .recovery) (answering r .on) → All (answering r .own) → claims (answering r)
@@ -71,13 +71,14 @@ module _ (r : OneRound) (f : fitAll r ≡ true) (waits : Waits r) where
       let after-t1 = r .t1 + lookback m in
       let fm = fits (r .mid) (and-both (fit (r .mid)) (fit (r .rest)) (sides .1) .0) in
       let fr = fits (r .rest) (and-both (fit (r .mid)) (fit (r .rest)) (sides .1) .1) in
-      (λ _. at-place x (fa .earlier) (fa .later) (r .mid) fm (λ (e : End). requestOf e (m .source) (m .number) ≡ just (r .request)) waits,
-      (always-rest x (fa .earlier) (fa .later) (r .mid) fm (LaterThan x after-t1) (laterThan x after-t1) (r .rest) fr (later-than-shows x after-t1),
-      (sometime-rest x (fa .earlier) (fa .later) (r .mid) fm (λ e c. Taken e c × (bound < timeOf x c)) (passes x bound) (r .rest) fr (passes-shows x bound),
-      (holder-passed m fa fh bound,
-      tt))))
+      chain4
+      (λ _. at-place x (fa .earlier) (fa .later) (r .mid) fm (λ (e : End). requestOf e (m .source) (m .number) ≡ just (r .request)) waits)
+      (always-rest x (fa .earlier) (fa .later) (r .mid) fm (LaterThan x after-t1) (laterThan x after-t1) (r .rest) fr (later-than-shows x after-t1))
+      (sometime-rest x (fa .earlier) (fa .later) (r .mid) fm (λ e c. Taken e c × (bound < timeOf x c)) (passes x bound) (r .rest) fr (passes-shows x bound))
+      (holder-passed m fa fh bound)
 
-  is-met : (t : ℕ) → allTrue (testsOf (answering r) (when r) (own r) (logs x) (logs y)) ≡ true → every (λ z. not (gotBy (r .recovery) t z)) (logs x .behind) ≡ true
+  is-met : (t : ℕ) → allTrue (testsOf (answering r) (when r) (own r) (logs x) (logs y)) ≡ true
+      → every (λ z. not (gotBy (r .recovery) t z)) (logs x .behind) ≡ true
       → Met (answering r) t
   is-met = met (answering r) (suffices r) (when r) (says r) (own r) fa fh own-backed
 

@@ -42,7 +42,7 @@ use Rattle.recovery_cases.specs.Calls.{slow, cue}
 use Rattle.recovery_cases.specs.Others.{among, another, others, second, amongMid, amongRest, answeredAmong, recoversAmong, afterOutageAmong, reporter, detection, detectionSupposes, Known, haste, hasteSupposes, OthersShown}
 use Rattle.recovery_cases.proofs.Log.{gives, entry, log, every, some, Test, Fit, fits, Logs, logs, atPlace, at-start, at-place, always-behind, sometime-behind, never-behind, always-rest, sometime-rest}
 use Rattle.recovery_cases.proofs.Tests.{Shows, holds-if, outs, takesBy, takes-by, stays, stays-shows, keeps, keeps-shows, laterThan, later-than-shows, passes, passes-shows, betweenTest, between-shows}
-use Rattle.recovery_cases.proofs.Backed.{SideFits, side-fits, asker-passed, not-got}
+use Rattle.recovery_cases.proofs.Backed.{chain6, chain7, chain8, SideFits, side-fits, asker-passed, not-got}
 use Rattle.recovery_cases.proofs.Rounds.{among as amongTimes, not-among, first-asks, outlasts-shows}
 use Rattle.recovery_cases.proofs.Several.{each-supposed, all-passed, whole-among}
 use Rattle.recovery_cases.proofs.Reports.{reports-every}
@@ -126,14 +126,14 @@ answered-holds =
     let e = asker-fits .earlier in
     let l = asker-fits .later in
     let bound = answeredBy among second in
-    (each-712,
-    (at-place x e l amongMid mid-fits (λ (d : End). requestOf d 0 1 ≡ just second) second-waits,
+    chain6
+    each-712
+    (at-place x e l amongMid mid-fits (λ (d : End). requestOf d 0 1 ≡ just second) second-waits)
     (always-rest x e l amongMid mid-fits (LaterThan x (712 + lookback among)) (laterThan x (712 + lookback among)) amongRest rest-fits
-    (later-than-shows x (712 + lookback among)) rest-later,
-    (whole-later bound,
-    (sometime-rest x e l amongMid mid-fits (λ d c. Taken d c × (bound < timeOf x c)) (passes x bound) amongRest rest-fits (passes-shows x bound) rest-passes,
-    (all-pass-answered,
-    tt))))))
+    (later-than-shows x (712 + lookback among)) rest-later)
+    (whole-later bound)
+    (sometime-rest x e l amongMid mid-fits (λ d c. Taken d c × (bound < timeOf x c)) (passes x bound) amongRest rest-fits (passes-shows x bound) rest-passes)
+    all-pass-answered
 
 answered-met : Reached answeredAmong (RecoversBy among (answeredBy among second)) (RecoversBy among 2091)
 answered-met = record { holds = answered-holds; reached = go answered-holds; no-sooner = not-by-2091 }
@@ -153,14 +153,14 @@ at-40 = always-behind (among .asker) (asker-fits .earlier) (asker-fits .later) (
 recovers-holds : All recoversAmong
 unfolding computed
 recovers-holds =
-    (each-32,
-    (first-712,
-    (record { quiet = leb-true _ _ refl; next = leb-true _ _ refl },
-    (at-40,
-    (whole-but-712,
-    (asker-passed among asker-fits holder-fits (lossesBy among 40 32 1 2) refl,
-    (all-passed among another asker-fits holder-fits another-fits (lossesBy among 40 32 1 2) refl refl,
-    tt)))))))
+    chain7
+    each-32
+    first-712
+    (record { quiet = leb-true _ _ refl; next = leb-true _ _ refl })
+    at-40
+    whole-but-712
+    (asker-passed among asker-fits holder-fits (lossesBy among 40 32 1 2) refl)
+    (all-passed among another asker-fits holder-fits another-fits (lossesBy among 40 32 1 2) refl refl)
 
 recovers-met : Reached recoversAmong (RecoversBy among (lossesBy among 40 32 1 2)) (RecoversBy among 2091)
 recovers-met = record { holds = recovers-holds; reached = go recovers-holds; no-sooner = not-by-2091 }
@@ -172,15 +172,15 @@ recovers-met = record { holds = recovers-holds; reached = go recovers-holds; no-
 outage-holds : All afterOutageAmong
 unfolding computed
 outage-holds =
-    (each-712,
-    (first-712,
-    (leb-true _ _ refl,
-    (outlasts-shows among 40 712 32 1 2 refl,
-    (at-40,
-    (whole-later (outageBy among 40 712 2),
-    (asker-passed among asker-fits holder-fits (outageBy among 40 712 2) refl,
-    (all-passed among another asker-fits holder-fits another-fits (outageBy among 40 712 2) refl refl,
-    tt))))))))
+    chain8
+    each-712
+    first-712
+    (leb-true _ _ refl)
+    (outlasts-shows among 40 712 32 1 2 refl)
+    at-40
+    (whole-later (outageBy among 40 712 2))
+    (asker-passed among asker-fits holder-fits (outageBy among 40 712 2) refl)
+    (all-passed among another asker-fits holder-fits another-fits (outageBy among 40 712 2) refl refl)
 
 outage-met : Reached afterOutageAmong (RecoversBy among (outageBy among 40 712 2)) (RecoversBy among 2091)
 outage-met = record { holds = outage-holds; reached = go outage-holds; no-sooner = not-by-2091 }
@@ -289,7 +289,8 @@ reaches-shows e c p bytes out is =
     )
 
 abbrev returns : Logs → Test
-returns a z = outs (λ b. not (isAbout REPL (meaningFrom b) 0 1) || some (takesBy (haste .asker) b (timeOf (haste .holder) (z .call) + 10)) (a .behind)) (z .result .outcome)
+returns a z = outs (λ b. not (isAbout REPL (meaningFrom b) 0 1) || some (takesBy (haste .asker) b (timeOf (haste .holder) (z .call) + 10)) (a .behind))
+    (z .result .outcome)
 
 returns-shows : Shows (returns (logs (haste .asker))) (ExpressReturns haste)
 returns-shows e c p bytes out is =
@@ -325,13 +326,13 @@ haste-holds =
     let x = haste .asker in
     let ea = hasty-fits .earlier in
     let la = hasty-fits .later in
-    (both-stay,
-    (at-start x ea la (λ (d : End). slotOf d 0 1 ≡ Waiting (record { round = 1; due = 560; quiet = 360 }) (Soon 300)) refl,
-    (always-behind x ea la (ExpressInTime haste) inTime in-time-shows refl,
-    (always-behind x ea la (ExpressReaches haste) (reaches (logs (haste .holder))) reaches-shows refl,
-    (always-behind (haste .holder) (hasty-holder-fits .earlier) (hasty-holder-fits .later) (ExpressReturns haste) (returns (logs x)) returns-shows refl,
-    (asker-passed haste hasty-fits hasty-holder-fits (expressBy haste 300) refl,
-    tt))))))
+    chain6
+    both-stay
+    (at-start x ea la (λ (d : End). slotOf d 0 1 ≡ Waiting (record { round = 1; due = 560; quiet = 360 }) (Soon 300)) refl)
+    (always-behind x ea la (ExpressInTime haste) inTime in-time-shows refl)
+    (always-behind x ea la (ExpressReaches haste) (reaches (logs (haste .holder))) reaches-shows refl)
+    (always-behind (haste .holder) (hasty-holder-fits .earlier) (hasty-holder-fits .later) (ExpressReturns haste) (returns (logs x)) returns-shows refl)
+    (asker-passed haste hasty-fits hasty-holder-fits (expressBy haste 300) refl)
 
 haste-met : Reached hasteSupposes (RecoversBy haste (expressBy haste 300)) (RecoversBy haste 319)
 unfolding computed

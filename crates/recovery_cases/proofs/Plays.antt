@@ -186,7 +186,8 @@ module _ (opens : Opens) where
 
   calm-ends : Supposed n 22
   unfolding computed
-  calm-ends = supposed-of n 22 (all-hold (endsSuppose n 22) (endsTests n 22 (logs (n .asker)) (logs (n .holder))) (ends-backed n calm-asker calm-holder 22) refl)
+  calm-ends = supposed-of n 22
+      (all-hold (endsSuppose n 22) (endsTests n 22 (logs (n .asker)) (logs (n .holder))) (ends-backed n calm-asker calm-holder 22) refl)
 
   calm-supposed : SteadySupposed n (reporterIn (calm opens)) 40 100 22 400 []
   unfolding computed
@@ -230,7 +231,8 @@ module _ (opens : Opens) where
 
   calm-requests : (k : ℕ) (hk : k < 8) → Asked′ k hk
   unfolding computed
-  calm-requests = eight Asked′ (λ h. asked′ 0 h refl refl) (λ h apart. clash apart) (λ h. asked′ 2 h refl refl) (λ h. asked′ 3 h refl refl) (λ h. asked′ 4 h refl refl)
+  calm-requests = eight Asked′ (λ h. asked′ 0 h refl refl) (λ h apart. clash apart) (λ h. asked′ 2 h refl refl) (λ h. asked′ 3 h refl refl)
+      (λ h. asked′ 4 h refl refl)
       (λ h. asked′ 5 h refl refl) (λ h. asked′ 6 h refl refl) (λ h. asked′ 7 h refl refl)
 
   calm-repairs : (k : ℕ) (hk : k < 8) → Mended′ k hk

@@ -89,7 +89,8 @@ module _ (m : Recovery) (x : Side) (period until : ℕ) (missed : List ℕ) wher
           last-at-least (sourceAt e (asHost (m .source)) .span) (m .number) (g .0),
           λ there bytes out. sometime-behind (m .asker) (fa .earlier) (fa .later) (TakesBy (m .asker) bytes (timeOf x c + m .delay))
               (takesBy (m .asker) bytes (timeOf x c + m .delay)) (takes-by (m .asker) bytes (timeOf x c + m .delay))
-              (sym (ap (outs _) out) ∙ or-alone _ _ (g .1) (byTest (among (timeOf x c) missed) (λ i. absurd (there (is-among (timeOf x c) missed i))) (λ i. i))),
+              (sym (ap (outs _) out)
+              ∙ or-alone _ _ (g .1) (byTest (among (timeOf x c) missed) (λ i. absurd (there (is-among (timeOf x c) missed i))) (λ i. i))),
         )
 
     covered : (cs : List OneCall) (e : End) (from : ℕ) → soundOf e ≡ true → Fit cs → covers (logs (m .asker)) from (log e cs) ≡ true
@@ -97,8 +98,10 @@ module _ (m : Recovery) (x : Side) (period until : ℕ) (missed : List ℕ) wher
     covered [] e from sound f h t low high = absurd (omega (arith, ltb-true until from h, low, high))
     covered (c ∷ cs) e from sound f h t low high =
         let a = logs (m .asker) in
-        let now : ltb until from || cond (next a from (entry e c (gives e c))) (covers a (timeOf x c) (log (after e c) cs)) (covers a from (log (after e c) cs)) ≡ true =
-        subst (λ (r : Result). ltb until from || cond (next a from (entry e c r)) (covers a (timeOf x c) (log (r .left) cs)) (covers a from (log (r .left) cs)) ≡ true)
+        let now : ltb until from
+        || cond (next a from (entry e c (gives e c))) (covers a (timeOf x c) (log (after e c) cs)) (covers a from (log (after e c) cs)) ≡ true =
+        subst (λ (r : Result). ltb until from
+        || cond (next a from (entry e c r)) (covers a (timeOf x c) (log (r .left) cs)) (covers a from (log (r .left) cs)) ≡ true)
         (given-is e c sound) h in
         let sound-then = sound-after e c cs sound f in
         let on : (u : ℕ) → u ≤ t → covers a u (log (after e c) cs) ≡ true → Sometime (ReportsWithin m x period t missed) e (c ∷ cs) =

@@ -35,7 +35,7 @@ use Rattle.recovery_cases.specs.Calls.{at, slow, cue}
 use Rattle.recovery_cases.specs.Rounds.{steady as steadyList, lossRounds, lossOutage, outageLonger, quietTooShort, nearerThan, fartherThan, nextTooShort, RoundsShown}
 use Rattle.recovery_cases.proofs.Log.{given, log, every, some, Fit, fits, Logs, logs, atPlace, at-place, after-place, always-behind, sometime-rest}
 use Rattle.recovery_cases.proofs.Tests.{holds-if, passes, passes-shows, betweenTest, between-shows, gotBy}
-use Rattle.recovery_cases.proofs.Backed.{Backed, allTrue, allBut, SideFits, side-fits, asker-passed, holder-passed, testsOf, met, needed}
+use Rattle.recovery_cases.proofs.Backed.{chain6, chain8, Backed, allTrue, allBut, SideFits, side-fits, asker-passed, holder-passed, testsOf, met, needed}
 use Rattle.recovery_cases.proofs.Computed.{computed}
 
 -- ---- `Steady`
@@ -72,15 +72,15 @@ module _ (r : Steadily) (fa : SideFits (r .recovery .asker)) (fh : SideFits (r .
       let m = r .recovery in
       let x = m .asker in
       let bound = steadying r .by in
-      (λ _. at-place x (fa .earlier) (fa .later) (r .mid) fm (λ (e : End). requestOf e (m .source) (m .number) ≡ none) (asks .0),
-      (λ _. after-place x (fa .earlier) (fa .later) (r .mid) fm (r .call) (λ (e : End). requestOf e (m .source) (m .number) ≡ just (r .request)) (asks .1),
-      (λ h. at-place x (fa .earlier) (fa .later) (r .mid) fm (λ (e : End). distanceTo e (asHost (m .source)) ≤ r .far) (leb-true _ _ h),
-      (ltb-true _ _,
+      chain6
+      (λ _. at-place x (fa .earlier) (fa .later) (r .mid) fm (λ (e : End). requestOf e (m .source) (m .number) ≡ none) (asks .0))
+      (λ _. after-place x (fa .earlier) (fa .later) (r .mid) fm (r .call) (λ (e : End). requestOf e (m .source) (m .number) ≡ just (r .request)) (asks .1))
+      (λ h. at-place x (fa .earlier) (fa .later) (r .mid) fm (λ (e : End). distanceTo e (asHost (m .source)) ≤ r .far) (leb-true _ _ h))
+      (ltb-true _ _)
       (λ h. subst (λ (e : End). Passes x bound e (r .rest)) (after-parts (r .mid) (r .call ∷ []) (begun x))
       (sometime-rest x (fa .earlier) (fa .later) (r .mid ++ (r .call ∷ [])) fc (λ e c. Taken e c × (bound < timeOf x c)) (passes x bound) (r .rest) fr
-      (passes-shows x bound) h),
-      (holder-passed m fa fh bound,
-      tt))))))
+      (passes-shows x bound) h))
+      (holder-passed m fa fh bound)
 
   is-steady : (t : ℕ) → allTrue (testsOf (steadying r) (steadyWhen r) (steadyOwn r) (logs (r .recovery .asker)) (logs (r .recovery .holder))) ≡ true
       → every (λ x. not (gotBy (r .recovery) t x)) (logs (r .recovery .asker) .behind) ≡ true → Met (steadying r) t
@@ -142,15 +142,16 @@ module _ (r : Rounds) (fa : SideFits (r .recovery .asker)) (fh : SideFits (r .re
   recovers-backed : Backed (recovering r .own) (recoversOwn r (logs (r .recovery .asker)) (logs (r .recovery .holder)))
   recovers-backed =
       let m = r .recovery in
-      (leb-true _ _,
-      (λ _. first,
-      (leb-true _ _,
-      (leb-true _ _,
-      (leb-true _ _,
-      (always-behind (m .asker) (fa .earlier) (fa .later) (Between m (r .near) (r .far)) (betweenTest m (r .near) (r .far)) (between-shows m (r .near) (r .far)),
-      (asker-passed m fa fh (recovering r .by),
-      (holder-passed m fa fh (recovering r .by),
-      tt))))))))
+      chain8
+      (leb-true _ _)
+      (λ _. first)
+      (leb-true _ _)
+      (leb-true _ _)
+      (leb-true _ _)
+      (always-behind (m .asker) (fa .earlier) (fa .later) (Between m (r .near) (r .far)) (betweenTest m (r .near) (r .far))
+      (between-shows m (r .near) (r .far)))
+      (asker-passed m fa fh (recovering r .by))
+      (holder-passed m fa fh (recovering r .by))
 
   does-recover : (t : ℕ) → allTrue (testsOf (recovering r) (recoversWhen r) (recoversOwn r) (logs (r .recovery .asker)) (logs (r .recovery .holder))) ≡ true
       → every (λ x. not (gotBy (r .recovery) t x)) (logs (r .recovery .asker) .behind) ≡ true → Met (recovering r) t
@@ -195,13 +196,14 @@ module _ (r : Outage) (fa : SideFits (r .recovery .asker)) (fh : SideFits (r .re
   outage-backed : Backed (outlasting r .own) (outageOwn r (logs (r .recovery .asker)) (logs (r .recovery .holder)))
   outage-backed =
       let m = r .recovery in
-      (λ _. first,
-      (leb-true _ _,
-      (outlasts-shows m (r .near) (r .t1) (r .t0) (r .round) (r .f),
-      (always-behind (m .asker) (fa .earlier) (fa .later) (Between m (r .near) (r .far)) (betweenTest m (r .near) (r .far)) (between-shows m (r .near) (r .far)),
-      (asker-passed m fa fh (outlasting r .by),
-      (holder-passed m fa fh (outlasting r .by),
-      tt))))))
+      chain6
+      (λ _. first)
+      (leb-true _ _)
+      (outlasts-shows m (r .near) (r .t1) (r .t0) (r .round) (r .f))
+      (always-behind (m .asker) (fa .earlier) (fa .later) (Between m (r .near) (r .far)) (betweenTest m (r .near) (r .far))
+      (between-shows m (r .near) (r .far)))
+      (asker-passed m fa fh (outlasting r .by))
+      (holder-passed m fa fh (outlasting r .by))
 
   does-outlast : (t : ℕ) → allTrue (testsOf (outlasting r) (outageWhen r) (outageOwn r) (logs (r .recovery .asker)) (logs (r .recovery .holder))) ≡ true
       → every (λ x. not (gotBy (r .recovery) t x)) (logs (r .recovery .asker) .behind) ≡ true → Met (outlasting r) t

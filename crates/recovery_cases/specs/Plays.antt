@@ -162,6 +162,8 @@ calmSupposes opens =
 
 pub record PlaysShown : Type 0 where
   pub opens : Opens
-  pub timely : Reached (crashSupposes opens) (HandedOutBy (crash opens) (timelyBy (recoveryIn (crash opens)) 40 100 30 1 4)) (RecoversBy (recoveryIn (crash opens)) 1389)
+  pub timely : Reached (crashSupposes opens) (HandedOutBy (crash opens) (timelyBy (recoveryIn (crash opens)) 40 100 30 1 4))
+      (RecoversBy (recoveryIn (crash opens)) 1389)
   pub network : Whole (recoveryIn (crash opens)) (Spared 30 (660 ∷ []))
-  pub steady : Reached (calmSupposes opens) (HandedOutBy (calm opens) (timelySteadyBy (recoveryIn (calm opens)) 40 100 400 0)) (RecoversBy (recoveryIn (calm opens)) 1049)
+  pub steady : Reached (calmSupposes opens) (HandedOutBy (calm opens) (timelySteadyBy (recoveryIn (calm opens)) 40 100 400 0))
+      (RecoversBy (recoveryIn (calm opens)) 1049)

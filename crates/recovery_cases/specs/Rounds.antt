@@ -82,7 +82,8 @@ nearerThan = record { recovery = nearby; near = 170; far = 84; t1 = 800; t0 = 80
 -- the asker's distance is 1000, and not up to 40: its first request is due at 17010, after the bound for J = 3, 8010 + 7×680 + 340
 abbrev pub fartherThan : Rounds
 fartherThan = record {
-  recovery = between (side 1 houseParams (heard0 ++ (at 8000 (echo 0 1 0) ∷ [])) (at 8010 (cue 2) ∷ past 13111 ∷ [])) (side 0 houseParams sent (past 13111 ∷ []))
+  recovery = between (side 1 houseParams (heard0 ++ (at 8000 (echo 0 1 0) ∷ [])) (at 8010 (cue 2) ∷ past 13111 ∷ []))
+      (side 0 houseParams sent (past 13111 ∷ []))
       10 40;
   near = 40;
   far = 40;

@@ -31,8 +31,8 @@ use Rattle.recovery.proofs.Steady.{steady}
 use Rattle.recovery.proofs.Losses.{recovers}
 use Rattle.recovery.proofs.Outage.{after-outage}
 use Rattle.recovery_cases.specs.Needs.{claims, Met, Needed, Steadily, steadying, Rounds, recovering, Outage, outlasting}
-use Rattle.recovery_cases.specs.Calls.{at, slow, cue}
-use Rattle.recovery_cases.specs.Rounds.{steady as steadyList, lossRounds, lossOutage, outageLonger, quietTooShort, nearerThan, fartherThan, nextTooShort, RoundsShown}
+use Rattle.recovery_cases.specs.Calls.{at, slow, cue, request}
+use Rattle.recovery_cases.specs.Rounds.{steady as steadyList, steadyFarther, tooSoon, heldLater, secondRound, askedLater, outageNearer, outageFarther, lossRounds, lossOutage, outageLonger, quietTooShort, nearerThan, fartherThan, nextTooShort, RoundsShown}
 use Rattle.recovery_cases.proofs.Log.{given, log, every, some, Fit, fits, Logs, logs, atPlace, at-place, after-place, always-behind, sometime-rest}
 use Rattle.recovery_cases.proofs.Tests.{holds-if, passes, passes-shows, betweenTest, between-shows, gotBy}
 use Rattle.recovery_cases.proofs.Backed.{chain6, chain8, Backed, allTrue, allBut, SideFits, side-fits, asker-passed, holder-passed, testsOf, met, needed}
@@ -85,6 +85,10 @@ module _ (r : Steadily) (fa : SideFits (r .recovery .asker)) (fh : SideFits (r .
   is-steady : (t : ℕ) → allTrue (testsOf (steadying r) (steadyWhen r) (steadyOwn r) (logs (r .recovery .asker)) (logs (r .recovery .holder))) ≡ true
       → every (λ x. not (gotBy (r .recovery) t x)) (logs (r .recovery .asker) .behind) ≡ true → Met (steadying r) t
   is-steady = met (steadying r) (steady-suffices r) (steadyWhen r) (steady-says r) (steadyOwn r) fa fh steady-backed
+
+  steady-needs : (i : ℕ) → allBut i (testsOf (steadying r) (steadyWhen r) (steadyOwn r) (logs (r .recovery .asker)) (logs (r .recovery .holder))) ≡ true
+      → every (λ x. not (gotBy (r .recovery) (steadying r .by) x)) (logs (r .recovery .asker) .behind) ≡ true → Needed i (steadying r)
+  steady-needs = needed (steadying r) (steady-suffices r) (steadyWhen r) (steady-says r) (steadyOwn r) fa fh steady-backed
 
 -- ---- a list of times
 abbrev pub among : ℕ → List ℕ → Bool
@@ -237,6 +241,36 @@ outage-met =
     does-outlast lossOutage fa (side-fits (m .holder) refl)
     (first-asks m fa (slow 32 (cue 2)) _ (record { round = 1; due = 712; quiet = 352 }) refl (refl, refl)) 2091 refl refl
 
+needed-steady-far : Needed 24 (steadying steadyFarther)
+unfolding computed
+needed-steady-far =
+    let m = steadyFarther .recovery in
+    steady-needs steadyFarther (side-fits (m .asker) refl) (side-fits (m .holder) refl) (tt, tt) (fits (steadyFarther .call ∷ []) refl)
+    (fits (steadyFarther .rest) refl) (refl, refl) 24 refl refl
+
+needed-steady-late : Needed 25 (steadying tooSoon)
+unfolding computed
+needed-steady-late =
+    let m = tooSoon .recovery in
+    steady-needs tooSoon (side-fits (m .asker) refl) (side-fits (m .holder) refl) (tt, tt) (fits (tooSoon .call ∷ []) refl)
+    (fits (tooSoon .rest) refl) (refl, refl) 25 refl refl
+
+needed-held-at-first : Needed 22 (recovering heldLater)
+unfolding computed
+needed-held-at-first =
+    let m = heldLater .recovery in
+    let fa = side-fits (m .asker) refl in
+    recovers-needs heldLater fa (side-fits (m .holder) refl)
+    (first-asks m fa (slow 32 (cue 2)) _ (record { round = 1; due = 712; quiet = 352 }) refl (refl, refl)) 22 refl refl
+
+needed-first-round : Needed 24 (recovering secondRound)
+unfolding computed
+needed-first-round =
+    let m = secondRound .recovery in
+    let fa = side-fits (m .asker) refl in
+    recovers-needs secondRound fa (side-fits (m .holder) refl)
+    (first-asks m fa (slow 32 (request 2 31)) _ (record { round = 2; due = 1392; quiet = 672 }) refl (refl, refl)) 24 refl refl
+
 needed-quiet : Needed 25 (recovering quietTooShort)
 unfolding computed
 needed-quiet =
@@ -277,14 +311,45 @@ needed-outlasts =
     outage-needs outageLonger fa (side-fits (m .holder) refl)
     (first-asks m fa (slow 32 (cue 2)) _ (record { round = 1; due = 712; quiet = 352 }) refl (refl, refl)) 24 refl refl
 
+needed-asked-by : Needed 23 (outlasting askedLater)
+unfolding computed
+needed-asked-by =
+    let m = askedLater .recovery in
+    let fa = side-fits (m .asker) refl in
+    outage-needs askedLater fa (side-fits (m .holder) refl)
+    (first-asks m fa (slow 500 (cue 2)) _ (record { round = 1; due = 1180; quiet = 820 }) refl (refl, refl)) 23 refl refl
+
+needed-outage-near : Needed 25 (outlasting outageNearer)
+unfolding computed
+needed-outage-near =
+    let m = outageNearer .recovery in
+    let fa = side-fits (m .asker) refl in
+    outage-needs outageNearer fa (side-fits (m .holder) refl)
+    (first-asks m fa (slow 32 (cue 2)) _ (record { round = 1; due = 712; quiet = 352 }) refl (refl, refl)) 25 refl refl
+
+needed-outage-far : Needed 25 (outlasting outageFarther)
+unfolding computed
+needed-outage-far =
+    let m = outageFarther .recovery in
+    let fa = side-fits (m .asker) refl in
+    outage-needs outageFarther fa (side-fits (m .holder) refl)
+    (first-asks m fa (at 8010 (cue 2)) _ (record { round = 1; due = 17010; quiet = 12010 }) refl (refl, refl)) 25 refl refl
+
 pub rounds-shown : RoundsShown
 rounds-shown = record {
   steady = steady-met;
   loss = loss-met;
   outage = outage-met;
+  steady-far = needed-steady-far;
+  steady-late = needed-steady-late;
+  held-at-first = needed-held-at-first;
+  first-round = needed-first-round;
   quiet = needed-quiet;
   next = needed-next;
   near = needed-near;
   far = needed-far;
+  asked-by = needed-asked-by;
   outlasts = needed-outlasts;
+  outage-near = needed-outage-near;
+  outage-far = needed-outage-far;
 }

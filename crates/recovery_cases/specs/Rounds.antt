@@ -1,5 +1,6 @@
--- `Steady`, `Recovers` and `AfterOutage` on computed lists: lists in which all that they suppose holds; and lists in which `LongRound`, in either part,
--- `Between`, in either part, or `Outlasts` alone fails and the bound is missed. What they suppose of the ends and the network is needed by OneRound.antt.
+-- `Steady`, `Recovers` and `AfterOutage` on computed lists: lists in which all that they suppose holds; and for each thing that they suppose of their own,
+-- as `LongRound`, `Between` and `Outlasts`, a list in which that alone fails and the bound is missed. (That the asker asks at all is not among these.) That
+-- what they suppose of the ends and the network is needed is shown in OneRound.antt.
 use mathlib.Core.Path.{refl}
 use mathlib.Core.List.{List, [], _∷_, _++_}
 use Prim.Native.Nat.{ℕ, _+_}
@@ -117,12 +118,104 @@ nextTooShort = record {
   lost = 1699 ∷ [];
 }
 
+-- ---- other things that `Steady`, `Recovers` and `AfterOutage` suppose of their own
+
+-- the steady list, with a distance taken for at most 30
+abbrev pub steadyFarther : Steadily
+steadyFarther = record {
+  recovery = steady .recovery;
+  t1 = 20;
+  far = 30;
+  mid = [];
+  call = steady .call;
+  rest = steady .rest;
+  parts = refl;
+  request = steady .request;
+}
+
+-- A repair of 260 for host 2, lost to the asker, has made the holder quiet up to 580. The asker's distance is 30: it asks too soon after t1 = 300, at 575,
+-- and is passed over; its request of 1115 is answered at 1280, after the bound, 305 + 510 + 340.
+abbrev pub tooSoonRest : List OneCall
+tooSoonRest = at 575 fire ∷ at 1115 fire ∷ past 1156 ∷ []
+
+abbrev pub tooSoon : Steadily
+tooSoon = record {
+  recovery = between (side 1 houseParams (heard0 ++ (at 250 (echo 0 1 10) ∷ [])) (at 305 (cue 2) ∷ tooSoonRest))
+      (side 0 houseParams (sent ++ (at 100 (request 2 90) ∷ at 260 fire ∷ []))
+      (at 579 (request 1 575) ∷ at 1120 (request 1 1115) ∷ past 1156 ∷ []))
+      10 40;
+  t1 = 300;
+  far = 30;
+  mid = [];
+  call = at 305 (cue 2);
+  rest = tooSoonRest;
+  parts = refl;
+  request = record { round = 1; due = 575; quiet = 425 };
+}
+
+-- the holder gets the cue at 1990 only, after t0 = 32
+abbrev pub heldLater : Rounds
+heldLater = record {
+  recovery = between (side 1 prompt heard0 (slow 32 (cue 2) ∷ slow 712 fire ∷ past 733 ∷ []))
+      (side 2 prompt (heard0 ++ (at 722 (request 1 712) ∷ at 1990 (cue 1) ∷ [])) (past 2001 ∷ [])) 10 40;
+  near = 40;
+  far = 40;
+  t1 = 2000;
+  t0 = 32;
+  round = 1;
+  j = 1;
+  lost = [];
+}
+
+-- the asker learns of the cue by another's request, so in round 2, and J is 1
+abbrev pub secondRound : Rounds
+secondRound = record {
+  recovery = between (side 1 prompt heard0 (slow 32 (request 2 31) ∷ past 53 ∷ [])) (side 0 prompt sent (past 53 ∷ [])) 10 40;
+  near = 40;
+  far = 40;
+  t1 = 32;
+  t0 = 32;
+  round = 2;
+  j = 1;
+  lost = [];
+}
+
+-- the asker asks at 500 only, long after the outage
+abbrev pub askedLater : Outage
+askedLater = record {
+  recovery = between (side 1 prompt heard0 (slow 500 (cue 2) ∷ [])) (side 0 prompt sent (past 61 ∷ [])) 10 40;
+  near = 40;
+  far = 40;
+  t1 = 20;
+  t0 = 500;
+  round = 1;
+  f = 0;
+}
+
+-- the list of `outageLonger`, with a distance taken for 1000 or more, by which F = 1 would do; and that of `fartherThan`, whose distance is not up to 40
+abbrev pub outageNearer : Outage
+outageNearer = record { recovery = outageLonger .recovery; near = 1000; far = 40; t1 = 712; t0 = 32; round = 1; f = 1 }
+
+abbrev pub outageFarther : Outage
+outageFarther = record { recovery = fartherThan .recovery; near = 40; far = 40; t1 = 8000; t0 = 8010; round = 1; f = 2 }
+
 pub record RoundsShown : Type 0 where
+  -- met
   pub steady : Met (steadying steady) 1419
   pub loss : Met (recovering lossRounds) 2091
   pub outage : Met (outlasting lossOutage) 2091
+  -- needed: of `Steady` the distance and that it asks late enough
+  pub steady-far : Needed 24 (steadying steadyFarther)
+  pub steady-late : Needed 25 (steadying tooSoon)
+  -- of `Recovers` that the holder has the cue at t0, that J is not before the first round, both parts of `LongRound`, and both of `Between`
+  pub held-at-first : Needed 22 (recovering heldLater)
+  pub first-round : Needed 24 (recovering secondRound)
   pub quiet : Needed 25 (recovering quietTooShort)
   pub next : Needed 26 (recovering nextTooShort)
   pub near : Needed 27 (recovering nearerThan)
   pub far : Needed 27 (recovering fartherThan)
+  -- of `AfterOutage` that it asks early enough, `Outlasts`, and both parts of `Between`
+  pub asked-by : Needed 23 (outlasting askedLater)
   pub outlasts : Needed 24 (outlasting outageLonger)
+  pub outage-near : Needed 25 (outlasting outageNearer)
+  pub outage-far : Needed 25 (outlasting outageFarther)

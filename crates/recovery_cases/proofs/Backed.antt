@@ -25,6 +25,9 @@ use Rattle.recovery_cases.proofs.Log.{every, some, fit, Fit, fits, Logs
 use Rattle.recovery_cases.proofs.Tests.{stays, stays-shows, upTo, up-to-shows, passes, passes-shows, keeps, keeps-shows, asksInTime, asks-in-time-shows, repliesInTime, replies-in-time-shows, reaches, reaches-shows, settled, settled-shows, gotBy, shows-got-by, requestsReach, requests-reach-shows, requestsShared, requests-shared-shows, repairsReach, repairs-reach-shows, repairsShared, repairs-shared-shows}
 
 -- all of a list, from the things one by one
+pub chain3 : {A B C : Type 0} → A → B → C → All (A ∷ B ∷ C ∷ [])
+chain3 a b c = (a, (b, (c, tt)))
+
 pub chain4 : {A B C D : Type 0} → A → B → C → D → All (A ∷ B ∷ C ∷ D ∷ [])
 chain4 a b c d = (a, (b, (c, (d, tt))))
 
@@ -68,7 +71,7 @@ all-hold (x ∷ xs) [] k h = absurd k
 all-hold (x ∷ xs) (b ∷ bs) k h = let both = and-both b (allTrue bs) h in (k .0 (both .0), all-hold xs bs (k .1) (both .1))
 
 -- all but one hold, and not all do: so that one fails
-all-but : (i : ℕ) (xs : List (Type 0)) (bs : List Bool) → Backed xs bs → allBut i bs ≡ true → (All xs → ⊥) → AllBut i xs
+pub all-but : (i : ℕ) (xs : List (Type 0)) (bs : List Bool) → Backed xs bs → allBut i bs ≡ true → (All xs → ⊥) → AllBut i xs
 all-but i [] bs k h fails = tt
 all-but i (x ∷ xs) [] k h fails = absurd k
 all-but zero (x ∷ xs) (b ∷ bs) k h fails = let rest = all-hold xs bs (k .1) h in (λ y. fails (y, rest), rest)

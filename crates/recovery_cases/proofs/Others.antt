@@ -1,13 +1,14 @@
 -- The lists of specs/Others.antt: what is supposed of them is computed by the tests, and what is claimed is the theorem's.
-use Prim.Native.Nat.{ℕ, _+_, _≤_, _<_}
+use Prim.Native.Nat.{ℕ, _+_, _*_, _≤_, _<_}
 use native.Mathlib.Omega.{arith}
 use mathlib.Core.Path.{_≡_, refl, sym, ap, _∙_}
 use mathlib.Core.Bool.{Bool, true, false, not, _&&_, _||_}
 use mathlib.Core.List.{List, [], _∷_, List·Memᴰ}
 use mathlib.Core.Option.{Option, none, some as just}
 use mathlib.Core.Logic.{inl, inr}
+use lib.ListN.{length}
 use lib.Dec.{leb, ltb}
-use borrow.Author.Tests.{leb-true, lt-ltb, le-leb}
+use borrow.Author.Tests.{leb-true, lt-ltb, le-leb, not-true, ltb-true}
 use Rattle.message.specs.Entry.{asHost}
 use Rattle.message.specs.Message.{REPL, XPRS, meaningFrom}
 use Rattle.message.specs.Question.{sameHost}
@@ -25,27 +26,27 @@ use Rattle.guarantees.specs.Records.{recordOf, slotOf, requestOf}
 use Rattle.guarantees.specs.Arrivals.{isAbout}
 use Rattle.guarantees.specs.Turn.{Always, Taken, NeitherLeavesNorCrashes}
 use Rattle.cases.specs.Turn.{All}
-use Rattle.recovery.specs.Recovery.{opened, begun, timeOf, lookback, LaterThan, RecoversBy}
+use Rattle.recovery.specs.Recovery.{opened, begun, timeOf, lookback, LaterThan, RecoversBy, Recovery}
 use Rattle.recovery.specs.Supposed.{Keeps}
 use Rattle.recovery.specs.Whole.{TakesBy}
 use Rattle.recovery.specs.Answered.{answeredBy}
 use Rattle.recovery.specs.Losses.{Between, FirstAsks, lossesBy}
 use Rattle.recovery.specs.Outage.{outageBy}
 use Rattle.recovery.specs.Several.{EachSupposed, WholeAmong, AllPassed}
-use Rattle.recovery.specs.Detection.{KnownBy, detectedBy, Listens}
+use Rattle.recovery.specs.Detection.{KnownBy, Listens}
 use Rattle.recovery.specs.Express.{BothStay, ExpressInTime, ExpressReaches, ExpressReturns, expressBy}
 use Rattle.recovery.proofs.Several.{answered-among, recovers-among, after-outage-among}
 use Rattle.recovery.proofs.Detected.{detected}
 use Rattle.recovery.proofs.Express.{express-recovers}
-use Rattle.recovery_cases.specs.Needs.{Reached}
+use Rattle.recovery_cases.specs.Needs.{Reached, Missed}
 use Rattle.recovery_cases.specs.Calls.{slow, cue}
-use Rattle.recovery_cases.specs.Others.{among, another, others, second, amongMid, amongRest, answeredAmong, recoversAmong, afterOutageAmong, reporter, detection, detectionSupposes, Known, haste, hasteSupposes, OthersShown}
+use Rattle.recovery_cases.specs.Others.{among, another, others, second, amongMid, amongRest, answeredAmong, recoversAmong, afterOutageAmong, Detecting, detectingBy, detectingSupposes, Known, reported, reportedByOne, reportedLate, hastily, hastySuppose, hastyClaims, haste, notFired, whileQuiet, hasteLost, hasteStops, OthersShown}
 use Rattle.recovery_cases.proofs.Log.{gives, entry, log, every, some, Test, Fit, fits, Logs, logs, atPlace, at-start, at-place, always-behind, sometime-behind, never-behind, always-rest, sometime-rest}
-use Rattle.recovery_cases.proofs.Tests.{Shows, holds-if, outs, takesBy, takes-by, stays, stays-shows, keeps, keeps-shows, laterThan, later-than-shows, passes, passes-shows, betweenTest, between-shows}
-use Rattle.recovery_cases.proofs.Backed.{chain6, chain7, chain8, SideFits, side-fits, asker-passed, not-got}
+use Rattle.recovery_cases.proofs.Tests.{Shows, holds-if, outs, takesBy, takes-by, stays, stays-shows, keeps, keeps-shows, laterThan, later-than-shows, passes, passes-shows, betweenTest, between-shows, gotBy}
+use Rattle.recovery_cases.proofs.Backed.{chain3, chain6, chain7, chain8, Backed, allTrue, allBut, all-hold, all-but, SideFits, side-fits, asker-passed, not-got}
 use Rattle.recovery_cases.proofs.Rounds.{among as amongTimes, not-among, first-asks, outlasts-shows}
 use Rattle.recovery_cases.proofs.Several.{each-supposed, all-passed, whole-among}
-use Rattle.recovery_cases.proofs.Reports.{reports-every}
+use Rattle.recovery_cases.proofs.Reports.{reports-every, covers}
 use Rattle.recovery_cases.proofs.Computed.{computed}
 
 -- ---- several holders
@@ -190,163 +191,258 @@ outage-met = record { holds = outage-holds; reached = go outage-holds; no-sooner
         after-outage-among among others 40 40 712 32 1 2 each first by lasts distances w passed all-pass
 
 -- ---- detection
-listener-fits : SideFits (detection .asker)
-unfolding computed
-listener-fits = side-fits (detection .asker) refl
-
-reporter-fits : SideFits reporter
-unfolding computed
-reporter-fits = side-fits reporter refl
-
-listens : Listens detection
-unfolding computed
-listens =
-    let x = detection .asker in
-    let e = listener-fits .earlier in
-    let l = listener-fits .later in
-    record {
-      source = omega arith;
-      other = refl;
-      open-there = at-start x e l (λ (d : End). isClosed (sourceAt d (asHost 0) .span) ≡ false) refl;
-      drawn = l .0;
-      stays = always-behind x e l NeitherLeavesNorCrashes stays stays-shows refl;
-      keeps = always-behind x e l (Keeps detection) (keeps detection) (keeps-shows detection) refl;
-    }
-
-detection-holds : All detectionSupposes
-unfolding computed
-detection-holds = (listens, (refl, (reports-every detection reporter 100 150 (150 ∷ []) listener-fits reporter-fits 50 refl, tt)))
 
 -- a request waits, or the cue is held, after the call
-abbrev asked : Option Request → Bool
-asked none = false
-asked (just q) = true
+abbrev waiting : Option Request → Bool
+waiting none = false
+waiting (just q) = true
 
-abbrev knownBy : ℕ → Test
-knownBy t z = (isHeld (slotOf (z .result .left) 0 1) || asked (requestOf (z .result .left) 0 1)) && leb (timeOf (detection .asker) (z .call)) t
+abbrev knownBy : Recovery → ℕ → Test
+knownBy m t z = (isHeld (slotOf (z .result .left) (m .source) (m .number)) || waiting (requestOf (z .result .left) (m .source) (m .number)))
+    && leb (timeOf (m .asker) (z .call)) t
 
-shows-known : (t : ℕ) (e : End) (c : OneCall) → KnownBy detection t e c → knownBy t (entry e c (gives e c)) ≡ true
-shows-known t e c (tk, inl held, by) = rw (held, le-leb (timeOf (detection .asker) c) t by) refl
-shows-known t e c (tk, inr q, by) = rw (q .1, le-leb (timeOf (detection .asker) c) t by) (or-true (isHeld (slotOf (gives e c .left) 0 1)))
+shows-known : (m : Recovery) (t : ℕ) (e : End) (c : OneCall) → KnownBy m t e c → knownBy m t (entry e c (gives e c)) ≡ true
+shows-known m t e c (tk, inl held, by) = rw (held, le-leb (timeOf (m .asker) c) t by) refl
+shows-known m t e c (tk, inr q, by) = rw (q .1, le-leb (timeOf (m .asker) c) t by) (or-true (isHeld (slotOf (gives e c .left) (m .source) (m .number))))
   where
     or-true : (b : Bool) → (b || true) && true ≡ true
     or-true true = refl
     or-true false = refl
 
-detected-met : Reached detectionSupposes (Known (detectedBy detection 100 50 1)) (Known 259)
-unfolding computed
-detected-met = record {
-  holds = detection-holds;
-  reached = go detection-holds;
-  no-sooner = never-behind (detection .asker) (listener-fits .earlier) (listener-fits .later) (KnownBy detection 259) (knownBy 259) (shows-known 259) refl;
-}
-  where
-    go : All detectionSupposes → Known (detectedBy detection 100 50 1)
-    go (s, (apart, (every-100, _))) = detected detection reporter 100 50 s apart (150 ∷ []) every-100
+-- what is supposed of the asker
+abbrev listenTest : Recovery → Logs → Bool
+listenTest m a = ltb (m .source) 8
+    && (not (sameHost (asHost (m .source)) (opened (m .asker) .host))
+    && (not (isClosed (sourceAt (a .start) (asHost (m .source)) .span)) && (every stays (a .behind) && every (keeps m) (a .behind))))
 
--- ---- express repair
-hasty-fits : SideFits (haste .asker)
-unfolding computed
-hasty-fits = side-fits (haste .asker) refl
-
-hasty-holder-fits : SideFits (haste .holder)
-unfolding computed
-hasty-holder-fits = side-fits (haste .holder) refl
-
--- the express wait that a call finds
-abbrev bySoon : ℕ → Slot → Bool
-bySoon clock Empty = true
-bySoon clock (Held r) = true
-bySoon clock (Waiting q Unset) = true
-bySoon clock (Waiting q (Soon due)) = leb clock (due + 0)
-
-abbrev inTime : Test
-inTime z = bySoon (z .call .clock) (slotOf (z .state) 0 1)
-
-in-time-shows : Shows inTime (ExpressInTime haste)
-in-time-shows e c p tk q due is = leb-true (c .clock) (due + 0) (sym (ap (bySoon (c .clock)) is) ∙ p)
-
--- the holder takes an XPRS while it is not quiet
-abbrev takesIt : List ℕ → ℕ → Test
-takesIt b t z = takesBy (haste .holder) b t z && leb (recordOf (z .state) 0 1 .hush) (z .call .clock)
-
-takes-it : (b : List ℕ) (t : ℕ) → Shows (takesIt b t) (λ d c. TakesBy (haste .holder) b t d c × (recordOf d 0 1 .hush ≤ c .clock))
-takes-it b t e c p =
-    let both = and-both (takesBy (haste .holder) b t (entry e c (gives e c))) _ p in
-    (takes-by (haste .holder) b t e c (both .0), leb-true _ _ (both .1))
-
-abbrev reaches : Logs → Test
-reaches h z = outs (λ b. not (isAbout XPRS (meaningFrom b) 0 1) || (sameHost (messageHost (meaningFrom b)) (opened (haste .holder) .host)
-    && some (takesIt b (timeOf (haste .asker) (z .call) + 10)) (h .behind))) (z .result .outcome)
-
-reaches-shows : Shows (reaches (logs (haste .holder))) (ExpressReaches haste)
-reaches-shows e c p bytes out is =
-    let t = timeOf (haste .asker) c + 10 in
-    let both = and-both (sameHost (messageHost (meaningFrom bytes)) (opened (haste .holder) .host)) _ (holds-if _ _ (sym (ap (outs _) out) ∙ p) is) in (
-      both .0,
-      sometime-behind (haste .holder) (hasty-holder-fits .earlier) (hasty-holder-fits .later)
-          (λ d y. TakesBy (haste .holder) bytes t d y × (recordOf d 0 1 .hush ≤ y .clock)) (takesIt bytes t) (takes-it bytes t) (both .1),
-    )
-
-abbrev returns : Logs → Test
-returns a z = outs (λ b. not (isAbout REPL (meaningFrom b) 0 1) || some (takesBy (haste .asker) b (timeOf (haste .holder) (z .call) + 10)) (a .behind))
-    (z .result .outcome)
-
-returns-shows : Shows (returns (logs (haste .asker))) (ExpressReturns haste)
-returns-shows e c p bytes out is =
-    let t = timeOf (haste .holder) c + 10 in
-    sometime-behind (haste .asker) (hasty-fits .earlier) (hasty-fits .later) (TakesBy (haste .asker) bytes t) (takesBy (haste .asker) bytes t)
-    (takes-by (haste .asker) bytes t) (holds-if _ _ (sym (ap (outs _) out) ∙ p) is)
-
-both-stay : BothStay haste
-unfolding computed
-both-stay =
-    let x = haste .asker in
-    let y = haste .holder in
-    let ea = hasty-fits .earlier in
-    let la = hasty-fits .later in
-    let eh = hasty-holder-fits .earlier in
-    let lh = hasty-holder-fits .later in
+listen-shows : (m : Recovery) → SideFits (m .asker) → listenTest m (logs (m .asker)) ≡ true → Listens m
+listen-shows m fa h =
+    let x = m .asker in
+    let a = and-both (ltb (m .source) 8) _ h in
+    let b = and-both (not (sameHost (asHost (m .source)) (opened x .host))) _ (a .1) in
+    let c = and-both (not (isClosed (sourceAt (logs x .start) (asHost (m .source)) .span))) _ (b .1) in
+    let d = and-both (every stays (logs x .behind)) _ (c .1) in
     record {
-      source = omega arith;
-      two = refl;
-      other = refl;
-      open-there = at-start x ea la (λ (d : End). isClosed (sourceAt d (asHost 0) .span) ≡ false) refl;
-      lacks = at-start x ea la (λ (d : End). isHeld (slotOf d 0 1) ≡ false) refl;
-      holds = at-start y eh lh (λ (d : End). isHeld (slotOf d 0 1) ≡ true) refl;
-      asker-stays = always-behind x ea la NeitherLeavesNorCrashes stays stays-shows refl;
-      holder-stays = always-behind y eh lh NeitherLeavesNorCrashes stays stays-shows refl;
-      asker-keeps = always-behind x ea la (Keeps haste) (keeps haste) (keeps-shows haste) refl;
-      holder-keeps = always-behind y eh lh (Keeps haste) (keeps haste) (keeps-shows haste) refl;
+      source = ltb-true (m .source) 8 (a .0);
+      other = not-true _ (b .0);
+      open-there = at-start x (fa .earlier) (fa .later) (λ (e : End). isClosed (sourceAt e (asHost (m .source)) .span) ≡ false) (not-true _ (c .0));
+      drawn = fa .later .0;
+      stays = always-behind x (fa .earlier) (fa .later) NeitherLeavesNorCrashes stays stays-shows (d .0);
+      keeps = always-behind x (fa .earlier) (fa .later) (Keeps m) (keeps m) (keeps-shows m) (d .1);
     }
 
-haste-holds : All hasteSupposes
-unfolding computed
-haste-holds =
-    let x = haste .asker in
-    let ea = hasty-fits .earlier in
-    let la = hasty-fits .later in
-    chain6
-    both-stay
-    (at-start x ea la (λ (d : End). slotOf d 0 1 ≡ Waiting (record { round = 1; due = 560; quiet = 360 }) (Soon 300)) refl)
-    (always-behind x ea la (ExpressInTime haste) inTime in-time-shows refl)
-    (always-behind x ea la (ExpressReaches haste) (reaches (logs (haste .holder))) reaches-shows refl)
-    (always-behind (haste .holder) (hasty-holder-fits .earlier) (hasty-holder-fits .later) (ExpressReturns haste) (returns (logs x)) returns-shows refl)
-    (asker-passed haste hasty-fits hasty-holder-fits (expressBy haste 300) refl)
+abbrev detectTests : Detecting → Logs → Logs → List Bool
+detectTests r a x =
+    listenTest (r .recovery) a
+    ∷ not (sameHost (opened (r .reporter) .host) (opened (r .recovery .asker) .host))
+    ∷ covers (r .recovery) (r .reporter) 100 (50 + length (r .missed) * 100) (r .missed) a 50 (x .behind)
+    ∷ []
 
-haste-met : Reached hasteSupposes (RecoversBy haste (expressBy haste 300)) (RecoversBy haste 319)
+module _ (r : Detecting) (fa : SideFits (r .recovery .asker)) (fx : SideFits (r .reporter)) where
+  abbrev detect₀ : List Bool
+  detect₀ = detectTests r (logs (r .recovery .asker)) (logs (r .reporter))
+
+  detect-backed : Backed (detectingSupposes r) detect₀
+  detect-backed = chain3 (listen-shows (r .recovery) fa) (not-true _)
+      (reports-every (r .recovery) (r .reporter) 100 (50 + length (r .missed) * 100) (r .missed) fa fx 50)
+
+  detect-suffices : All (detectingSupposes r) → Known r (detectingBy r)
+  detect-suffices (listens, (apart, (every-100, _))) = detected (r .recovery) (r .reporter) 100 50 listens apart (r .missed) every-100
+
+  unknown : (t : ℕ) → every (λ z. not (knownBy (r .recovery) t z)) (logs (r .recovery .asker) .behind) ≡ true → Known r t → ⊥
+  unknown t = never-behind (r .recovery .asker) (fa .earlier) (fa .later) (KnownBy (r .recovery) t) (knownBy (r .recovery) t) (shows-known (r .recovery) t)
+
+  does-detect : (t : ℕ) → allTrue detect₀ ≡ true → every (λ z. not (knownBy (r .recovery) t z)) (logs (r .recovery .asker) .behind) ≡ true
+      → Reached (detectingSupposes r) (Known r (detectingBy r)) (Known r t)
+  does-detect t h unseen =
+      let a = all-hold (detectingSupposes r) detect₀ detect-backed h in
+      record { holds = a; reached = detect-suffices a; no-sooner = unknown t unseen }
+
+  detect-needs : (i : ℕ) → allBut i detect₀ ≡ true → every (λ z. not (knownBy (r .recovery) (detectingBy r) z)) (logs (r .recovery .asker) .behind) ≡ true
+      → Missed i (detectingSupposes r) (Known r (detectingBy r))
+  detect-needs i h unseen =
+      let never = unknown (detectingBy r) unseen in
+      record { alone = all-but i (detectingSupposes r) detect₀ detect-backed h (λ a. never (detect-suffices a)); missed = never }
+
+reported-met : Reached (detectingSupposes reported) (Known reported (detectingBy reported)) (Known reported 259)
 unfolding computed
-haste-met = record { holds = haste-holds; reached = go haste-holds; no-sooner = not-got haste hasty-fits hasty-holder-fits 319 refl }
-  where
-    go : All hasteSupposes → RecoversBy haste (expressBy haste 300)
-    go (s, (waits, (in-time, (reach, (return, (passed, _)))))) =
-        express-recovers haste s (record { round = 1; due = 560; quiet = 360 }) 300 waits in-time reach return passed
+reported-met = does-detect reported (side-fits (reported .recovery .asker) refl) (side-fits (reported .reporter) refl) 259 refl refl
+
+needed-apart : Missed 1 (detectingSupposes reportedByOne) (Known reportedByOne (detectingBy reportedByOne))
+unfolding computed
+needed-apart = detect-needs reportedByOne (side-fits (reportedByOne .recovery .asker) refl) (side-fits (reportedByOne .reporter) refl) 1 refl refl
+
+needed-reports : Missed 2 (detectingSupposes reportedLate) (Known reportedLate (detectingBy reportedLate))
+unfolding computed
+needed-reports = detect-needs reportedLate (side-fits (reportedLate .recovery .asker) refl) (side-fits (reportedLate .reporter) refl) 2 refl refl
+
+-- ---- express repair
+
+-- the express wait that a call finds
+abbrev bySoon : ℕ → ℕ → Slot → Bool
+bySoon late clock Empty = true
+bySoon late clock (Held r) = true
+bySoon late clock (Waiting q Unset) = true
+bySoon late clock (Waiting q (Soon due)) = leb clock (due + late)
+
+module _ (m : Recovery) where
+  abbrev inTime : Test
+  inTime z = bySoon (m .late) (z .call .clock) (slotOf (z .state) (m .source) (m .number))
+
+  in-time-shows : Shows inTime (ExpressInTime m)
+  in-time-shows e c p tk q due is = leb-true (c .clock) (due + m .late) (sym (ap (bySoon (m .late) (c .clock)) is) ∙ p)
+
+  -- the holder takes an XPRS while it is not quiet
+  abbrev takesIt : List ℕ → ℕ → Test
+  takesIt b t z = takesBy (m .holder) b t z && leb (recordOf (z .state) (m .source) (m .number) .hush) (z .call .clock)
+
+  takes-it : (b : List ℕ) (t : ℕ) → Shows (takesIt b t) (λ d c. TakesBy (m .holder) b t d c × (recordOf d (m .source) (m .number) .hush ≤ c .clock))
+  takes-it b t e c p =
+      let both = and-both (takesBy (m .holder) b t (entry e c (gives e c))) _ p in
+      (takes-by (m .holder) b t e c (both .0), leb-true _ _ (both .1))
+
+  abbrev reaches : Logs → Test
+  reaches h z = outs (λ b. not (isAbout XPRS (meaningFrom b) (m .source) (m .number)) || (sameHost (messageHost (meaningFrom b)) (opened (m .holder) .host)
+      && some (takesIt b (timeOf (m .asker) (z .call) + m .delay)) (h .behind))) (z .result .outcome)
+
+  reaches-shows : SideFits (m .holder) → Shows (reaches (logs (m .holder))) (ExpressReaches m)
+  reaches-shows fh e c p bytes out is =
+      let t = timeOf (m .asker) c + m .delay in
+      let both = and-both (sameHost (messageHost (meaningFrom bytes)) (opened (m .holder) .host)) _ (holds-if _ _ (sym (ap (outs _) out) ∙ p) is) in (
+        both .0,
+        sometime-behind (m .holder) (fh .earlier) (fh .later) (λ d y. TakesBy (m .holder) bytes t d y × (recordOf d (m .source) (m .number) .hush ≤ y .clock))
+            (takesIt bytes t) (takes-it bytes t) (both .1),
+      )
+
+  abbrev returns : Logs → Test
+  returns a z = outs (λ b. not (isAbout REPL (meaningFrom b) (m .source) (m .number))
+      || some (takesBy (m .asker) b (timeOf (m .holder) (z .call) + m .delay)) (a .behind)) (z .result .outcome)
+
+  returns-shows : SideFits (m .asker) → Shows (returns (logs (m .asker))) (ExpressReturns m)
+  returns-shows fa e c p bytes out is =
+      let t = timeOf (m .holder) c + m .delay in
+      sometime-behind (m .asker) (fa .earlier) (fa .later) (TakesBy (m .asker) bytes t) (takesBy (m .asker) bytes t) (takes-by (m .asker) bytes t)
+      (holds-if _ _ (sym (ap (outs _) out) ∙ p) is)
+
+  -- both stay: tested by what is supposed of the ends elsewhere
+  abbrev stayTests : Logs → Logs → List Bool
+  stayTests a h =
+      ltb (m .source) 8
+      ∷ not (sameHost (opened (m .asker) .host) (opened (m .holder) .host))
+      ∷ not (sameHost (asHost (m .source)) (opened (m .asker) .host))
+      ∷ not (isClosed (sourceAt (a .start) (asHost (m .source)) .span))
+      ∷ not (isHeld (slotOf (a .start) (m .source) (m .number)))
+      ∷ isHeld (slotOf (h .start) (m .source) (m .number))
+      ∷ (every stays (a .behind) && every stays (h .behind))
+      ∷ (every (keeps m) (a .behind) && every (keeps m) (h .behind))
+      ∷ []
+
+  both-stay : SideFits (m .asker) → SideFits (m .holder) → allTrue (stayTests (logs (m .asker)) (logs (m .holder))) ≡ true → BothStay m
+  both-stay fa fh h =
+      let x = m .asker in
+      let y = m .holder in
+      let a = logs x in
+      let b = logs y in
+      let s0 = and-both (ltb (m .source) 8) _ h in
+      let s1 = and-both (not (sameHost (opened x .host) (opened y .host))) _ (s0 .1) in
+      let s2 = and-both (not (sameHost (asHost (m .source)) (opened x .host))) _ (s1 .1) in
+      let s3 = and-both (not (isClosed (sourceAt (a .start) (asHost (m .source)) .span))) _ (s2 .1) in
+      let s4 = and-both (not (isHeld (slotOf (a .start) (m .source) (m .number)))) _ (s3 .1) in
+      let s5 = and-both (isHeld (slotOf (b .start) (m .source) (m .number))) _ (s4 .1) in
+      let s6 = and-both (every stays (a .behind) && every stays (b .behind)) _ (s5 .1) in
+      let s7 = and-both (every (keeps m) (a .behind) && every (keeps m) (b .behind)) _ (s6 .1) in
+      let stay = and-both (every stays (a .behind)) (every stays (b .behind)) (s6 .0) in
+      let keep = and-both (every (keeps m) (a .behind)) (every (keeps m) (b .behind)) (s7 .0) in
+      record {
+        source = ltb-true (m .source) 8 (s0 .0);
+        two = not-true _ (s1 .0);
+        other = not-true _ (s2 .0);
+        open-there = at-start x (fa .earlier) (fa .later) (λ (e : End). isClosed (sourceAt e (asHost (m .source)) .span) ≡ false) (not-true _ (s3 .0));
+        lacks = at-start x (fa .earlier) (fa .later) (λ (e : End). isHeld (slotOf e (m .source) (m .number)) ≡ false) (not-true _ (s4 .0));
+        holds = at-start y (fh .earlier) (fh .later) (λ (e : End). isHeld (slotOf e (m .source) (m .number)) ≡ true) (s5 .0);
+        asker-stays = always-behind x (fa .earlier) (fa .later) NeitherLeavesNorCrashes stays stays-shows (stay .0);
+        holder-stays = always-behind y (fh .earlier) (fh .later) NeitherLeavesNorCrashes stays stays-shows (stay .1);
+        asker-keeps = always-behind x (fa .earlier) (fa .later) (Keeps m) (keeps m) (keeps-shows m) (keep .0);
+        holder-keeps = always-behind y (fh .earlier) (fh .later) (Keeps m) (keeps m) (keeps-shows m) (keep .1);
+      }
+
+  abbrev hasteTests : Logs → Logs → List Bool
+  hasteTests a h =
+      allTrue (stayTests a h)
+      ∷ true
+      ∷ every inTime (a .behind)
+      ∷ every (reaches h) (a .behind)
+      ∷ every (returns a) (h .behind)
+      ∷ some (passes (m .asker) (expressBy m 300)) (a .behind)
+      ∷ []
+
+-- the lists are of number 1 of source 0
+module _ (asks earlier answers : List OneCall) (fa : SideFits (hastily asks earlier answers .asker)) (fh : SideFits (hastily asks earlier answers .holder))
+    (soon : slotOf (logs (hastily asks earlier answers .asker) .start) 0 1 ≡ Waiting (record { round = 1; due = 560; quiet = 360 }) (Soon 300)) where
+  abbrev h₀ : Recovery
+  h₀ = hastily asks earlier answers
+
+  abbrev haste₀ : List Bool
+  haste₀ = hasteTests h₀ (logs (h₀ .asker)) (logs (h₀ .holder))
+
+  haste-backed : Backed (hastySuppose h₀) haste₀
+  haste-backed =
+      let x = h₀ .asker in
+      chain6
+      (both-stay h₀ fa fh)
+      (λ _. at-start x (fa .earlier) (fa .later) (λ (e : End). slotOf e 0 1 ≡ Waiting (record { round = 1; due = 560; quiet = 360 }) (Soon 300)) soon)
+      (always-behind x (fa .earlier) (fa .later) (ExpressInTime h₀) (inTime h₀) (in-time-shows h₀))
+      (always-behind x (fa .earlier) (fa .later) (ExpressReaches h₀) (reaches h₀ (logs (h₀ .holder))) (reaches-shows h₀ fh))
+      (always-behind (h₀ .holder) (fh .earlier) (fh .later) (ExpressReturns h₀) (returns h₀ (logs x)) (returns-shows h₀ fa))
+      (asker-passed h₀ fa fh (expressBy h₀ 300))
+
+  haste-suffices : All (hastySuppose h₀) → hastyClaims h₀
+  haste-suffices (both, (waits, (in-time, (reach, (return, (passed, _)))))) =
+      express-recovers h₀ both (record { round = 1; due = 560; quiet = 360 }) 300 waits in-time reach return passed
+
+  haste-met : (t : ℕ) → allTrue haste₀ ≡ true → every (λ z. not (gotBy h₀ t z)) (logs (h₀ .asker) .behind) ≡ true
+      → Reached (hastySuppose h₀) (hastyClaims h₀) (RecoversBy h₀ t)
+  haste-met t h unseen =
+      let a = all-hold (hastySuppose h₀) haste₀ haste-backed h in
+      record { holds = a; reached = haste-suffices a; no-sooner = not-got h₀ fa fh t unseen }
+
+  haste-needs : (i : ℕ) → allBut i haste₀ ≡ true → every (λ z. not (gotBy h₀ (expressBy h₀ 300) z)) (logs (h₀ .asker) .behind) ≡ true
+      → Missed i (hastySuppose h₀) (hastyClaims h₀)
+  haste-needs i h unseen =
+      let never = not-got h₀ fa fh (expressBy h₀ 300) unseen in
+      record { alone = all-but i (hastySuppose h₀) haste₀ haste-backed h (λ a. never (haste-suffices a)); missed = never }
+
+express-met : Reached (hastySuppose haste) (hastyClaims haste) (RecoversBy haste 319)
+unfolding computed
+express-met = haste-met _ _ _ (side-fits (haste .asker) refl) (side-fits (haste .holder) refl) refl 319 refl refl
+
+needed-fired : Missed 2 (hastySuppose notFired) (hastyClaims notFired)
+unfolding computed
+needed-fired = haste-needs _ _ _ (side-fits (notFired .asker) refl) (side-fits (notFired .holder) refl) refl 2 refl refl
+
+needed-reaches : Missed 3 (hastySuppose whileQuiet) (hastyClaims whileQuiet)
+unfolding computed
+needed-reaches = haste-needs _ _ _ (side-fits (whileQuiet .asker) refl) (side-fits (whileQuiet .holder) refl) refl 3 refl refl
+
+needed-returns : Missed 4 (hastySuppose hasteLost) (hastyClaims hasteLost)
+unfolding computed
+needed-returns = haste-needs _ _ _ (side-fits (hasteLost .asker) refl) (side-fits (hasteLost .holder) refl) refl 4 refl refl
+
+needed-passed : Missed 5 (hastySuppose hasteStops) (hastyClaims hasteStops)
+unfolding computed
+needed-passed = haste-needs _ _ _ (side-fits (hasteStops .asker) refl) (side-fits (hasteStops .holder) refl) refl 5 refl refl
 
 pub others-shown : OthersShown
 others-shown = record {
   answered-among = answered-met;
   recovers-among = recovers-met;
   after-outage-among = outage-met;
-  detected = detected-met;
-  express = haste-met;
+  detected = reported-met;
+  apart = needed-apart;
+  reports = needed-reports;
+  express = express-met;
+  fired = needed-fired;
+  express-reaches = needed-reaches;
+  express-returns = needed-returns;
+  passed = needed-passed;
 }

@@ -88,6 +88,10 @@ pub record Reached (supposed : List (Type 0)) (claim sooner : Type 0) : Type 0 w
   pub reached : claim
   pub no-sooner : sooner → ⊥
 
+pub record Missed (i : ℕ) (supposed : List (Type 0)) (claim : Type 0) : Type 0 where
+  pub alone : AllBut i supposed
+  pub missed : claim → ⊥
+
 -- ---- `Answered`: places 22 to 25
 pub record OneRound : Type 0 where
   pub recovery : Recovery

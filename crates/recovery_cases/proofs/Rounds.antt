@@ -32,7 +32,7 @@ use Rattle.recovery.proofs.Losses.{recovers}
 use Rattle.recovery.proofs.Outage.{after-outage}
 use Rattle.recovery_cases.specs.Needs.{claims, Met, Needed, Steadily, steadying, Rounds, recovering, Outage, outlasting}
 use Rattle.recovery_cases.specs.Calls.{at, slow, cue, request}
-use Rattle.recovery_cases.specs.Rounds.{steady as steadyList, steadyFarther, tooSoon, heldLater, secondRound, askedLater, outageNearer, outageFarther, lossRounds, lossOutage, outageLonger, quietTooShort, nearerThan, fartherThan, nextTooShort, RoundsShown}
+use Rattle.recovery_cases.specs.Rounds.{steady as steadyList, steadyFarther, tooSoon, heldLater, secondRound, askedLater, outageNearer, outageFarther, starvedByRequests, starvedByRepairs, lossRounds, lossOutage, outageLonger, quietTooShort, nearerThan, fartherThan, nextTooShort, RoundsShown}
 use Rattle.recovery_cases.proofs.Log.{given, log, every, some, Fit, fits, Logs, logs, atPlace, at-place, after-place, always-behind, sometime-rest}
 use Rattle.recovery_cases.proofs.Tests.{holds-if, passes, passes-shows, betweenTest, between-shows, gotBy}
 use Rattle.recovery_cases.proofs.Backed.{chain6, chain8, Backed, allTrue, allBut, SideFits, side-fits, asker-passed, holder-passed, testsOf, met, needed}
@@ -311,6 +311,22 @@ needed-outlasts =
     outage-needs outageLonger fa (side-fits (m .holder) refl)
     (first-asks m fa (slow 32 (cue 2)) _ (record { round = 1; due = 712; quiet = 352 }) refl (refl, refl)) 24 refl refl
 
+needed-shared-requests : Needed 19 (recovering starvedByRequests)
+unfolding computed
+needed-shared-requests =
+    let m = starvedByRequests .recovery in
+    let fa = side-fits (m .asker) refl in
+    recovers-needs starvedByRequests fa (side-fits (m .holder) refl)
+    (first-asks m fa (at 32 (cue 2)) _ (record { round = 1; due = 392; quiet = 192 }) refl (refl, refl)) 19 refl refl
+
+needed-shared-repairs : Needed 21 (recovering starvedByRepairs)
+unfolding computed
+needed-shared-repairs =
+    let m = starvedByRepairs .recovery in
+    let fa = side-fits (m .asker) refl in
+    recovers-needs starvedByRepairs fa (side-fits (m .holder) refl)
+    (first-asks m fa (at 32 (cue 2)) _ (record { round = 1; due = 392; quiet = 192 }) refl (refl, refl)) 21 refl refl
+
 needed-asked-by : Needed 23 (outlasting askedLater)
 unfolding computed
 needed-asked-by =
@@ -348,6 +364,8 @@ rounds-shown = record {
   next = needed-next;
   near = needed-near;
   far = needed-far;
+  shared-requests = needed-shared-requests;
+  shared-repairs = needed-shared-repairs;
   asked-by = needed-asked-by;
   outlasts = needed-outlasts;
   outage-near = needed-outage-near;

@@ -94,16 +94,14 @@ holderIdle = row asked 0 sent (at 400 (request 1 392) ∷ past 733 ∷ [])
 abbrev pub farAway : OneRound
 farAway = row asked 0 sent (at 399 (echo 1 0 0) ∷ slow 400 (request 1 392) ∷ past 733 ∷ [])
 
--- the asker's request is lost; another's request, by which its next round is set, is lost to the holder, who hears the asker perfectly. Were it so in
--- every round, the asker would never be answered.
+-- the asker's request is lost; another's request, by which its next round is set, is lost to the holder
 abbrev pub requestLost : OneRound
 requestLost = row asked 0 sent (past 733 ∷ [])
 
 abbrev pub otherRequestLost : OneRound
 otherRequestLost = row (at 370 (request 2 369) ∷ past 733 ∷ []) 0 sent (past 733 ∷ [])
 
--- the repair is lost; another's repair, for which the holder drops its own, is lost to the asker, who hears the holder perfectly. Were it so in every
--- round, the asker would never be answered.
+-- the repair is lost; another's repair, for which the holder drops its own, is lost to the asker
 abbrev pub repairLost : OneRound
 repairLost = row asked 0 sent (at 400 (request 1 392) ∷ at 560 fire ∷ past 733 ∷ [])
 

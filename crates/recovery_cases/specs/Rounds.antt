@@ -199,6 +199,43 @@ outageNearer = record { recovery = outageLonger .recovery; near = 1000; far = 40
 abbrev pub outageFarther : Outage
 outageFarther = record { recovery = fartherThan .recovery; near = 40; far = 40; t1 = 8000; t0 = 8010; round = 1; f = 2 }
 
+-- ---- starved, though the two hear each other perfectly, with the house's parameters: the bound for J = 3 is 32 + 7×680 + 340 = 5132
+
+-- Just after each quiet time the asker hears a request of host 2 that is lost to the holder: it sets its next round, and never asks. It may go on so for
+-- ever, since every round's quiet time is over before its request is due.
+abbrev pub starvedByRequests : Rounds
+starvedByRequests = record {
+  recovery = between
+      (side 1 houseParams heard0
+      (at 32 (cue 2) ∷ at 193 (request 2 193) ∷ at 514 (request 2 514) ∷ at 1155 (request 2 1155) ∷ at 2436 (request 2 2436) ∷ past 5133 ∷ []))
+      (side 0 houseParams sent (past 5133 ∷ [])) 10 40;
+  near = 40;
+  far = 40;
+  t1 = 32;
+  t0 = 32;
+  round = 1;
+  j = 3;
+  lost = [];
+}
+
+-- Just before each request of the asker the holder hears a repair of host 2 for host 3 that is lost to the asker: it is quiet, and passes the request over.
+-- It may go on so for ever, by a repair before each request.
+abbrev pub starvedByRepairs : Rounds
+starvedByRepairs = record {
+  recovery = between (side 1 houseParams heard0 (at 32 (cue 2) ∷ at 392 fire ∷ at 1112 fire ∷ at 2552 fire ∷ past 5133 ∷ []))
+      (side 0 houseParams sent
+      (at 399 (repair 2 398 3) ∷ at 400 (request 1 392) ∷ at 1119 (repair 2 1118 3) ∷ at 1120 (request 1 1112) ∷ at 2559 (repair 2 2558 3)
+      ∷ at 2560 (request 1 2552) ∷ past 5133 ∷ []))
+      10 40;
+  near = 40;
+  far = 40;
+  t1 = 32;
+  t0 = 32;
+  round = 1;
+  j = 3;
+  lost = [];
+}
+
 pub record RoundsShown : Type 0 where
   -- met
   pub steady : Met (steadying steady) 1419
@@ -214,6 +251,9 @@ pub record RoundsShown : Type 0 where
   pub next : Needed 26 (recovering nextTooShort)
   pub near : Needed 27 (recovering nearerThan)
   pub far : Needed 27 (recovering fartherThan)
+  -- and what is supposed of others' requests and repairs, without which the asker may be starved for ever
+  pub shared-requests : Needed 19 (recovering starvedByRequests)
+  pub shared-repairs : Needed 21 (recovering starvedByRepairs)
   -- of `AfterOutage` that it asks early enough, `Outlasts`, and both parts of `Between`
   pub asked-by : Needed 23 (outlasting askedLater)
   pub outlasts : Needed 24 (outlasting outageLonger)

@@ -17,7 +17,7 @@ use Rattle.invariants.proofs.Stays.{opens-sound}
 use Rattle.guarantees.specs.Turn.{Always, Taken}
 use Rattle.cases.proofs.Allowed.{sameBytes, same-bytes}
 use Rattle.recovery.specs.Recovery.{Side, opened, all, timeOf, Recovery}
-use Rattle.recovery.specs.Network.{Ends, Carries, PutsOut, NoneOld}
+use Rattle.recovery.specs.Network.{Ends, Carries, PutsOut, New}
 use Rattle.recovery_cases.proofs.Log.{gives, Entry, entry, log, every, some, Test, Fit, fit, fits, always, sometime, Logs, logs, sometime-all}
 use Rattle.recovery_cases.proofs.Tests.{Shows, holds-if, arrives, outs, takesBy, takes-by}
 use Rattle.recovery_cases.proofs.Backed.{SideFits}
@@ -86,14 +86,15 @@ module _ (m : Recovery) (which : Meaning → Bool) where
         (holds-if _ _ (holds-if _ _ (sym (ap (outs _) out) ∙ p) is) (says (timeOf x c) now)))
         (all x) (opened x) (opens-sound (x .me) (x .params)) f
 
-    -- the same of one of eight ends, if it is another than this one
+    -- the same of one of eight ends, if it is another than this one and y
     abbrev pub Carried : Ends → Side → Side → (k : ℕ) → k < 8 → Type 0
     Carried ends this y k hk = sameHost (opened (ends k hk) .host) (opened this .host) ≡ false
+        → sameHost (opened (ends k hk) .host) (opened y .host) ≡ false
         → Always (Carries m which on (ends k hk) y) (opened (ends k hk)) (all (ends k hk))
 
     pub carried-by : (ends : Ends) (this y : Side) → SideFits y → (k : ℕ) (hk : k < 8) → fit (all (ends k hk)) ≡ true
         → every (carries when (ends k hk) y (logs y)) (log (opened (ends k hk)) (all (ends k hk))) ≡ true → Carried ends this y k hk
-    carried-by ends this y g k hk f h apart = always-carries (ends k hk) y (fits (all (ends k hk)) f) g h
+    carried-by ends this y g k hk f h apart besides = always-carries (ends k hk) y (fits (all (ends k hk)) f) g h
 
   -- z put these bytes out not more than Δ before t
   abbrev putsOut : Side → List ℕ → ℕ → Test
@@ -111,8 +112,10 @@ module _ (m : Recovery) (which : Meaning → Bool) where
       && some (putsOut z b (timeOf x (w .call))) l)) (w .call .action)
 
   pub newly-shows : (ends : Ends) (x y : Side) (k : ℕ) (hk : k < 8) → Fit (all (ends k hk)) → sameHost (opened (ends k hk) .host) (opened x .host) ≡ false
-      → Shows (newly x y (ends k hk) (log (opened (ends k hk)) (all (ends k hk)))) (NoneOld m ends which x y)
-  newly-shows ends x y k hk f apart e c p tk bytes is tells another =
+      → sameHost (opened (ends k hk) .host) (opened y .host) ≡ false
+      → Shows (newly x y (ends k hk) (log (opened (ends k hk)) (all (ends k hk))))
+      (λ e c. (bytes : List ℕ) → c .action ≡ Arrival bytes → which (meaningFrom bytes) ≡ true → New m ends x y bytes (timeOf x c))
+  newly-shows ends x y k hk f apart besides e c p bytes is tells =
       let z = ends k hk in
       let t = timeOf x c in
       let both = and-both (not (sameHost (meaningFrom bytes .sender) (opened y .host))) _ (holds-if _ _ (sym (ap (arrives _) is) ∙ p) tells) in (
@@ -121,6 +124,7 @@ module _ (m : Recovery) (which : Meaning → Bool) where
           end = k;
           eight = hk;
           apart = apart;
+          besides = besides;
           out = sometime (PutsOut m z bytes t) (putsOut z bytes t) (puts-out z bytes t) (all z) (opened z) (opens-sound (z .me) (z .params)) f (both .1);
         }),
       )

@@ -4,6 +4,7 @@ use native.Mathlib.Omega.{arith}
 use mathlib.Core.Path.{_≡_, refl, ap}
 use mathlib.Core.Bool.{Bool, true, false, not, _&&_, _||_}
 use mathlib.Core.List.{[], _∷_}
+use mathlib.Core.Logic.{inr}
 use mathlib.Core.Option.{Option, none, some as just}
 use lib.Dec.{ltb}
 use borrow.Author.Tests.{leb-true, ltb-true, lt-ltb}
@@ -16,8 +17,9 @@ use Rattle.recovery.specs.Recovery.{Side, opened, all, timeOf, Recovery, lookba
 use Rattle.recovery.specs.Supposed.{Supposed}
 use Rattle.recovery.specs.Whole.{RequestsReach, RepairsReach, Whole}
 use Rattle.recovery.specs.Losses.{Between}
-use Rattle.recovery.specs.Network.{isRequest, isRepairOf, NoneOld, Network}
+use Rattle.recovery.specs.Network.{isRequest, isRepairOf, CarriesRepairs, NewRequests, NewRepairs, Network}
 use Rattle.recovery.specs.Timely.{Spared, timelyBy, TimelySupposed, AsksAfter, timelySteadyBy, SteadySupposed, sidesIn, recoveryIn, reporterIn, HandedOutBy}
+use Rattle.recovery.proofs.Lists.{always-weaken}
 use Rattle.recovery.proofs.Network.{network-is-whole}
 use Rattle.recovery.proofs.Timely.{timely-recovery, steady-recovery}
 use Rattle.recovery_cases.specs.Needs.{Reached, endsSuppose}
@@ -83,8 +85,7 @@ module _ (opens : Opens) where
   abbrev on : ℕ → Type 0
   on = Spared 30 (660 ∷ [])
 
-  -- what each end puts out of the requests reaches the holder, of the repairs the asker; the asker's own requests, and the holder's own repairs, are not
-  -- asked for here
+  -- what each end puts out of the requests reaches the holder, of the repairs the asker; the two's own are not asked for here
   abbrev Asked : (k : ℕ) → k < 8 → Type 0
   Asked = Carried m (isRequest m) when on says end (m .asker) (m .holder)
 
@@ -101,12 +102,12 @@ module _ (opens : Opens) where
 
   requests : (k : ℕ) (hk : k < 8) → Asked k hk
   unfolding computed
-  requests = eight Asked (λ h. asked 0 h refl refl) (λ h apart. clash apart) (λ h. asked 2 h refl refl) (λ h. asked 3 h refl refl) (λ h. asked 4 h refl refl)
+  requests = eight Asked (λ h. asked 0 h refl refl) (λ h apart. clash apart) (λ h apart besides. clash besides) (λ h. asked 3 h refl refl) (λ h. asked 4 h refl refl)
       (λ h. asked 5 h refl refl) (λ h. asked 6 h refl refl) (λ h. asked 7 h refl refl)
 
   repairs : (k : ℕ) (hk : k < 8) → Mended k hk
   unfolding computed
-  repairs = eight Mended (λ h. mended 0 h refl refl) (λ h. mended 1 h refl refl) (λ h apart. clash apart) (λ h. mended 3 h refl refl)
+  repairs = eight Mended (λ h. mended 0 h refl refl) (λ h apart besides. clash besides) (λ h apart. clash apart) (λ h. mended 3 h refl refl)
       (λ h. mended 4 h refl refl) (λ h. mended 5 h refl refl) (λ h. mended 6 h refl refl) (λ h. mended 7 h refl refl)
 
   -- the requests of others that the asker takes are host 3's; the holder takes no repair
@@ -130,11 +131,15 @@ module _ (opens : Opens) where
         own-requests = always-behind x ea la (RequestsReach m on) (requestsReach m when (logs y)) (requests-reach-shows m when on says eh lh) refl;
         own-repairs = always-behind y eh lh (RepairsReach m on) (repairsReach m when (logs x)) (repairs-reach-shows m when on says ea la) refl;
         requests = requests;
-        repairs = repairs;
-        new-requests = always-behind x ea la (NoneOld m end (isRequest m) x y) (newly m (isRequest m) x y third (log (opened third) (all third)))
-            (newly-shows m (isRequest m) end x y 3 (omega arith) third-fits refl) refl;
-        new-repairs = always-behind y eh lh (NoneOld m end (isRepairOf m) y x) (newly m (isRepairOf m) y x third (log (opened third) (all third)))
-            (newly-shows m (isRepairOf m) end y x 3 (omega arith) third-fits refl) refl;
+        repairs = λ k hk apart besides.
+            always-weaken {Q = CarriesRepairs m on (end k hk)} (λ d c h bytes out is now. inr (h bytes out is now)) (all (end k hk)) _
+            (repairs k hk apart besides);
+        new-requests = always-behind x ea la (NewRequests m end on) (newly m (isRequest m) x y third (log (opened third) (all third)))
+            (λ d c p tk q found quiet bytes is tells another clear.
+            newly-shows m (isRequest m) end x y 3 (omega arith) third-fits refl refl d c p bytes is tells) refl;
+        new-repairs = always-behind y eh lh (NewRepairs m end on) (newly m (isRepairOf m) y x third (log (opened third) (all third)))
+            (λ d c p tk bytes is tells another clear.
+            inr (newly-shows m (isRepairOf m) end y x 3 (omega arith) third-fits refl refl d c p bytes is tells)) refl;
       }
 
   crash-not-sooner : RecoversBy m 1389 → ⊥
@@ -231,13 +236,13 @@ module _ (opens : Opens) where
 
   calm-requests : (k : ℕ) (hk : k < 8) → Asked′ k hk
   unfolding computed
-  calm-requests = eight Asked′ (λ h. asked′ 0 h refl refl) (λ h apart. clash apart) (λ h. asked′ 2 h refl refl) (λ h. asked′ 3 h refl refl)
+  calm-requests = eight Asked′ (λ h. asked′ 0 h refl refl) (λ h apart. clash apart) (λ h apart besides. clash besides) (λ h. asked′ 3 h refl refl)
       (λ h. asked′ 4 h refl refl)
       (λ h. asked′ 5 h refl refl) (λ h. asked′ 6 h refl refl) (λ h. asked′ 7 h refl refl)
 
   calm-repairs : (k : ℕ) (hk : k < 8) → Mended′ k hk
   unfolding computed
-  calm-repairs = eight Mended′ (λ h. mended′ 0 h refl refl) (λ h. mended′ 1 h refl refl) (λ h apart. clash apart) (λ h. mended′ 3 h refl refl)
+  calm-repairs = eight Mended′ (λ h. mended′ 0 h refl refl) (λ h apart besides. clash besides) (λ h apart. clash apart) (λ h. mended′ 3 h refl refl)
       (λ h. mended′ 4 h refl refl) (λ h. mended′ 5 h refl refl) (λ h. mended′ 6 h refl refl) (λ h. mended′ 7 h refl refl)
 
   -- nobody else asks or repairs
@@ -261,11 +266,15 @@ module _ (opens : Opens) where
         own-requests = always-behind x ea la (RequestsReach n After22) (requestsReach n then (logs y)) (requests-reach-shows n then After22 tells eh lh) refl;
         own-repairs = always-behind y eh lh (RepairsReach n After22) (repairsReach n then (logs x)) (repairs-reach-shows n then After22 tells ea la) refl;
         requests = calm-requests;
-        repairs = calm-repairs;
-        new-requests = always-behind x ea la (NoneOld n side (isRequest n) x y) (newly n (isRequest n) x y source (log (opened source) (all source)))
-            (newly-shows n (isRequest n) side x y 0 (omega arith) source-fits refl) refl;
-        new-repairs = always-behind y eh lh (NoneOld n side (isRepairOf n) y x) (newly n (isRepairOf n) y x source (log (opened source) (all source)))
-            (newly-shows n (isRepairOf n) side y x 0 (omega arith) source-fits refl) refl;
+        repairs = λ k hk apart besides.
+            always-weaken {Q = CarriesRepairs n After22 (side k hk)} (λ d c h bytes out is now. inr (h bytes out is now)) (all (side k hk)) _
+            (calm-repairs k hk apart besides);
+        new-requests = always-behind x ea la (NewRequests n side After22) (newly n (isRequest n) x y source (log (opened source) (all source)))
+            (λ d c p tk q found quiet bytes is tells another clear.
+            newly-shows n (isRequest n) side x y 0 (omega arith) source-fits refl refl d c p bytes is tells) refl;
+        new-repairs = always-behind y eh lh (NewRepairs n side After22) (newly n (isRepairOf n) y x source (log (opened source) (all source)))
+            (λ d c p tk bytes is tells another clear.
+            inr (newly-shows n (isRepairOf n) side y x 0 (omega arith) source-fits refl refl d c p bytes is tells)) refl;
       }
 
   calm-not-sooner : RecoversBy n 1049 → ⊥

@@ -4,6 +4,7 @@ use native.Mathlib.Omega.{arith}
 use mathlib.Core.Path.{_≡_, refl, sym, ap, _∙_}
 use mathlib.Core.Bool.{Bool, true, false, not, _&&_, _||_}
 use mathlib.Core.List.{List}
+use mathlib.Core.Logic.{inr}
 use mathlib.Core.Option.{Option, none, some as just}
 use lib.Dec.{eqb, leb, ltb}
 use borrow.Author.Tests.{not-true, eq-eqb, leb-true, ltb-true, le-leb, lt-leb}
@@ -263,7 +264,7 @@ module _ (m : Recovery) (when : ℕ → Bool) where
     requests-reach-shows f g = reach-heard RQST (m .asker) (m .holder) f g
 
     pub repairs-reach-shows : Fit (m .asker .earlier) → Fit (m .asker .later) → Shows (repairsReach (logs (m .asker))) (RepairsReach m on)
-    repairs-reach-shows f g = reach-heard REPL (m .holder) (m .asker) f g
+    repairs-reach-shows f g e c p bytes out about now = inr (reach-heard REPL (m .holder) (m .asker) f g e c p bytes out about now)
 
     shared-heard : (which : Meaning → Bool) (x y : Side) → Fit (y .earlier) → Fit (y .later) → (e : End) (c : OneCall) (bytes : List ℕ)
         → arrives (sharedBy which x y (logs y) (entry e c (gives e c))) (c .action) ≡ true → c .action ≡ Arrival bytes
@@ -279,4 +280,4 @@ module _ (m : Recovery) (when : ℕ → Bool) where
         shared-heard isAsking (m .asker) (m .holder) f g e c bytes (or-alone _ _ p loud) is tells free
 
     pub repairs-shared-shows : Fit (m .asker .earlier) → Fit (m .asker .later) → Shows (repairsShared (logs (m .asker))) (RepairsShared m on)
-    repairs-shared-shows f g e c p tk bytes is tells another free = shared-heard isMending (m .holder) (m .asker) f g e c bytes p is tells free
+    repairs-shared-shows f g e c p tk bytes is tells another free = inr (shared-heard isMending (m .holder) (m .asker) f g e c bytes p is tells free)

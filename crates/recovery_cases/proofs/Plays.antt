@@ -21,7 +21,7 @@ use Rattle.recovery.specs.Network.{isRequest, isRepairOf, CarriesRepairs, NewRe
 use Rattle.recovery.specs.Timely.{Spared, timelyBy, TimelySupposed, AsksAfter, timelySteadyBy, SteadySupposed, sidesIn, recoveryIn, reporterIn, HandedOutBy}
 use Rattle.recovery.proofs.Lists.{always-weaken}
 use Rattle.recovery.proofs.Network.{network-is-whole}
-use Rattle.recovery.proofs.Timely.{timely-recovery, steady-recovery}
+use Rattle.recovery.proofs.Timely.{timely-over-network, steady-over-network}
 use Rattle.recovery_cases.specs.Needs.{Reached, endsSuppose}
 use Rattle.recovery_cases.specs.Plays.{Opens, crash, crashSupposes, calm, calmSupposes, PlaysShown}
 use Rattle.recovery_cases.proofs.Log.{log, every, Test, Fit, fit, fits, logs, at-start, always-behind}
@@ -102,7 +102,8 @@ module _ (opens : Opens) where
 
   requests : (k : ℕ) (hk : k < 8) → Asked k hk
   unfolding computed
-  requests = eight Asked (λ h. asked 0 h refl refl) (λ h apart. clash apart) (λ h apart besides. clash besides) (λ h. asked 3 h refl refl) (λ h. asked 4 h refl refl)
+  requests = eight Asked (λ h. asked 0 h refl refl) (λ h apart. clash apart) (λ h apart besides. clash besides) (λ h. asked 3 h refl refl)
+      (λ h. asked 4 h refl refl)
       (λ h. asked 5 h refl refl) (λ h. asked 6 h refl refl) (λ h. asked 7 h refl refl)
 
   repairs : (k : ℕ) (hk : k < 8) → Mended k hk
@@ -149,7 +150,7 @@ module _ (opens : Opens) where
   crash-met : Reached (crashSupposes opens) (HandedOutBy (crash opens) (timelyBy m 40 100 30 1 4)) (RecoversBy m 1389)
   crash-met = record {
     holds = (crash-supposed, (crash-network, tt));
-    reached = timely-recovery (crash opens) 40 40 100 30 3 (130 ∷ []) (660 ∷ []) crash-supposed crash-network;
+    reached = timely-over-network (crash opens) 40 40 100 30 3 (130 ∷ []) (660 ∷ []) crash-supposed crash-network;
     no-sooner = crash-not-sooner;
   }
 
@@ -284,7 +285,7 @@ module _ (opens : Opens) where
   calm-met : Reached (calmSupposes opens) (HandedOutBy (calm opens) (timelySteadyBy n 40 100 400 0)) (RecoversBy n 1049)
   calm-met = record {
     holds = (calm-supposed, (calm-network, tt));
-    reached = steady-recovery (calm opens) 40 100 22 400 [] calm-supposed calm-network;
+    reached = steady-over-network (calm opens) 40 100 22 400 [] calm-supposed calm-network;
     no-sooner = calm-not-sooner;
   }
 

@@ -32,7 +32,9 @@ use Rattle.recovery.proofs.Losses.{recovers}
 use Rattle.recovery.proofs.Outage.{after-outage}
 use Rattle.recovery_cases.specs.Needs.{claims, Met, Needed, Steadily, steadying, Rounds, recovering, Outage, outlasting}
 use Rattle.recovery_cases.specs.Calls.{at, slow, cue, request}
-use Rattle.recovery_cases.specs.Rounds.{steady as steadyList, steadyFarther, tooSoon, heldLater, secondRound, askedLater, outageNearer, outageFarther, starvedByRequests, starvedByRepairs, lossRounds, lossOutage, outageLonger, quietTooShort, nearerThan, fartherThan, nextTooShort, RoundsShown}
+use Rattle.recovery_cases.specs.Rounds.{steady as steadyList, steadyFarther, tooSoon, heldLater, secondRound, askedLater, outageFarther}
+use Rattle.recovery_cases.specs.Rounds.{starvedByRequests, starvedByRepairs, lossRounds, lossOutage, outageLonger, quietTooShort}
+use Rattle.recovery_cases.specs.Rounds.{nearerThan, fartherThan, nextTooShort, RoundsShown}
 use Rattle.recovery_cases.proofs.Log.{given, log, every, some, Fit, fits, Logs, logs, atPlace, at-place, after-place, always-behind, sometime-rest}
 use Rattle.recovery_cases.proofs.Tests.{holds-if, passes, passes-shows, betweenTest, between-shows, gotBy}
 use Rattle.recovery_cases.proofs.Backed.{chain6, chain8, Backed, allTrue, allBut, SideFits, side-fits, asker-passed, holder-passed, testsOf, met, needed}
@@ -335,14 +337,6 @@ needed-asked-by =
     outage-needs askedLater fa (side-fits (m .holder) refl)
     (first-asks m fa (slow 500 (cue 2)) _ (record { round = 1; due = 1180; quiet = 820 }) refl (refl, refl)) 23 refl refl
 
-needed-outage-near : Needed 25 (outlasting outageNearer)
-unfolding computed
-needed-outage-near =
-    let m = outageNearer .recovery in
-    let fa = side-fits (m .asker) refl in
-    outage-needs outageNearer fa (side-fits (m .holder) refl)
-    (first-asks m fa (slow 32 (cue 2)) _ (record { round = 1; due = 712; quiet = 352 }) refl (refl, refl)) 25 refl refl
-
 needed-outage-far : Needed 25 (outlasting outageFarther)
 unfolding computed
 needed-outage-far =
@@ -368,6 +362,5 @@ rounds-shown = record {
   shared-repairs = needed-shared-repairs;
   asked-by = needed-asked-by;
   outlasts = needed-outlasts;
-  outage-near = needed-outage-near;
   outage-far = needed-outage-far;
 }

@@ -1,5 +1,5 @@
--- `TimelyRecovery` and `SteadyRecovery` on computed lists of calls on the eight ends of the house, of which four and three are called; and the network of
--- the first, which is whole. Δ is 10 and Λ is 0.
+-- `TimelyOverNetwork` and `SteadyOverNetwork` on computed lists of calls on the eight ends of the house, of which four and three are called; and the
+-- network of the first, which is whole, so that `TimelyRecovery` says it too. Δ is 10 and Λ is 0.
 use mathlib.Core.Path.{_≡_, refl}
 use mathlib.Core.Bool.{cond}
 use mathlib.Core.List.{List, [], _∷_}

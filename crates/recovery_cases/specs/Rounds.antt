@@ -1,5 +1,5 @@
 -- `Steady`, `Recovers` and `AfterOutage` on computed lists: lists in which all that they suppose holds; and for each thing that they suppose of their own,
--- as `LongRound`, `Between` and `Outlasts`, a list in which that alone fails and the bound is missed. (That the asker asks at all is not among these.) That
+-- as `LongRound`, `Between` and `Outlasts`, a list in which that alone fails and the bound is missed (but for the lower part of `Between` after an outage, and that the asker asks at all). That
 -- what they suppose of the ends and the network is needed is shown in OneRound.antt.
 use mathlib.Core.Path.{refl}
 use mathlib.Core.List.{List, [], _∷_, _++_}
@@ -73,12 +73,26 @@ abbrev pub nearby : Recovery
 nearby = between (side 1 houseParams (heard0 ++ (at 700 (echo 0 1 28) ∷ [])) (at 800 (cue 2) ∷ at 1137 (request 2 1127) ∷ past 2569 ∷ []))
     (side 0 houseParams sent (at 810 (repair 3 800 2) ∷ at 1127 (request 2 1127) ∷ past 2569 ∷ [])) 10 40
 
--- J = 1 is not long enough at a distance of 84; it would be at 170, which the asker's distance is not
+-- J = 1 is not long enough at a distance of 84
 abbrev pub quietTooShort : Rounds
 quietTooShort = record { recovery = nearby; near = 84; far = 84; t1 = 800; t0 = 800; round = 1; j = 1; lost = [] }
 
+-- It would be at 170, which the asker's distance is not. The next round is set at 1137 as late as can be: the request goes out at 3993, the holder takes
+-- it at 4003, and its reply is due at 4163, after the bound, 800 + 17×170 + 340 = 4030.
 abbrev pub nearerThan : Rounds
-nearerThan = record { recovery = nearby; near = 170; far = 84; t1 = 800; t0 = 800; round = 1; j = 1; lost = [] }
+nearerThan = record {
+  recovery = between
+      (side 1 houseParams (heard0 ++ (at 700 (echo 0 1 28) ∷ [])) (at 800 (cue 2) ∷ slow 1137 (request 2 1127) ∷ at 3993 fire ∷ past 4031 ∷ []))
+      (side 0 houseParams sent (at 810 (repair 3 800 2) ∷ at 1127 (request 2 1127) ∷ at 4003 (request 1 3993) ∷ past 4031 ∷ []))
+      10 40;
+  near = 170;
+  far = 170;
+  t1 = 800;
+  t0 = 800;
+  round = 1;
+  j = 1;
+  lost = [];
+}
 
 -- the asker's distance is 1000, and not up to 40: its first request is due at 17010, after the bound for J = 3, 8010 + 7×680 + 340
 abbrev pub fartherThan : Rounds
@@ -192,10 +206,7 @@ askedLater = record {
   f = 0;
 }
 
--- the list of `outageLonger`, with a distance taken for 1000 or more, by which F = 1 would do; and that of `fartherThan`, whose distance is not up to 40
-abbrev pub outageNearer : Outage
-outageNearer = record { recovery = outageLonger .recovery; near = 1000; far = 40; t1 = 712; t0 = 32; round = 1; f = 1 }
-
+-- the list of `fartherThan`, whose distance is not up to 40
 abbrev pub outageFarther : Outage
 outageFarther = record { recovery = fartherThan .recovery; near = 40; far = 40; t1 = 8000; t0 = 8010; round = 1; f = 2 }
 
@@ -254,8 +265,7 @@ pub record RoundsShown : Type 0 where
   -- and what is supposed of others' requests and repairs, without which the asker may be starved for ever
   pub shared-requests : Needed 19 (recovering starvedByRequests)
   pub shared-repairs : Needed 21 (recovering starvedByRepairs)
-  -- of `AfterOutage` that it asks early enough, `Outlasts`, and both parts of `Between`
+  -- of `AfterOutage` that it asks early enough, `Outlasts`, and the upper part of `Between`
   pub asked-by : Needed 23 (outlasting askedLater)
   pub outlasts : Needed 24 (outlasting outageLonger)
-  pub outage-near : Needed 25 (outlasting outageNearer)
   pub outage-far : Needed 25 (outlasting outageFarther)

@@ -23,6 +23,7 @@ use Rattle.recovery.proofs.Express.{express-recovers}
 use Rattle.recovery.proofs.Network.{network-is-whole}
 use Rattle.recovery.proofs.Views.{each-sees-its-own, side-is-end, claims-carry-over}
 use Rattle.recovery.proofs.Timely.{two-ends-recover, two-ends-recover-among, two-ends-recover-steadily, timely-recovery, steady-recovery}
+use Rattle.recovery.proofs.Timely.{timely-over-network, steady-over-network}
 use Rattle.recovery_cases.proofs.Rows.{rows-shown}
 use Rattle.guarantees.proofs.History.{count-over-history, non-members-count-none}
 use Rattle.guarantees.proofs.HistoryRows.{ten-to-eighty, left-again, whole-season}
@@ -185,6 +186,8 @@ promises = record {
     two-ends-recover-steadily = two-ends-recover-steadily;
     timely-recovery = timely-recovery;
     steady-recovery = steady-recovery;
+    timely-over-network = timely-over-network;
+    steady-over-network = steady-over-network;
     rows = rows-shown;
   };
   season = record {

@@ -84,7 +84,7 @@ pub record Promises : Type 1 where
   pub back-off : BackOffKept
   -- how long a request may wait for its next round: document 02, P12
   pub turn : TurnKept
-  -- by when a lost cue is there: source document 001, theorems 4.35 to 4.37, 6.34 and 6.35
+  -- by when a lost cue is there: source document 001, lemma 4.30 and theorems 4.35 to 4.37, 6.34 and 6.35
   pub recovery : RecoveryKept
   -- the latest 64 numbers of a source are kept, and the count of those retired without a cue is right: document 02, P7
   pub season : SeasonKept

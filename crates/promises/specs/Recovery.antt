@@ -130,17 +130,30 @@ pub record RecoveryKept : Type 1 where
   pub two-ends-recover-steadily : (m : Recovery) (x : Side) (far period t1 t0 : ℕ) (missed : List ℕ)
       → SteadySupposed m x far period t1 t0 missed → Whole m (λ t. t1 < t)
       → RecoversBy m (t0 + length missed * period + period + m .delay + factor 2 * (askerParams m .c1 + askerParams m .c2) * far + m .late + answerTime m)
-  -- 001's theorem 4.37, for every list of calls on eight ends: some call of the list hands out the cue at the asker by then.
+  -- 001's theorem 4.37, for every list of calls on eight ends: some call of the list hands out the cue at the asker by then. (That its bytes are the
+  -- source's is demand 3.)
   pub timely-recovery : (p : Play) (near far period t0 j : ℕ) (missed lost : List ℕ)
       → let m = recoveryIn p in
-      TimelySupposed m (reporterIn p) near far period t0 j missed lost → Network m (sidesIn p) (λ t. (t0 < t) × (List·Memᴰ t lost → ⊥))
+      TimelySupposed m (reporterIn p) near far period t0 j missed lost → Whole m (λ t. (t0 < t) × (List·Memᴰ t lost → ⊥))
       → let k = length lost in
       HandedOutBy p (t0 + length missed * period + period + m .delay + factorSum (j + k) * (askerParams m .c1 + askerParams m .c2) * far
       + (j + k) * m .late + answerTime m)
   pub steady-recovery : (p : Play) (far period t1 t0 : ℕ) (missed : List ℕ)
       → let m = recoveryIn p in
+      SteadySupposed m (reporterIn p) far period t1 t0 missed → Whole m (λ t. t1 < t)
+      → HandedOutBy p (t0 + length missed * period + period + m .delay + factor 2 * (askerParams m .c1 + askerParams m .c2) * far + m .late + answerTime m)
+  -- So too over a network that carries what eight ends put out, but for losses; here those of others' requests and repairs count as well.
+  pub timely-over-network : (p : Play) (near far period t0 j : ℕ) (missed lost : List ℕ)
+      → let m = recoveryIn p in
+      TimelySupposed m (reporterIn p) near far period t0 j missed lost → Network m (sidesIn p) (λ t. (t0 < t) × (List·Memᴰ t lost → ⊥))
+      → let k = length lost in
+      HandedOutBy p (t0 + length missed * period + period + m .delay + factorSum (j + k) * (askerParams m .c1 + askerParams m .c2) * far
+      + (j + k) * m .late + answerTime m)
+  pub steady-over-network : (p : Play) (far period t1 t0 : ℕ) (missed : List ℕ)
+      → let m = recoveryIn p in
       SteadySupposed m (reporterIn p) far period t1 t0 missed → Network m (sidesIn p) (λ t. t1 < t)
       → HandedOutBy p (t0 + length missed * period + period + m .delay + factor 2 * (askerParams m .c1 + askerParams m .c2) * far + m .late + answerTime m)
-  -- For each statement a computed list in which all that it supposes holds, most of them got at the very bound; and for each thing that is supposed a
-  -- list in which it alone fails, and the cue is not got by the bound.
+  -- For each main statement a computed list in which all that it supposes holds, most of them got at the very bound. And lists in which one thing alone
+  -- fails and the cue is not got by the bound: for what `answered` supposes of the ends and the network, and for what `steady`, `recovers`, `after-outage`,
+  -- `detected` and `express-recovers` suppose of their own; which things have none is said at the lists.
   pub rows : RowsShown

@@ -22,7 +22,10 @@ use Rattle.recovery.specs.Supposed.{AsksInTime, RepliesInTime, Keeps, Reaches, 
 use Rattle.recovery.specs.Whole.{RequestsReach, RequestsShared, RepairsReach, RepairsShared, Whole}
 use Rattle.recovery_cases.specs.Needs.{endsSuppose, networkSupposes, Statement, supposes, claims, Met, Needed}
 use Rattle.recovery_cases.proofs.Log.{every, some, fit, Fit, fits, Logs, logs, at-start, always-before, always-behind, sometime-behind, never-behind}
-use Rattle.recovery_cases.proofs.Tests.{stays, stays-shows, upTo, up-to-shows, passes, passes-shows, keeps, keeps-shows, asksInTime, asks-in-time-shows, repliesInTime, replies-in-time-shows, reaches, reaches-shows, settled, settled-shows, gotBy, shows-got-by, requestsReach, requests-reach-shows, requestsShared, requests-shared-shows, repairsReach, repairs-reach-shows, repairsShared, repairs-shared-shows}
+use Rattle.recovery_cases.proofs.Tests.{stays, stays-shows, upTo, up-to-shows, passes, passes-shows, keeps, keeps-shows, asksInTime}
+use Rattle.recovery_cases.proofs.Tests.{asks-in-time-shows, repliesInTime, replies-in-time-shows, reaches, reaches-shows, settled}
+use Rattle.recovery_cases.proofs.Tests.{settled-shows, gotBy, shows-got-by, requestsReach, requests-reach-shows, requestsShared}
+use Rattle.recovery_cases.proofs.Tests.{requests-shared-shows, repairsReach, repairs-reach-shows, repairsShared, repairs-shared-shows}
 
 -- all of a list, from the things one by one
 pub chain3 : {A B C : Type 0} → A → B → C → All (A ∷ B ∷ C ∷ [])

@@ -17,7 +17,9 @@ use Rattle.recovery.specs.Supposed.{Supposed}
 use Rattle.recovery.specs.Whole.{Whole}
 use Rattle.recovery.proofs.Exchange.{answered}
 use Rattle.recovery_cases.specs.Needs.{claims, Met, Needed, OneRound, answering}
-use Rattle.recovery_cases.specs.OneRound.{listing, slowest, sameNumber, holderLater, lacking, askerLeaves, holderLeaves, askerRetires, holderRetires, askerIdle, holderIdle, farAway, requestLost, otherRequestLost, repairLost, otherRepairLost, askerStops, holderStops, tooEarly, unsettled, notOpen, askerLater, OneRoundShown}
+use Rattle.recovery_cases.specs.OneRound.{listing, slowest, sameNumber, holderLater, lacking, askerLeaves, holderLeaves, askerRetires}
+use Rattle.recovery_cases.specs.OneRound.{holderRetires, askerIdle, holderIdle, farAway, requestLost, otherRequestLost, repairLost}
+use Rattle.recovery_cases.specs.OneRound.{otherRepairLost, askerStops, holderStops, tooEarly, unsettled, notOpen, askerLater, OneRoundShown}
 use Rattle.recovery_cases.proofs.Log.{log, every, some, fit, fits, Logs, logs, atPlace, at-place, always-rest, sometime-rest}
 use Rattle.recovery_cases.proofs.Tests.{laterThan, later-than-shows, passes, passes-shows, gotBy}
 use Rattle.recovery_cases.proofs.Backed.{chain4, Backed, allTrue, allBut, SideFits, sideFit, side-fits, holder-passed, testsOf, met, needed}

@@ -40,10 +40,15 @@ use Rattle.recovery.proofs.Detected.{detected}
 use Rattle.recovery.proofs.Express.{express-recovers}
 use Rattle.recovery_cases.specs.Needs.{Reached, Missed}
 use Rattle.recovery_cases.specs.Calls.{slow, cue}
-use Rattle.recovery_cases.specs.Others.{among, another, others, second, amongMid, amongRest, answeredAmong, recoversAmong, afterOutageAmong, Detecting, detectingBy, detectingSupposes, Known, reported, reportedByOne, reportedLate, hastily, hastySuppose, hastyClaims, haste, notFired, whileQuiet, hasteLost, hasteStops, OthersShown}
-use Rattle.recovery_cases.proofs.Log.{gives, entry, log, every, some, Test, Fit, fits, Logs, logs, atPlace, at-start, at-place, always-behind, sometime-behind, never-behind, always-rest, sometime-rest}
-use Rattle.recovery_cases.proofs.Tests.{Shows, holds-if, outs, takesBy, takes-by, stays, stays-shows, keeps, keeps-shows, laterThan, later-than-shows, passes, passes-shows, betweenTest, between-shows, gotBy}
-use Rattle.recovery_cases.proofs.Backed.{chain3, chain6, chain7, chain8, Backed, allTrue, allBut, all-hold, all-but, SideFits, side-fits, asker-passed, not-got}
+use Rattle.recovery_cases.specs.Others.{among, another, others, second, amongMid, amongRest, answeredAmong, recoversAmong, afterOutageAmong}
+use Rattle.recovery_cases.specs.Others.{Detecting, detectingBy, detectingSupposes, Known, reported, reportedByOne, reportedLate, hastily}
+use Rattle.recovery_cases.specs.Others.{hastySuppose, hastyClaims, haste, notFired, whileQuiet, hasteLost, hasteStops, OthersShown}
+use Rattle.recovery_cases.proofs.Log.{gives, entry, log, every, some, Test, Fit, fits, Logs, logs, atPlace, at-start, at-place, always-behind}
+use Rattle.recovery_cases.proofs.Log.{sometime-behind, never-behind, always-rest, sometime-rest}
+use Rattle.recovery_cases.proofs.Tests.{Shows, holds-if, outs, takesBy, takes-by, stays, stays-shows, keeps, keeps-shows, laterThan}
+use Rattle.recovery_cases.proofs.Tests.{later-than-shows, passes, passes-shows, betweenTest, between-shows, gotBy}
+use Rattle.recovery_cases.proofs.Backed.{chain3, chain6, chain7, chain8, Backed, allTrue, allBut, all-hold, all-but, SideFits, side-fits}
+use Rattle.recovery_cases.proofs.Backed.{asker-passed, not-got}
 use Rattle.recovery_cases.proofs.Rounds.{among as amongTimes, not-among, first-asks, outlasts-shows}
 use Rattle.recovery_cases.proofs.Several.{each-supposed, all-passed, whole-among}
 use Rattle.recovery_cases.proofs.Reports.{reports-every, covers}

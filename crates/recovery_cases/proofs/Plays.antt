@@ -25,7 +25,8 @@ use Rattle.recovery.proofs.Timely.{timely-over-network, steady-over-network}
 use Rattle.recovery_cases.specs.Needs.{Reached, endsSuppose}
 use Rattle.recovery_cases.specs.Plays.{Opens, crash, crashSupposes, calm, calmSupposes, PlaysShown}
 use Rattle.recovery_cases.proofs.Log.{log, every, Test, Fit, fit, fits, logs, at-start, always-behind}
-use Rattle.recovery_cases.proofs.Tests.{Shows, holds-if, laterThan, later-than-shows, betweenTest, between-shows, requestsReach, requests-reach-shows, repairsReach, repairs-reach-shows}
+use Rattle.recovery_cases.proofs.Tests.{Shows, holds-if, laterThan, later-than-shows, betweenTest, between-shows, requestsReach}
+use Rattle.recovery_cases.proofs.Tests.{requests-reach-shows, repairsReach, repairs-reach-shows}
 use Rattle.recovery_cases.proofs.Backed.{all-hold, endsTests, SideFits, side-fits, ends-backed, asker-passed, holder-passed, not-got, supposed-of}
 use Rattle.recovery_cases.proofs.Rounds.{among, not-among}
 use Rattle.recovery_cases.proofs.Reports.{reports-every}

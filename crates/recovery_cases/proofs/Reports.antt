@@ -22,7 +22,8 @@ use Rattle.guarantees.specs.Turn.{Sometime}
 use Rattle.recovery.specs.Recovery.{Side, timeOf, Recovery}
 use Rattle.recovery.specs.Whole.{TakesBy}
 use Rattle.recovery.specs.Detection.{reporting, lastIsAtLeast, ReportsWithin, ReportsEvery}
-use Rattle.recovery_cases.proofs.Log.{gives, Entry, entry, log, some, Test, Fit, did, taken, given-is, sound-after, Logs, logs, behind-is, start-sound, sometime-behind}
+use Rattle.recovery_cases.proofs.Log.{gives, Entry, entry, log, some, Test, Fit, did, taken, given-is, sound-after, Logs, logs, behind-is}
+use Rattle.recovery_cases.proofs.Log.{start-sound, sometime-behind}
 use Rattle.recovery_cases.proofs.Tests.{outs, takesBy, takes-by}
 use Rattle.recovery_cases.proofs.Rounds.{among, is-among}
 use Rattle.recovery_cases.proofs.Backed.{SideFits}

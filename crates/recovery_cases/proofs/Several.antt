@@ -15,7 +15,8 @@ use Rattle.recovery.specs.Whole.{RepairsReach, RepairsShared}
 use Rattle.recovery.specs.Several.{heldBy, EachSupposed, RequestsReachSome, RequestsSharedSome, WholeAmong, AllPassed}
 use Rattle.recovery_cases.specs.Needs.{endsSuppose}
 use Rattle.recovery_cases.proofs.Log.{every, some, Logs, Test, logs, always-behind}
-use Rattle.recovery_cases.proofs.Tests.{Shows, holds-if, outs, arrives, hears, hears-about, passes, isAsking, repairsReach, repairs-reach-shows, repairsShared, repairs-shared-shows}
+use Rattle.recovery_cases.proofs.Tests.{Shows, holds-if, outs, arrives, hears, hears-about, passes, isAsking, repairsReach}
+use Rattle.recovery_cases.proofs.Tests.{repairs-reach-shows, repairsShared, repairs-shared-shows}
 use Rattle.recovery_cases.proofs.Backed.{allTrue, all-hold, endsTests, SideFits, ends-backed, holder-passed, supposed-of}
 
 -- what holds of both of two holds of each of them

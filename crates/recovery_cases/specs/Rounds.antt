@@ -1,6 +1,6 @@
 -- `Steady`, `Recovers` and `AfterOutage` on computed lists: lists in which all that they suppose holds; and for each thing that they suppose of their own,
--- as `LongRound`, `Between` and `Outlasts`, a list in which that alone fails and the bound is missed (but for the lower part of `Between` after an outage, and that the asker asks at all). That
--- what they suppose of the ends and the network is needed is shown in OneRound.antt.
+-- as `LongRound`, `Between` and `Outlasts`, a list in which that alone fails and the bound is missed (but for the lower part of `Between` after an outage,
+-- and that the asker asks at all). That what they suppose of the ends and the network is needed is shown in OneRound.antt.
 use mathlib.Core.Path.{refl}
 use mathlib.Core.List.{List, [], _∷_, _++_}
 use Prim.Native.Nat.{ℕ, _+_}

@@ -19,6 +19,7 @@ pub mod panel;
 pub mod picture;
 pub mod random;
 pub mod reason;
+pub mod recovery;
 pub mod replay;
 pub mod screen;
 pub mod text;

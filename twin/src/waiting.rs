@@ -6,10 +6,10 @@ use crate::end::{Params, LAST_ROUND};
 use crate::picture::paper::{at, Anchor, Label, Paper, Point};
 
 /// "A tick is 250 microseconds."
-const TICKS_A_SECOND: u64 = 4000;
+pub(crate) const TICKS_A_SECOND: u64 = 4000;
 
 /// The distances, in milliseconds, that the page shows.
-const DISTANCES: [u64; 5] = [10, 40, 100, 250, 1000];
+pub(crate) const DISTANCES: [u64; 5] = [10, 40, 100, 250, 1000];
 
 /// "(2^k−1)×(C1+C2)×d", in ticks: the parameters are in quarters and d in milliseconds, "so parameter times distance is ticks".
 pub fn bound(params: &Params, d: u64, k: u8) -> u64 {
@@ -22,7 +22,7 @@ pub fn turns() -> impl Iterator<Item = u8> {
 }
 
 /// Ticks in seconds, brought up to a hundredth, with a comma after each three digits.
-fn seconds(ticks: u64) -> String {
+pub(crate) fn seconds(ticks: u64) -> String {
     let hundredths = (100 * ticks).div_ceil(TICKS_A_SECOND);
     let whole = (hundredths / 100).to_string();
     let mut words = String::new();

@@ -8,7 +8,7 @@ mod announcing;
 mod changes;
 mod codec;
 mod defects;
-mod dice;
+pub(crate) mod dice;
 pub mod displays;
 mod events;
 mod fetching;

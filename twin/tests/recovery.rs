@@ -169,6 +169,24 @@ fn from_the_cue_on() {
     }
 }
 
+/// End 1 hears of number 1 by a stranger's request, in the tick in which the report comes, and so begins with round 2.
+#[test]
+fn a_heard_request_doubles_the_first_round() {
+    let mut stage = Stage::new(2, Params::STANDARD);
+    stage.sends(2000, 1);
+    let report = stage.call(0, 3000, &Event::Report);
+    stage.hears(1, 3010, &about(RQST, STRANGER, 0, 1, STRANGER));
+    stage.hears(1, 3010, &report);
+    let request = stage.fires(1, 3010 + 2 * 17 * 40);
+    stage.hears(0, 4380, &request);
+    let repair = stage.fires(0, 4380 + 8 * 40);
+    stage.hears(1, 4710, &repair);
+    let verdicts = stage.judged(10, 0, None);
+    for claim in [Claim::Steady, Claim::SteadyRecovery] {
+        assert!(exact(&verdicts, claim, 0, 4710), "{claim:?} {verdicts:?}");
+    }
+}
+
 #[test]
 fn an_express_request_is_answered_at_once() {
     let params = Params {

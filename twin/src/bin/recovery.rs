@@ -4,10 +4,11 @@
 //!     recovery plot                     the same as a picture (SVG)
 //!     recovery runs FROM COUNT          the claims against the random networks of so many seeds, from one on
 //!     recovery needed FROM COUNT        each supposition left out in turn
+//!     recovery suppositions             their names and words
 //!     recovery show SEED NUMBER         the calls of one network about a number
 //!
 //! After `runs` may stand `--svg FILE`, into which a picture of the table goes; after `runs` and `show` may stand `--without NAME`: the
-//! supposition of that name, by the table of `needed`, is broken in most runs and not asked for. `runs` ends with status 1 where an instance
+//! supposition of that name, by the table of `suppositions`, is broken in most runs and not asked for. `runs` ends with status 1 where an instance
 //! is beyond its bound, `needed` where a supposition was left out and none is.
 
 use std::process::ExitCode;
@@ -15,7 +16,7 @@ use std::process::ExitCode;
 use twin::recovery::judge::judged;
 use twin::recovery::run::played;
 use twin::recovery::suppose::{Supposition, Without};
-use twin::recovery::tally::{needed, Tally};
+use twin::recovery::tally::{needed, suppositions, Tally};
 use twin::recovery::{house, picture};
 
 /// The words of the command line: numbers and flags.
@@ -54,11 +55,10 @@ fn main() -> ExitCode {
             print!("{table}");
             return status(all);
         }
+        Some("suppositions") => print!("{}", suppositions()),
         Some("show") => show(&words, without),
         _ => {
-            eprintln!(
-                "recovery table | plot | runs FROM COUNT | needed FROM COUNT | show SEED NUMBER"
-            );
+            eprintln!("recovery table | plot | runs FROM COUNT | needed FROM COUNT | suppositions | show SEED NUMBER");
             return ExitCode::from(2);
         }
     }

@@ -34,9 +34,10 @@ fn across(percent: f64) -> f64 {
 pub fn picture(tally: &Tally) -> String {
     let mut paper = Paper::default();
     let floor = TOP + ROW * CLAIMS.len() as f64;
+    let last = tally.from + tally.runs - 1;
     let title = format!(
-        "What share of their bounds {} random networks used",
-        tally.runs
+        "What share of its bound was used, in {} random networks (seeds {} to {last})",
+        tally.runs, tally.from
     );
     write(&mut paper, &title, 10.0, 22.0, Anchor::Start);
     let words = "bar: the middle half, tick: the median, line: 90 of 100, dot: the greatest";

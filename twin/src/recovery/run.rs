@@ -326,13 +326,18 @@ impl Run {
 impl Run {
     /// A stranger's message, or a copy of an old one, is heard by all members, or by some.
     fn strange(&mut self) {
-        let bytes = match self.dice.below(8) {
-            0 => self.dice.bytes(20),
+        let bytes = match self.dice.below(10) {
+            // A probe, which has members report, or no message at all.
+            0 => {
+                let length = self.dice.pick(&[0, 20]);
+                self.dice.bytes(length)
+            }
             1 | 2 if !self.put_out.is_empty() => {
                 let which = self.dice.below(self.put_out.len() as u64) as usize;
                 self.put_out[which].clone()
             }
-            6 | 7 => self.strange_request(XPRS),
+            3 => self.strange_repair(),
+            4 | 5 => self.strange_request(XPRS),
             _ => self.strange_request(RQST),
         };
         let all = !self.dice.one_in(4);
@@ -344,10 +349,29 @@ impl Run {
         }
     }
 
-    /// A stranger's request for a number that was sent.
+    /// A number that was sent.
+    fn sent(&mut self) -> u16 {
+        let sent = u64::from(self.members[0].end.next);
+        self.dice.number(sent.clamp(1, NUMBERS as u64))
+    }
+
+    /// A stranger's repair, every other time with a cue that was never sent.
+    fn strange_repair(&mut self) -> Vec<u8> {
+        let (number, source) = (self.sent(), self.plan.source());
+        let sender = self.plan.stranger(&mut self.dice);
+        let host = self.dice.host_but(&[sender, source]);
+        let mut bytes = about(REPL, sender, source, number, host);
+        if self.dice.one_in(2) {
+            // The last byte of the cue is a free one; the counts of reports and echoes come after it.
+            let place = bytes.len() - 3;
+            bytes[place] = 1;
+        }
+        bytes
+    }
+
+    /// A stranger's request.
     fn strange_request(&mut self, kind: u8) -> Vec<u8> {
-        let sent = u64::from(self.members[0].end.next).clamp(1, NUMBERS as u64);
-        let number = self.dice.number(sent);
+        let number = self.sent();
         let sender = self.plan.stranger(&mut self.dice);
         let holder = self.plan.hosts[self.plan.holder()];
         let host = match kind {

@@ -62,6 +62,8 @@ pub const LOSSES: usize = 4;
 
 #[derive(Clone, Debug)]
 pub struct Tally {
+    /// The first seed, and how many there are.
+    pub from: u64,
     pub runs: u64,
     /// For each claim and k, in the order of `CLAIMS`.
     counted: Vec<[Counted; LOSSES + 1]>,
@@ -76,6 +78,7 @@ impl Tally {
     /// The runs of seeds from one on, with a supposition left out and broken, or none.
     pub fn of(from: u64, runs: u64, without: Option<Supposition>) -> Tally {
         let mut tally = Tally {
+            from,
             runs,
             counted: vec![[Counted::NONE; LOSSES + 1]; CLAIMS.len()],
             beyond: vec![],
@@ -150,26 +153,52 @@ fn row(text: &mut String, name: &str, counted: &Counted) {
     );
 }
 
-/// The suppositions, each left out and broken in runs of its own: how many instances were then beyond the bound of which claim. Beside the
-/// table, whether there were some for each.
+/// The columns of the table of what is needed, with the claims that each sums up.
+const COLUMNS: [(&str, &[Claim]); 7] = [
+    ("Answered", &[Claim::Answered, Claim::AnsweredAmong]),
+    ("Steady", &[Claim::Steady]),
+    ("Recovers", &[Claim::Recovers, Claim::RecoversAmong]),
+    (
+        "AfterOutage",
+        &[Claim::AfterOutage, Claim::AfterOutageAmong],
+    ),
+    ("Express", &[Claim::Express]),
+    ("Detected", &[Claim::Detected]),
+    (
+        "from the cue",
+        &[Claim::Timely, Claim::TimelyAmong, Claim::SteadyRecovery],
+    ),
+];
+
+/// The suppositions, each left out and broken in runs of its own: how many instances there were, and how many of them were beyond the bound
+/// of which claim. Beside the table, whether there were some for each.
 pub fn needed(from: u64, runs: u64) -> (String, bool) {
-    let mut text = String::from(
-        "| left out | in words | instances | beyond the bound | of |\n|---|---|---:|---:|---|\n",
-    );
+    let mut text = String::from("| left out | instances |");
+    for (name, _) in COLUMNS {
+        let _ = write!(text, " {name} |");
+    }
+    let _ = writeln!(text, "\n|---|---:|{}", "---:|".repeat(COLUMNS.len()));
     let mut all = true;
-    for &(one, name, words) in ALL {
+    for &(one, name, _) in ALL {
         let tally = Tally::of(from, runs, Some(one));
-        let claims = CLAIMS
-            .iter()
-            .map(|&(claim, name)| (name, tally.claim(claim)));
-        let held: u64 = claims.clone().map(|(_, counted)| counted.held).sum();
-        let beyond: Vec<String> = claims
-            .filter(|(_, counted)| counted.beyond > 0)
-            .map(|(name, counted)| format!("{name} {}", counted.beyond))
-            .collect();
-        let (missed, claims) = (tally.missed(), beyond.join("; "));
-        let _ = writeln!(text, "| {name} | {words} | {held} | {missed} | {claims} |");
-        all &= missed > 0;
+        let claims = CLAIMS.iter().map(|&(claim, _)| tally.claim(claim));
+        let held: u64 = claims.map(|counted| counted.held).sum();
+        let _ = write!(text, "| {name} | {held} |");
+        for (_, claims) in COLUMNS {
+            let beyond = claims.iter().map(|&claim| tally.claim(claim).beyond);
+            let _ = write!(text, " {} |", beyond.sum::<u64>());
+        }
+        text.push('\n');
+        all &= tally.missed() > 0;
     }
     (text, all)
+}
+
+/// The suppositions in words.
+pub fn suppositions() -> String {
+    let mut text = String::from("| name | what is supposed |\n|---|---|\n");
+    for (_, name, words) in ALL {
+        let _ = writeln!(text, "| {name} | {words} |");
+    }
+    text
 }

@@ -1,11 +1,14 @@
 //! Code on the pages for users is quoted from the proved program `example`, word for word, and the files that the pages
-//! name are there; the tables and the picture of docs/WAITING.md are what the programs print.
+//! name are there; the tables and pictures of docs/WAITING.md and docs/RECOVERY.md are what the programs print, but for the long runs.
 
 use std::fs;
 use std::path::Path;
 
 use twin::end::Params;
 use twin::random::turns::{measured, RUNS};
+use twin::recovery::house;
+use twin::recovery::judge::CLAIMS;
+use twin::recovery::tally::suppositions;
 use twin::waiting;
 
 const PAGES: [&str; 2] = ["README.md", "docs/INTEGRATION.md"];
@@ -88,4 +91,24 @@ fn the_turns_are_as_measured() {
     let (tables, late) = measured(RUNS);
     assert_eq!(late, 0, "a round was set later than the bound");
     assert!(text("docs/WAITING.md").contains(&tables));
+}
+
+#[test]
+fn the_seconds_of_a_repair_are_as_printed() {
+    let page = text("docs/RECOVERY.md");
+    assert!(page.contains(&house::table()));
+    assert!(page.contains(&suppositions()));
+    assert_eq!(text("docs/recovery.svg"), house::plot());
+}
+
+/// The page's long runs are not played here: it has a row for each claim, and none beyond its bound.
+#[test]
+fn no_claim_is_beyond_on_the_page() {
+    let page = text("docs/RECOVERY.md");
+    for (_, name) in CLAIMS {
+        let begins = format!("| {name} | ");
+        let rows = page.lines().filter_map(|line| line.strip_prefix(&begins));
+        let beyond = rows.filter_map(|row| row.split(" | ").nth(1)?.parse().ok());
+        assert_eq!(beyond.collect::<Vec<u64>>(), [0], "{name}");
+    }
 }

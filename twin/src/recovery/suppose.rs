@@ -37,7 +37,7 @@ suppositions! {
     Near "near" "the asker's distance to the source is at least near",
     Back "back" "the request still waits when Y has passed since t1",
     LongRound "long-round" "round J and those after it are long enough",
-    Outlasts "outlasts" "F covers every round that can have been set by t1 + Y",
+    Outlasts "outlasts" "f covers every round that can have been set by t1 + Y",
     Called "called" "both are called after the bound",
     Reports "reports" "the reporter reports in every P ticks",
     Missed "missed" "at most i of the reports are missed",

@@ -1,4 +1,4 @@
-//! How long a request may wait for its next round (document 02, P12): the bound, and the table and the picture of docs/WAITING.md.
+//! How long a request may wait for its next round (document 02, P12): the bound, and a table and a picture of docs/RECOVERY.md.
 
 use std::fmt::Write;
 

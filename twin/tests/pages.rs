@@ -1,5 +1,5 @@
 //! Code on the pages for users is quoted from the proved program `example`, word for word, and the files that the pages
-//! name are there; the tables and pictures of docs/WAITING.md and docs/RECOVERY.md are what the programs print, but for the long runs.
+//! name are there; the tables and pictures of docs/RECOVERY.md are what the programs print, but for the long runs.
 
 use std::fs;
 use std::path::Path;
@@ -79,7 +79,7 @@ fn every_crate_is_in_the_readme() {
 
 #[test]
 fn the_bounds_are_as_printed() {
-    assert!(text("docs/WAITING.md").contains(&waiting::table()));
+    assert!(text("docs/RECOVERY.md").contains(&waiting::table()));
     assert_eq!(text("docs/waiting.svg"), waiting::picture());
     // The clocks of the computed run `FourRounds` of the crate cases, whose round 1 is set at 32.
     let clocks = [1, 2, 3].map(|k| 32 + waiting::bound(&Params::STANDARD, 40, k));
@@ -90,7 +90,7 @@ fn the_bounds_are_as_printed() {
 fn the_turns_are_as_measured() {
     let (tables, late) = measured(RUNS);
     assert_eq!(late, 0, "a round was set later than the bound");
-    assert!(text("docs/WAITING.md").contains(&tables));
+    assert!(text("docs/RECOVERY.md").contains(&tables));
 }
 
 #[test]

@@ -1,4 +1,4 @@
-//! The table of docs/WAITING.md, or with the word `svg` its picture: how long a request may wait for its next round.
+//! A table of docs/RECOVERY.md, or with the word `svg` its picture: how long a request may wait for its next round.
 
 fn main() {
     match std::env::args().nth(1).as_deref() {

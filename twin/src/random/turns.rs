@@ -14,7 +14,7 @@ use crate::message::{DATA, REPL, RQST, SESS, XPRS};
 use crate::waiting::bound;
 use crate::{Draw, DRAWS, OUTPUT_LEN};
 
-/// The runs that docs/WAITING.md shows.
+/// The runs that docs/RECOVERY.md shows.
 pub const RUNS: u64 = 1000;
 
 const ENDS: usize = 8;

@@ -208,10 +208,10 @@ reported-frame t us [] e = (refl, refl)
 reported-frame t us (r ∷ rs) e = let q = reported-frame t us rs (onSource e (r .source) (reportedSource t us r)) in (q .0, q .1)
 
 -- what an event other than a move leaves of host and status
-abbrev Frame : End → Step → Type 0
+abbrev pub Frame : End → Step → Type 0
 Frame e r = (r .left .host ≡ e .host) × (r .left .status ≡ e .status)
 
-arrival-frame : (us : List ℕ) (m : Meaning) (e : End) → Frame e (arrivalOf us m e)
+pub arrival-frame : (us : List ℕ) (m : Meaning) (e : End) → Frame e (arrivalOf us m e)
 unfolding arrivalOf messageStep stepAt sessionOf
 arrival-frame us m e = byCond (Frame e) (sameHost (m .sender) (e .host)) (λ _. (refl, refl))
     (λ _. byCond (Frame e) (eqb (m .kind) DATA) (λ _. (refl, refl))
@@ -234,7 +234,7 @@ fire-frame us e (First w) = go (recordAt (sourceAt e (w .name .source)) (w .name
     go (Held No) = (refl, refl)
     go (Held (Due due k)) = (refl, refl)
 
-other-frame : (us : List ℕ) (o : Other) (e : End) → Frame e (otherOf us o e)
+pub other-frame : (us : List ℕ) (o : Other) (e : End) → Frame e (otherOf us o e)
 other-frame us Fire e = fire-frame us e (earliest e 8)
 other-frame us Reporting e = (refl, refl)
 other-frame us Announce e = announce-cases (Frame e) e (refl, refl) (λ bytes. (refl, refl))

@@ -1,4 +1,4 @@
-// The calls of the product: opening an end, its eleven events, and why one would be ignored. No call asks anything of its caller: what is
+// The calls of the product: opening an end, its eleven events, when to fire, and why an event would be ignored. No call asks anything of its caller: what is
 // bad is refused by its number, and a refusal changes no byte. All events are one call, `event`, and have one frame, `frame::frame`: the
 // questions, the crashed end, the clock, membership. Each contract gives the answer and the end by `gives` and the output by `leaves`:
 // the crate end, specs/Event.antt. The last says document 01's number of the answer, 0 where the call was not refused, and its values:
@@ -19,6 +19,8 @@ ghost use Rattle.end.specs.declared.Move.the-variants.{Join, Joined, Leave, Lef
 ghost use Rattle.end.specs.Opening.{openRefusal, openingOf};
 ghost use Rattle.end.specs.Event.{Moves, Send, Arrival, Else, Fire, Report, Fetch, Announce, actionOf, gives, leaves};
 ghost use Rattle.end.specs.Why.{refusedAs, whyOf, whyRefusal};
+ghost use Rattle.end_due.specs.Due.{dueOf};
+ghost use Rattle.end_reopen.specs.Reopening.{reopenRefusal, reopeningOf};
 ghost use Rattle.frame.specs.Promise.{AnswerIs};
 
 // Opens an end: questions 12, 13 and 14. Refused, it gives host 0's crashed end beside the number.
@@ -27,6 +29,28 @@ pub fn open(me: Host, params: Params) -> Opened
     ensures { λ r. ⌜ refusalOf (r .verdict) ≡ openRefusal me params ⌝ }
 {
     membership::opening(me, params)
+}
+
+// Opens an end again after a restart, with the clock and the next own number that were stored: questions 12, 13, 14, 4 and 7. It is the very
+// end that Leave and then Left leave at that clock. Refused, it gives what a refused opening gives.
+pub fn reopen(me: Host, params: Params, clock: u64, next: u64) -> Opened
+    ensures { λ r. ⌜ r ≡ reopeningOf me params clock next ⌝ }
+    ensures { λ r. ⌜ refusalOf (r .verdict) ≡ reopenRefusal me params clock next ⌝ }
+{
+    end_reopen::reopening(me, params, clock, next)
+}
+
+// ---- when to fire
+
+// The least due time of all waits, 2^64−1 where nothing waits: a Fire before it answers Nothing, and from it on it has a message to put out. Of
+// an end that is not sound it is 2^64−1 too.
+pub fn next_due(e: End) -> u64
+    ensures { λ r. ⌜ r ≡ dueOf e ⌝ }
+{
+    if sound::sound(e) {
+        return end_due::next_due(e);
+    }
+    18446744073709551615
 }
 
 // ---- one call for all events

@@ -66,6 +66,15 @@ use Rattle.end.proofs.ReasonLaws.{reason-is-first, none-holds, number-exactly, 
 use Rattle.cases.proofs.Shown.{service-shown, late-shown, never-returns-clash}
 use Rattle.cases.proofs.Cases.{cases-hold, answers-hold, moves-hold, wire-holds, timed-hold, half-trips-hold, factors-hold, reasons-hold, stage-holds, quiet-holds, clashes-hold, probe-holds, season-holds, express-holds, fetch-holds, announced-hold, announces-hold}
 use Rattle.cases.proofs.Turn.{four-rounds, each-is-needed}
+use Rattle.lent_runs.proofs.Due.{fire-by-due, lent-fire-by-due}
+use Rattle.lent_runs.proofs.Reopening.{left-is-reopened, opened-reopens, non-members-keep-nothing, crash-is-for-good, crashed-is-not-reopened, sound-idle-may-differ}
+use Rattle.lent_runs.proofs.Numbers.{outcome-reads-back}
+use Rattle.lent_runs.proofs.Lists.{no-state-is-refused, lent-is-played, lent-is-seen, allowed-is-lent, lent-service, lent-lates-as-filed}
+use Rattle.lent_runs.proofs.Restarts.{restarts-are-leaving, restart-service, restart-lates-as-filed, may-always-restart}
+use Rattle.lent_end.proofs.StateLaws.{form-holds, state-forth}
+use Rattle.lent_display.proofs.DisplayLaws as displayLaws
+use Rattle.lent_runs.proofs.Displays.{display-is-played, no-display-is-refused}
+use Rattle.lent_lens.proofs.Kept.{lens-holds}
 use Rattle.promises.specs.Promises.{Promises}
 
 -- by its definition
@@ -283,6 +292,45 @@ promises = record {
   };
   first-reason = ignored-for-the-first-reason;
   reasons = record { reason-is-first = reason-is-first; none-holds = none-holds; request-quiet-waits = request-quiet-waits; number-exactly = number-exactly; reason-exactly = reason-exactly; none-exactly = none-exactly };
+  lent = record {
+    state-back = form-holds;
+    state-forth = state-forth;
+    nothing-before-due = λ e clock room draws f. fire-by-due e clock room draws f .before;
+    out-from-due = λ e clock room draws f. fire-by-due e clock room draws f .after;
+    lent-nothing-before-due = λ s clock draws output f. lent-fire-by-due s clock draws output f .before;
+    lent-out-from-due = λ s clock draws output f. lent-fire-by-due s clock draws output f .after;
+    left-is-reopened = left-is-reopened;
+    opened-left = λ h p cs. opened-reopens h p cs .left;
+    opened-leaving = λ h p cs. opened-reopens h p cs .leaving;
+    opened-idle = λ h p cs. opened-reopens h p cs .idle;
+    non-members-keep-nothing = non-members-keep-nothing;
+    crash-is-for-good = crash-is-for-good;
+    crashed-is-not-reopened = crashed-is-not-reopened;
+    sound-idle-may-differ = sound-idle-may-differ;
+    outcome-reads-back = outcome-reads-back;
+    no-state-is-refused = no-state-is-refused;
+    lent-fresh = λ l o. lent-is-played l o .fresh;
+    lent-holds = λ l o. lent-is-played l o .holds;
+    lent-gives = λ l o. lent-is-played l o .gives;
+    lent-allowed = λ l o cs a. lent-is-seen l o cs a .allowed;
+    allowed-is-lent = allowed-is-lent;
+    lent-seen = λ l o cs a. lent-is-seen l o cs a .same;
+    lent-service = lent-service;
+    lent-lates = lent-lates-as-filed;
+    restart-states = λ l o ts d. restarts-are-leaving l o ts d .states;
+    restart-gives = λ l o ts d. restarts-are-leaving l o ts d .gives;
+    restart-service = restart-service;
+    restart-lates = restart-lates-as-filed;
+    may-always-restart = may-always-restart;
+  };
+  lent-displays = record {
+    display-back = displayLaws.form-holds;
+    display-forth = displayLaws.display-forth;
+    display-holds = λ own sender s z cs. display-is-played own sender s z cs .holds;
+    display-gives = λ own sender s z cs. display-is-played own sender s z cs .gives;
+    no-display-is-refused = no-display-is-refused;
+  };
+  lent-lens = lens-holds;
   cases = record {
     starred = cases-hold;
     answers = answers-hold;

@@ -14,3 +14,4 @@ pub mod Announce
 pub mod Displays
 pub mod Judge
 pub mod Recovery
+pub mod Lent

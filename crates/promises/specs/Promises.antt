@@ -26,6 +26,8 @@ use Rattle.cases.specs.Season.{seasonRows}
 use Rattle.cases.specs.Express.{expressRows}
 use Rattle.cases.specs.Fetch.{fetchRows}
 use Rattle.cases.specs.Announce.{announcedRows, announceRows}
+use Rattle.lent_lens.specs.Promise.{LensHolds}
+use Rattle.promises.specs.Lent.{LentKept, LentDisplaysKept}
 use Rattle.promises.specs.Wire.{WireKept}
 use Rattle.promises.specs.Service.{ServiceKept}
 use Rattle.promises.specs.States.{StatesKept}
@@ -98,5 +100,10 @@ pub record Promises : Type 1 where
   pub displays : DisplaysKept
   -- a run's record is judged by the book, and an honest link is never accused: document 02, P13
   pub judge : JudgeKept
+  -- ends and displays lent as bytes to hosts in C and Rust: each call there is the call on what the bytes hold, lists of them are lists of demand 3,
+  -- with restarts too, and a Fire has something to put out exactly from the due time on
+  pub lent : LentKept
+  pub lent-displays : LentDisplaysKept
+  pub lent-lens : LensHolds
   -- "Cases (* is proved)"
   pub cases : CasesKept

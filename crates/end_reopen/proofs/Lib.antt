@@ -1,0 +1,2 @@
+pub mod ReopenLaws
+pub mod ReopeningLaws

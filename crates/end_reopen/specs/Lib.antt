@@ -1,0 +1,2 @@
+pub mod Reopen
+pub mod Reopening

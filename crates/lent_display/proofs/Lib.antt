@@ -1,0 +1,3 @@
+pub mod DisplayLaws
+pub mod CallLaws
+pub mod Rows

@@ -1,0 +1,34 @@
+-- `lent_display::clock` meets its contract.
+use mathlib.Core.Path.{refl, sym, _∙_}
+use Rattle.display.specs.declared.Display.{Display}
+use Rattle.lent_display.proofs.DisplayLaws.{display-long}
+use Rattle.lent_display.proofs.CallLaws.{look-none, look-is}
+use borrow.Author.Needs.{needs}
+use Rattle.lent_display.proofs.clock.Statement.{statement}
+use Rattle.lent_display.proofs.clock.Tie as tie
+
+get-display-requires : tie.Need-get-display-requires
+get-display-requires c κs =
+    let ok = c .before in
+    display-long (ok .before .before .args .s .now) (sym (ok .is-display .ensures) ∙ c .if1 .taken)
+
+returns : tie.Need-returns
+returns c =
+    let d = c in
+    let ok = d .before .before in
+    look-is (λ (d : Display). d .clock) (ok .before .before .args .s .now) _ (ok .is-display .ensures)
+    (d .get-display .result) _ (d .before .if1 .taken) (d .get-display .ensures) refl
+
+returns-2 : tie.Need-returns-2
+returns-2 c =
+    let ok = c .before in
+    look-none (λ (d : Display). d .clock) (ok .before .before .args .s .now) _ (ok .is-display .ensures) (c .if1 .left)
+
+pub clock-spec : {M : Type 1} → statement M
+clock-spec =
+    tie.close
+    (tie.spec
+    (λ c κs. search needs)
+    get-display-requires
+    returns
+    returns-2)

@@ -1,0 +1,4 @@
+pub mod ByteLaws
+pub mod Codec
+pub mod ManyLaws
+pub mod Options

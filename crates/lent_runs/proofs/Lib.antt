@@ -1,0 +1,9 @@
+pub mod Reopening
+pub mod Typed
+pub mod Fits
+pub mod Numbers
+pub mod Due
+pub mod Kept
+pub mod Lists
+pub mod Restarts
+pub mod Displays

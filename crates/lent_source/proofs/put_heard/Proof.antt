@@ -1,0 +1,23 @@
+-- `lent_source::put_heard` meets its contract.
+use borrow.Author.Needs.{needs}
+use Rattle.lent_source.proofs.put_heard.Statement.{statement}
+use Rattle.lent_source.proofs.put_heard.Tie as tie
+
+returns : tie.Need-returns
+returns c = rw (c .before .before .before .before .enum-told .given .1) (c .before .before .put-times .ensures)
+
+returns-2 : tie.Need-returns-2
+returns-2 c = rw (c .before .before .before .before .before .heard .given .1) (c .before .before .put-times2 .ensures)
+
+pub put-heard-spec : {M : Type 1} → statement M
+put-heard-spec =
+    tie.close
+    (tie.spec
+    (λ c. search needs)
+    (λ c κs. search needs)
+    (λ c. search needs)
+    (λ c κs. search needs)
+    (λ c. search needs)
+    returns
+    (λ c. search needs)
+    returns-2)

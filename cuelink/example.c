@@ -1,8 +1,9 @@
 /*
  * A whole host of the cue link on the loopback network. docs/INTEGRATION.md goes through it.
  *   example HOST PORT STORE SECONDS CUES
- * Controller HOST listens at UDP port PORT+HOST, takes part for so many seconds, sends so many cues, twenty a second, and prints what it gets. The
- * file STORE keeps what it needs after a restart; where there is none, the controller starts for the first time.
+ * Controller HOST listens at UDP port PORT+HOST, takes part for so many seconds, sends so many cues, twenty a second,
+ * and prints what it gets. The file STORE keeps what it needs after a restart; where there is none, the controller
+ * starts for the first time.
  */
 #define _DEFAULT_SOURCE
 #include <arpa/inet.h>
@@ -31,7 +32,7 @@ static void fail(const char *what, const char *why)
     exit(1);
 }
 
-/* The time in ticks: it never falls, and goes on while the controller is off. With it new draws, for the call that it is meant for. */
+/* The time in ticks: it never falls, and goes on while the controller is off. With it new draws, for the next call. */
 static uint64_t tick(void)
 {
     struct timespec t;
@@ -48,20 +49,21 @@ static uint64_t tick(void)
 static void keep(void)
 {
     char fresh[4096];
+    uint64_t clock = cuelink_clock(state, sizeof state), next = cuelink_next(state, sizeof state);
     FILE *file = snprintf(fresh, sizeof fresh, "%s.new", store) < (int)sizeof fresh ? fopen(fresh, "w") : NULL;
-    if (file == NULL || fprintf(file, "%" PRIu64 " %" PRIu64 "\n", cuelink_clock(state, sizeof state), cuelink_next(state, sizeof state)) < 0 ||
-        fflush(file) != 0 || fsync(fileno(file)) != 0 || fclose(file) != 0 || rename(fresh, store) != 0)
+    if (file == NULL || fprintf(file, "%" PRIu64 " %" PRIu64 "\n", clock, next) < 0 || fflush(file) != 0 ||
+        fsync(fileno(file)) != 0 || fclose(file) != 0 || rename(fresh, store) != 0)
         fail(store, strerror(errno));
 }
 
-/* Opens the end, or opens it again with what was stored. A store that says nothing is no first start: that would use numbers twice. */
+/* Opens the end, or again with what was stored. A store that says nothing is no first start: it would repeat numbers. */
 static void open_end(void)
 {
     static const uint64_t params[CUELINK_PARAMS] = {9, 8, 4, 4, 4, 8, 0};
     uint64_t next = 0, refused;
     FILE *file = fopen(store, "r");
     if (file == NULL ? errno != ENOENT : fscanf(file, "%" SCNu64 " %" SCNu64, &now, &next) != 2 || fclose(file) != 0)
-        fail(store, "no clock and next number in it; find out which numbers this controller has used before it starts again");
+        fail(store, "has no clock and next number; find out which numbers were used before this one starts again");
     refused = file == NULL ? cuelink_open(host, params, CUELINK_PARAMS, state, sizeof state)
                            : cuelink_reopen(host, params, CUELINK_PARAMS, now, next, state, sizeof state);
     if (refused != CUELINK_OK)
@@ -72,17 +74,21 @@ static void open_end(void)
 static unsigned take(uint64_t answer)
 {
     unsigned kind = cuelink_kind(answer), i;
-    for (i = 0; kind == CUELINK_OUT && i < CUELINK_HOSTS; i++) /* a host with a multicast group sends one datagram; what is lost is repaired */
-        if (i != host)
-            (void)sendto(network, out, cuelink_number(answer), 0, (const struct sockaddr *)&group[i], sizeof group[i]);
-    if (kind == CUELINK_GOT || kind == CUELINK_LATE || kind == CUELINK_CLASH)
-        printf("%s %u %u", kind == CUELINK_GOT ? "got" : kind == CUELINK_LATE ? "late" : "clash", cuelink_source(answer), cuelink_cue_number(answer));
-    for (i = 0; (kind == CUELINK_GOT || kind == CUELINK_LATE) && i < 10; i += 2) /* focus, zoom, sideways, upright, lamp */
-        printf(" %d", (int16_t)(uint16_t)(out[i] << 8 | out[i + 1]));
-    if (kind == CUELINK_REFUSED)
-        printf("refused %u", cuelink_number(answer));
-    if (kind == CUELINK_GOT || kind == CUELINK_LATE || kind == CUELINK_CLASH || kind == CUELINK_REFUSED)
+    size_t length = cuelink_number(answer);
+    if (kind == CUELINK_OUT) /* a host with a multicast group sends one datagram; what is lost is repaired */
+        for (i = 0; i < CUELINK_HOSTS; i++)
+            if (i != host)
+                (void)sendto(network, out, length, 0, (const struct sockaddr *)&group[i], sizeof *group);
+    if (kind == CUELINK_GOT || kind == CUELINK_LATE) {
+        printf("%s %u %u", kind == CUELINK_GOT ? "got" : "late", cuelink_source(answer), cuelink_cue_number(answer));
+        for (i = 0; i < 10; i += 2) /* focus, zoom, sideways, upright, lamp */
+            printf(" %d", (int16_t)(uint16_t)(out[i] << 8 | out[i + 1]));
         puts("");
+    }
+    if (kind == CUELINK_CLASH)
+        printf("clash %u %u\n", cuelink_source(answer), cuelink_cue_number(answer));
+    if (kind == CUELINK_REFUSED)
+        printf("refused %u\n", cuelink_number(answer));
     return kind;
 }
 
@@ -90,9 +96,10 @@ static unsigned take(uint64_t answer)
 static void receive(void)
 {
     uint8_t bytes[CUELINK_RECEIVE];
-    ssize_t length = recv(network, bytes, sizeof bytes, MSG_TRUNC);
-    if (length >= 0)
-        take(cuelink_arrival(LENT, bytes, (size_t)length < sizeof bytes ? (size_t)length : sizeof bytes, out, sizeof out));
+    ssize_t came = recv(network, bytes, sizeof bytes, MSG_TRUNC);
+    size_t length = (size_t)came < sizeof bytes ? (size_t)came : sizeof bytes;
+    if (came >= 0)
+        take(cuelink_arrival(LENT, bytes, length, out, sizeof out));
 }
 
 /* Sends a cue: its number is stored before the message leaves. */
@@ -110,10 +117,10 @@ static int came_before(uint64_t clock)
 {
     struct pollfd ready = {network, POLLIN, 0};
     uint64_t due = cuelink_due(state, sizeof state), until = due < clock ? due : clock;
-    return poll(&ready, 1, until > tick() ? (int)((until - now) / 4 + 1) : 0) > 0; /* 4 ticks are a millisecond */
+    return poll(&ready, 1, until > tick() ? (int)((until - now) / 4 + 1) : 0) > 0; /* a millisecond has 4 ticks */
 }
 
-/* The controller's life: it joins, fires what is due, takes what comes, sends its cues, reports each half second, and leaves. */
+/* The controller's life: it joins, fires what is due, takes what comes, sends its cues, reports, and leaves. */
 static void run(void)
 {
     uint64_t end, report, cue;
@@ -143,8 +150,8 @@ static void run(void)
 int main(int count, char **words)
 {
     unsigned i;
-    if (count != 6 || sscanf(words[1], "%u", &host) != 1 || sscanf(words[2], "%u", &port) != 1 || sscanf(words[4], "%u", &seconds) != 1 ||
-        sscanf(words[5], "%u", &cues) != 1 || port > 65528)
+    if (count != 6 || sscanf(words[1], "%u", &host) != 1 || sscanf(words[2], "%u", &port) != 1 || port > 65528 ||
+        sscanf(words[4], "%u", &seconds) != 1 || sscanf(words[5], "%u", &cues) != 1)
         return fputs("usage: example HOST PORT STORE SECONDS CUES\n", stderr), 2;
     store = words[3];
     open_end();

@@ -4,7 +4,9 @@
 use end::Draw;
 use end::End;
 use end::Params;
+use message::CueNumber;
 use message::Host;
+use message::Name;
 ghost use Prim.Native.Nat.{_≤_};
 ghost use lib.ListN.{length};
 
@@ -146,6 +148,54 @@ fn reports(n: u64) -> u64 {
     e.clock
 }
 
+// a: Announce, of a member that has sent a cue.
+fn announces(n: u64) -> u64 {
+    let draws: [Draw; 64] = [0; 64];
+    let mut e = sent(member(0), 0);
+    let mut i: u64 = 0;
+    while i < n {
+        let mut out: [u8; 128] = [0; 128];
+        let s = link::announce(e, i, &draws, &mut out);
+        e = s.end;
+        i += 1;
+    }
+    e.clock
+}
+
+// t: Fetch of the number below the first original, with nobody to ask.
+fn fetches(n: u64) -> u64 {
+    let draws: [Draw; 64] = [0; 64];
+    let first = message(false, 5);
+    let mut e = heard(member(1), 0, &first, 40);
+    let mut i: u64 = 0;
+    while i < n {
+        let mut out: [u8; 128] = [0; 128];
+        let name = Name {
+            source: Host(0),
+            number: CueNumber(4),
+        };
+        let s = link::fetch(e, i, &draws, name, &mut out);
+        e = s.end;
+        i += 1;
+    }
+    e.clock
+}
+
+// c: Crash, of the same member each time.
+fn crashes(n: u64) -> u64 {
+    let draws: [Draw; 64] = [0; 64];
+    let e = member(0);
+    let mut last: u64 = 0;
+    let mut i: u64 = 0;
+    while i < n {
+        let mut out: [u8; 128] = [0; 128];
+        let s = link::crash(e, i, &draws, &mut out);
+        last = s.end.clock;
+        i += 1;
+    }
+    last
+}
+
 // 10^d, for a digit's byte.
 fn times(d: u8) -> u64 {
     match d {
@@ -169,6 +219,9 @@ fn run(kind: u8, n: u64) -> u64 {
         104 => hears(n, true),
         102 => fires(n, &all),
         114 => reports(n),
+        97 => announces(n),
+        116 => fetches(n),
+        99 => crashes(n),
         _ => fires(n, &few),
     }
 }

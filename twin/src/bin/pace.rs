@@ -81,6 +81,31 @@ fn run(kind: &str, n: u64) -> u64 {
                 call(&mut e, &Event::Report, i);
             }
         }
+        "a" => {
+            call(&mut e, &Event::Send(Cue([0; 24])), 0);
+            for i in 0..n {
+                call(&mut e, &Event::Announce, i);
+            }
+        }
+        "t" => {
+            e = member(1);
+            call(&mut e, &Event::Arrival(original(5)), 0);
+            let fetch = Event::Fetch {
+                source: 0,
+                number: 4,
+            };
+            for i in 0..n {
+                call(&mut e, &fetch, i);
+            }
+        }
+        "c" => {
+            let member = e;
+            e = opened(0);
+            for i in 0..n {
+                e.clone_from(&member);
+                call(&mut e, &Event::Crash, i);
+            }
+        }
         _ => {
             let draws = [0u16; 63];
             for i in 0..n {

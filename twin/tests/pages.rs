@@ -1,5 +1,5 @@
-//! Code on the pages for users is quoted from the proved program `example`, word for word, and the files that the pages
-//! name are there; the tables and pictures of docs/RECOVERY.md are what the programs print, but for the long runs.
+//! Code on the pages for users is quoted from the proved program `example`, or in C from `cuelink/example.c`, word for word, and the files that the
+//! pages name are there; the tables and pictures of docs/RECOVERY.md are what the programs print, but for the long runs.
 
 use std::fs;
 use std::path::Path;
@@ -18,9 +18,9 @@ fn text(file: &str) -> String {
     fs::read_to_string(&path).unwrap_or_else(|e| panic!("{file}: {e}"))
 }
 
-/// The pieces between ```rust and ```.
-fn quotes(page: &str) -> Vec<&str> {
-    page.split("```rust\n")
+/// The pieces between ```rust, or another language, and ```.
+fn quotes<'a>(page: &'a str, language: &str) -> Vec<&'a str> {
+    page.split(&format!("```{language}\n"))
         .skip(1)
         .map(|rest| rest.split("```").next().unwrap_or(rest))
         .collect()
@@ -31,7 +31,7 @@ fn code_is_quoted_word_for_word() {
     let program = text("crates/example/src/main.rt");
     for file in PAGES {
         let page = text(file);
-        let quotes = quotes(&page);
+        let quotes = quotes(&page, "rust");
         assert!(!quotes.is_empty(), "{file} quotes nothing");
         for quote in quotes {
             assert!(
@@ -39,6 +39,20 @@ fn code_is_quoted_word_for_word() {
                 "{file}: not a piece of the example:\n{quote}"
             );
         }
+    }
+}
+
+#[test]
+fn code_in_c_is_quoted_word_for_word() {
+    let program = text("cuelink/example.c");
+    let page = text("docs/INTEGRATION.md");
+    let quotes = quotes(&page, "c");
+    assert!(!quotes.is_empty(), "nothing is quoted in C");
+    for quote in quotes {
+        assert!(
+            program.contains(quote),
+            "not a piece of cuelink/example.c:\n{quote}"
+        );
     }
 }
 

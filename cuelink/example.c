@@ -56,7 +56,7 @@ static void keep(void)
         fail(store, strerror(errno));
 }
 
-/* Opens the end, or again with what was stored. A store that says nothing is no first start: it would repeat numbers. */
+/* Opens the end, or again with what was stored. A store that says nothing is no first start: it repeats numbers. */
 static void open_end(void)
 {
     static const uint64_t params[CUELINK_PARAMS] = {9, 8, 4, 4, 4, 8, 0};

@@ -40,6 +40,7 @@ static void any_event(void)
             IS(call_with(w, 50, 64, 0, CUELINK_SIZE), CUELINK_NO_ROOM);
             IS(call_with(w, UINT64_MAX, 63, 128, CUELINK_SIZE - 1), CUELINK_BAD_DRAWS);
             IS(call_with(w, 50, 65, 129, CUELINK_SIZE), CUELINK_BAD_DRAWS);
+            IS(call_with(w, UINT64_MAX, 65, 128, CUELINK_SIZE - 1), CUELINK_BAD_DRAWS);
             IS(call_with(w, 50, 0, 128, CUELINK_SIZE), CUELINK_BAD_DRAWS);
             IS(call_with(w, UINT64_MAX, 64, 128, CUELINK_SIZE - 1), CUELINK_NOT_SOUND);
             IS(call_with(w, UINT64_MAX, 64, 128, CUELINK_SIZE + 1), CUELINK_NOT_SOUND);

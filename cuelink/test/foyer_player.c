@@ -134,6 +134,25 @@ static void check_display(void)
     check_refused(damaged, length, 1, dice_below(LOST), 128, 1);
 }
 
+/* An opening that was answered so, with hosts too large for their fields or into other lengths: it is refused, and changes nothing. */
+static void check_opening(uint64_t own, uint64_t sender)
+{
+    static const uint64_t wider[] = {256, 65536, (uint64_t)1 << 32, (uint64_t)1 << 63};
+    uint64_t more = wider[dice_below(4)], answer;
+    uint8_t before[DISPLAY_BYTES + 2], after[DISPLAY_BYTES + 2];
+    size_t length = dice_one_in(2) ? DISPLAY_BYTES - 1 - dice_below(2) * (DISPLAY_BYTES - 1) : DISPLAY_BYTES + 1 + dice_below(2);
+    memset(before, 0xA5, sizeof before);
+    memset(after, 0xA5, sizeof after);
+    answer = dice_one_in(2) ? call_display_open(own + more, sender, after, DISPLAY_BYTES) : call_display_open(own, sender + more, after, DISPLAY_BYTES);
+    if (answer != 12)
+        fail("cuelink_display_open with a host too large by %" PRIu64 " answers %" PRIX64 " and not 12", more, answer);
+    answer = call_display_open(own, sender, after, length);
+    if (answer != 3)
+        fail("cuelink_display_open into %lu bytes answers %" PRIX64 " and not 3", (unsigned long)length, answer);
+    if (memcmp(before, after, sizeof before) != 0)
+        fail("cuelink_display_open is refused and has changed a byte");
+}
+
 /* ---- lines */
 
 /* A call of the display is told with its losses. The output is its buffer's front. */
@@ -203,6 +222,8 @@ static int play_open(struct words *w)
     used = 0;
     memcpy(before, display, DISPLAY_BYTES);
     number = call_display_open(own, sender, display, DISPLAY_BYTES);
+    if (checks)
+        check_opening(own, sender);
     if (number == 0) {
         printf("2 opened\n");
         return 1;

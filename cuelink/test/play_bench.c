@@ -200,6 +200,8 @@ static void play_open(struct bench *b, int end, struct words *w, struct told *to
     refill(b);
     memcpy(before, state, STATE_BYTES);
     number = call_open(host, params, PARAMS, state, STATE_BYTES);
+    if (b->checks)
+        check_openings(host, params, number);
     if (number == 0) {
         text_add(&told->answer, "opened");
     } else {

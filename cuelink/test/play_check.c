@@ -1,7 +1,10 @@
 #include "play_check.h"
+#include "play_memory.h"
 
 #include <inttypes.h>
 #include <string.h>
+
+#include "cuelink.h"
 
 static const uint64_t last_clock = ((uint64_t)1 << 48) - 1;
 
@@ -28,6 +31,52 @@ int dice_one_in(uint64_t n)
     return dice_below(n) == 0;
 }
 
+/* ---- openings */
+
+void check_sizes(void)
+{
+    if (cuelink_size() != STATE_BYTES || cuelink_display_size() != DISPLAY_BYTES)
+        fail("a state has %" PRIu64 " bytes and a display %" PRIu64, cuelink_size(), cuelink_display_size());
+}
+
+/* One opening into `length` bytes; `again` with a clock and a next number. It has to answer this, and to leave the bytes of the layout or none. */
+static void check_opening(uint64_t host, const uint64_t *params, size_t count, int again, uint64_t clock, uint64_t next, size_t length, uint64_t answer)
+{
+    static uint8_t state[STATE_BYTES + 2], wanted[STATE_BYTES + 2];
+    uint64_t told;
+    memset(state, 0xA5, sizeof state);
+    memset(wanted, 0xA5, sizeof wanted);
+    if (answer == 0)
+        put_opened(wanted, (uint8_t)host, params, again ? clock : 0, again ? next : 0);
+    told = again ? call_reopen(host, params, count, clock, next, state, length) : call_open(host, params, count, state, length);
+    if (told != answer)
+        fail("%s of host %" PRIu64 " with %lu parameters, clock %" PRIu64 ", next %" PRIu64 ", into %lu bytes answers %" PRIu64 " and not %" PRIu64,
+             again ? "cuelink_reopen" : "cuelink_open", host, (unsigned long)count, clock, next, (unsigned long)length, told, answer);
+    if (memcmp(state, wanted, sizeof state) != 0)
+        fail("%s of host %" PRIu64 " answers %" PRIu64 " and leaves other bytes", again ? "cuelink_reopen" : "cuelink_open", host, answer);
+}
+
+void check_openings(uint64_t host, const uint64_t *params, uint64_t answer)
+{
+    static const uint64_t clocks[] = {0, 1, ((uint64_t)1 << 48) - 1, (uint64_t)1 << 48, UINT64_MAX};
+    static const uint64_t nexts[] = {0, 1, 65535, 65536, 65537, (uint64_t)1 << 32, UINT64_MAX};
+    static const uint64_t wider[] = {256, 65536, (uint64_t)1 << 32, (uint64_t)1 << 63};
+    uint64_t clock = clocks[dice_below(5)], next = nexts[dice_below(7)], more = wider[dice_below(4)], wide[PARAMS + 1] = {0};
+    uint64_t reopened = answer != 0 ? answer : clock > last_clock ? 4 : next > 65536 ? 7 : 0;
+    size_t place = dice_below(PARAMS), count = dice_one_in(2) ? dice_below(PARAMS) : PARAMS + 1, length = STATE_BYTES - 1 + 2 * dice_below(2);
+    int again = (int)dice_below(2);
+    check_opening(host, params, PARAMS, 0, clock, next, STATE_BYTES, answer);
+    check_opening(host, params, PARAMS, 1, clock, next, STATE_BYTES, reopened);
+    check_opening(host, params, PARAMS, again, clock, next, dice_one_in(4) ? 0 : length, 3);
+    check_opening(host + more, params, PARAMS, again, clock, next, STATE_BYTES, 12);
+    memcpy(wide, params, PARAMS * sizeof *wide);
+    wide[PARAMS - 1] = 0;
+    check_opening(host, wide, count, again, clock, next, STATE_BYTES, answer == 12 ? 12 : 13);
+    memcpy(wide, params, PARAMS * sizeof *wide);
+    wide[place] += place == PARAMS - 1 && more == 256 ? 65536 : more;
+    check_opening(host, wide, PARAMS, again, clock, next, STATE_BYTES, answer == 12 ? 12 : place < PARAMS - 1 || answer == 13 ? 13 : 14);
+}
+
 /* ---- checks */
 
 /* A clock above the last is refused as 4, but for a state that is not sound, which is refused as 3 before. */
@@ -40,6 +89,16 @@ int is_sound(const uint8_t *state)
     return reason == 4;
 }
 
+/* A number above 10 is no event's, whatever the state. */
+static void check_no_event(const uint8_t *state)
+{
+    static const uint64_t events[] = {11, 12, 255, 256, 267, 65536, (uint64_t)1 << 32, UINT64_MAX};
+    struct action action = {FIRE, number_at(state + AT_CLOCK, 8), 0, 0, NULL, 0};
+    uint64_t event = events[dice_below(8)], reason = call_reason(state, STATE_BYTES, event, &action);
+    if (reason != answer_of(NO_EVENT, 0, 0))
+        fail("cuelink_reason answers %" PRIX64 " to event %" PRIu64 ", which is none", reason, event);
+}
+
 void check_state(const uint8_t *state)
 {
     uint64_t due = call_due(state, STATE_BYTES), wanted = is_sound(state) ? least_due(state) : nothing_to_tell;
@@ -48,6 +107,7 @@ void check_state(const uint8_t *state)
     if (due != wanted)
         fail("cuelink_due tells %" PRIu64 " and not %" PRIu64, due, wanted);
     check_looks(state, STATE_BYTES, dice_below(10));
+    check_no_event(state);
 }
 
 /* What a Fire at a clock answers, as a kind; it is made on a copy. */
@@ -116,4 +176,19 @@ void check_wide(const uint8_t *state, const struct action *action, const struct 
         wide.length = dice_one_in(2) ? dice_below(CUE_BYTES) : CUE_BYTES + 1 + dice_below(8);
         check_alike(state, &wide, &nearest, around);
     }
+}
+
+void run_past(const char *way)
+{
+    static uint8_t state[STATE_BYTES], out[128];
+    static const uint64_t params[PARAMS] = {9, 8, 4, 4, 4, 8, 0};
+    static const uint16_t draws[64];
+    static const uint8_t cue[CUE_BYTES];
+    memory_after();
+    cuelink_open(0, params, PARAMS, state, STATE_BYTES);
+    state[AT_STATUS] = MEMBER;
+    if (strcmp(way, "read-past") == 0)
+        cuelink_clock(lend_read(LENT_STATE, state, STATE_BYTES - 1), STATE_BYTES);
+    if (strcmp(way, "write-past") == 0)
+        cuelink_send(state, STATE_BYTES, 0, draws, 64, cue, CUE_BYTES, lend(LENT_OUT, out, 39), 128);
 }

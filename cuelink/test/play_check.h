@@ -9,6 +9,13 @@ void dice_seed(uint64_t seed);
 uint64_t dice_below(uint64_t n);
 int dice_one_in(uint64_t n);
 
+/* The sizes are the layout's. */
+void check_sizes(void);
+
+/* Openings, and openings again, about one that was answered so (0, or 12 to 14): with other lengths, numbers too large for their fields, clocks
+   and next numbers. What is refused changes no byte, and else the bytes are those of the layout. */
+void check_openings(uint64_t host, const uint64_t *params, uint64_t answer);
+
 /* Whether the library takes the state as sound. */
 int is_sound(const uint8_t *state);
 
@@ -20,5 +27,9 @@ void check_fires(const uint8_t *state);
 
 /* An action with a source or a number that no name has, or with a cue not of 24 bytes, does what the nearest one in a trace's words does. */
 void check_wide(const uint8_t *state, const struct action *action, const struct around *around);
+
+/* The guard at work: tells a call of a byte more than it is lent, to be read (`read-past`), or of an output longer than it is (`write-past`), and
+   is stopped for it. Returns where it is not, or the word is another. */
+void run_past(const char *way);
 
 #endif

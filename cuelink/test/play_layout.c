@@ -246,6 +246,21 @@ int is_state(const uint8_t *bytes, size_t length)
     return memcmp(again, bytes, STATE_BYTES) == 0;
 }
 
+void put_opened(uint8_t *state, uint8_t host, const uint64_t *params, uint64_t clock, uint64_t next)
+{
+    int i;
+    memset(state, 0, STATE_BYTES);
+    state[0] = 0xCE;
+    state[1] = 0x01;
+    state[AT_HOST] = host;
+    for (i = 0; i < PARAMS; i++)
+        put_number(state + AT_PARAMS + 8 * i, 8, params[i]);
+    put_number(state + AT_CLOCK, 8, clock);
+    put_number(state + AT_NEXT, 4, next);
+    for (i = 0; i < HOSTS; i++)
+        put_number(source_of(state, i) + AT_DISTANCE, 8, i == host ? 0 : 40);
+}
+
 static uint64_t least(uint64_t a, uint64_t b)
 {
     return a < b ? a : b;

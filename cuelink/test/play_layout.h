@@ -97,6 +97,9 @@ void put_record(uint8_t *record, const struct record *written);
 /* Whether the bytes are a state's: there are 31,136 of them, and read and written again they are the same. */
 int is_state(const uint8_t *bytes, size_t length);
 
+/* The bytes of an end that is opened, at this clock and with this next number: idle, distances to others at 40, all else 0. */
+void put_opened(uint8_t *state, uint8_t host, const uint64_t *params, uint64_t clock, uint64_t next);
+
 /* The least due time of the waits of first..last of all sources; 2^64-1 where nothing waits. The bytes are a state's. */
 uint64_t least_due(const uint8_t *state);
 

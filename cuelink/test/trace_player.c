@@ -10,6 +10,7 @@
  * A line `END left CLOCK` with the remark `restart` opens the end again by cuelink_reopen, with its clock and its next number.
  * The reader, the writer and the cue test are not the library's calls: of `read` and `test` it gives the verdict, as of an event of a member, and
  * what a `write` gives is heard by one; the rest is the player's own (play_message.h).
+ * `read-past` and `write-past` with `guarded` have a call read or write past what it is lent, and have to be stopped for it.
  * Status 1, with a line on standard error: the library has done what none of its calls may do.
  */
 #include <inttypes.h>
@@ -319,9 +320,14 @@ static void finish(void)
 /* The words after the program's name. */
 static void take_arguments(int count, char **words)
 {
+    const char *past = NULL;
     int i, m, guarded = 0;
     for (i = 1; i < count; i++) {
         int known = strcmp(words[i], "guarded") == 0 || strcmp(words[i], "check") == 0;
+        if (strcmp(words[i], "read-past") == 0 || strcmp(words[i], "write-past") == 0) {
+            past = words[i];
+            continue;
+        }
         guarded = guarded || words[i][0] == 'g';
         bench.checks = bench.checks || words[i][0] == 'c';
         for (m = PLAIN; m <= DAMAGE; m++)
@@ -335,6 +341,8 @@ static void take_arguments(int count, char **words)
             fail("usage: trace_player [plain|rows|words|record|restarts SEED|damage SEED] [guarded] [check]");
     }
     memory_open(guarded);
+    if (past != NULL)
+        run_past(past);
 }
 
 int main(int count, char **words)
@@ -343,6 +351,7 @@ int main(int count, char **words)
     char *trace;
     take_arguments(count, words);
     trace = text_input(&length);
+    check_sizes();
     bench_start(&bench);
     if (play_all(trace, length))
         finish();

@@ -638,48 +638,64 @@ static void play_on_end(struct bench *b, int end, struct words *w, int restart, 
     }
 }
 
+static void play_start(struct bench *b, struct words *w, struct told *told)
+{
+    if (!words_whole(w))
+        return;
+    bench_start(b);
+    told->outcome = QUIET;
+}
+
+static void play_room(struct bench *b, struct words *w, struct told *told)
+{
+    uint64_t room = words_number(w, BUFFER_BYTES);
+    if (!words_whole(w))
+        return;
+    b->room = (size_t)room;
+    told->outcome = QUIET;
+}
+
+static void play_fill(struct bench *b, struct words *w, struct told *told)
+{
+    uint64_t fill = words_number(w, 255);
+    if (!words_whole(w))
+        return;
+    b->fill = (uint8_t)fill;
+    told->outcome = QUIET;
+}
+
+static void play_ask_output(struct bench *b, struct words *w, struct told *told)
+{
+    if (!words_take(w, "output") || !words_whole(w))
+        return;
+    text_hex(&told->answer, b->buffer, b->accounted);
+    told->outcome = ASKED;
+}
+
+/* The lines that begin with no end. */
+static const struct {
+    const char *word;
+    void (*play)(struct bench *b, struct words *w, struct told *told);
+} first_words[] = {
+    {"start", play_start}, {"draws", play_draws}, {"draw", play_draw},   {"each", play_each}, {"room", play_room},
+    {"fill", play_fill},   {"read", play_read},   {"write", play_write}, {"test", play_test}, {"ask", play_ask_output},
+};
+
 void bench_play(struct bench *b, const char *line, size_t length, int restart, struct told *told)
 {
     static struct words w;
+    size_t i;
+    int end;
     words_split(&w, line, length);
     told->outcome = BAD;
     told->fault = "";
     text_clear(&told->answer);
-    if (words_take(&w, "start")) {
-        if (!words_whole(&w))
+    for (i = 0; i < sizeof first_words / sizeof *first_words; i++)
+        if (words_take(&w, first_words[i].word)) {
+            first_words[i].play(b, &w, told);
             return;
-        bench_start(b);
-        told->outcome = QUIET;
-    } else if (words_take(&w, "draws")) {
-        play_draws(b, &w, told);
-    } else if (words_take(&w, "draw")) {
-        play_draw(b, &w, told);
-    } else if (words_take(&w, "each")) {
-        play_each(b, &w, told);
-    } else if (words_take(&w, "room") || words_take(&w, "fill")) {
-        int room = line[0] == 'r';
-        uint64_t value = words_number(&w, room ? BUFFER_BYTES : 255);
-        if (!words_whole(&w))
-            return;
-        if (room)
-            b->room = (size_t)value;
-        else
-            b->fill = (uint8_t)value;
-        told->outcome = QUIET;
-    } else if (words_take(&w, "read")) {
-        play_read(b, &w, told);
-    } else if (words_take(&w, "write")) {
-        play_write(b, &w, told);
-    } else if (words_take(&w, "test")) {
-        play_test(b, &w, told);
-    } else if (words_take(&w, "ask")) {
-        if (!words_take(&w, "output") || !words_whole(&w))
-            return;
-        text_hex(&told->answer, b->buffer, b->accounted);
-        told->outcome = ASKED;
-    } else {
-        int end = (int)words_number(&w, ENDS - 1);
-        if (!w.spoiled)
-            play_on_end(b, end, &w, restart, told);
-    }
+        }
+    end = (int)words_number(&w, ENDS - 1);
+    if (!w.spoiled)
+        play_on_end(b, end, &w, restart, told);
 }

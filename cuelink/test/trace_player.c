@@ -133,8 +133,10 @@ static void show(const uint8_t *state)
 /* Prints the heading whose rows are over, with how many of them were right. */
 static void close_heading(void)
 {
-    if (heading != NULL && mode == ROWS)
-        printf("%.*s: %lu right\n", (int)heading_length, heading, under);
+    if (heading != NULL && mode == ROWS) {
+        fwrite(heading, 1, heading_length, stdout);
+        printf(": %lu right\n", under);
+    }
     under = 0;
 }
 

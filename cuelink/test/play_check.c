@@ -188,7 +188,7 @@ void run_past(const char *way)
     cuelink_open(0, params, PARAMS, state, STATE_BYTES);
     state[AT_STATUS] = MEMBER;
     if (strcmp(way, "read-past") == 0)
-        cuelink_clock(lend_read(LENT_STATE, state, STATE_BYTES - 1), STATE_BYTES);
+        cuelink_clock(lend_read(LENT_STATE, state, STATE_BYTES - RECORD_BYTES), STATE_BYTES);
     if (strcmp(way, "write-past") == 0)
         cuelink_send(state, STATE_BYTES, 0, draws, 64, cue, CUE_BYTES, lend(LENT_OUT, out, 39), 128);
 }

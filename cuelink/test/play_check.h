@@ -28,7 +28,7 @@ void check_fires(const uint8_t *state);
 /* An action with a source or a number that no name has, or with a cue not of 24 bytes, does what the nearest one in a trace's words does. */
 void check_wide(const uint8_t *state, const struct action *action, const struct around *around);
 
-/* The guard at work: tells a call of a byte more than it is lent, to be read (`read-past`), or of an output longer than it is (`write-past`), and
+/* The guard at work: tells a call of a record more than it is lent, to be read (`read-past`), or of an output longer than it is (`write-past`), and
    is stopped for it. Returns where it is not, or the word is another. */
 void run_past(const char *way);
 

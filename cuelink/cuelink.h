@@ -8,7 +8,8 @@
  * States. An end is CUELINK_SIZE bytes of the caller's, a display CUELINK_DISPLAY_SIZE, lent to each call. They are a value in bytes: no
  * pointer, no alignment, no byte order of the machine. So a state may be stored, moved to another process or machine and used again there,
  * with one rule: ONLY THE BYTES THAT THE LAST CALL LEFT MAY BE LENT AGAIN. A call on older bytes forgets what was done since; after a send
- * this puts two cues under one name. Bytes that no call can have left are refused as CUELINK_NOT_SOUND.
+ * this puts two cues under one name. Bytes that are not the one form of a sound
+ * state are refused as CUELINK_NOT_SOUND.
  *
  * Buffers. Every buffer is the caller's, before, during and after the call. A call keeps no pointer, and allocates and frees nothing.
  *   - A length counts elements: bytes, draws (uint16_t) or numbers (uint64_t). The buffer must have at least so many; nothing past them is
@@ -78,7 +79,7 @@ enum cuelink_refusals {
     CUELINK_OK = 0,          /* opening and reopening: not refused. No event answers it */
     CUELINK_NO_ROOM = 1,     /* the output has fewer than 128 bytes; of a display's hear also: lost has fewer than 4 numbers */
     CUELINK_BAD_DRAWS = 2,   /* there are not 64 draws */
-    CUELINK_NOT_SOUND = 3,   /* the bytes are no state that a call can have left; at opening: the length is not that of a state */
+    CUELINK_NOT_SOUND = 3,   /* the bytes are not those of a sound state; at opening: the length is not that of a state */
     CUELINK_CLOCK_HIGH = 4,  /* the clock is above 2^48-1 */
     CUELINK_CLOCK_BACK = 5,  /* the clock is below the state's */
     CUELINK_BAD_CUE = 6,     /* an offset is not in -2000..2000, the lamp is above 1000, or the cue has not 24 bytes */

@@ -90,7 +90,7 @@ impl Display {
 
     /// The display of which these are the bytes, as [`as_bytes`](Display::as_bytes) gave them: those that the last call left.
     ///
-    /// Refused as [`NotSound`](Refusal::NotSound) where no call can have left them.
+    /// Refused as [`NotSound`](Refusal::NotSound) where they are not those of a sound display.
     pub fn from_bytes(bytes: &[u8]) -> Result<Display, Refusal> {
         let mut display = Display {
             bytes: bytes.try_into().map_err(|_| Refusal::NotSound)?,

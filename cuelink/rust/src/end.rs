@@ -141,7 +141,7 @@ impl End {
     /// The end of which these are the bytes, as [`as_bytes`](End::as_bytes) gave them, here or on another machine. They must be those that the last call
     /// left: nothing can tell an older state from the last.
     ///
-    /// Refused as [`NotSound`](Refusal::NotSound) where they have not the form of a state, or no call can have left them.
+    /// Refused as [`NotSound`](Refusal::NotSound) where they have not the form of a state, or the state is not sound.
     ///
     /// ```
     /// use cuelink::{End, Params, Refusal};

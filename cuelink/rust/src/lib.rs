@@ -277,7 +277,7 @@ numbered! {
         /// Does not come from these types.
         BadDraws = 2 "there are not 64 draws",
         /// From [`End::from_bytes`] and [`Display::from_bytes`] alone.
-        NotSound = 3 "the bytes are no state that a call can have left",
+        NotSound = 3 "the bytes are not those of a sound state",
         ClockHigh = 4 "the clock is above 2^48-1",
         ClockBack = 5 "the clock is below the state's",
         BadCue = 6 "an offset is not in -2000..2000, or the lamp is above 1000",

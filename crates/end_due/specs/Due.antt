@@ -16,6 +16,7 @@ use Rattle.end.specs.Records.{start, width, recordAt}
 use Rattle.end.specs.Sound.{soundOf}
 use Rattle.end.specs.Fire.{foldUp}
 
+-- 2^64−1: nothing waits
 abbrev pub never : ℕ
 never = 18446744073709551615
 
@@ -40,6 +41,7 @@ namesDue s m k = foldUp (λ i x. slotDue (recordAt s (start (s .span) + i) .slot
 abbrev pub sourcesDue : List Source → ℕ → ℕ
 sourcesDue all k = foldUp (λ h x. let s = getD all h noSource in namesDue s x (width (s .span))) never k
 
+-- "the least due time of all waits, 2^64−1 where nothing waits"
 unfoldable pub nextDue : End → ℕ
 nextDue e = sourcesDue (e .sources) 8
 

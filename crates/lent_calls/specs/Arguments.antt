@@ -19,7 +19,7 @@ use Rattle.end.specs.declared.Event.the-variants.{Moves, Send, Arrival, Fire, R
 abbrev pub nameOf : ℕ → ℕ → Name
 nameOf source number = record { source = cond (leb number 65535) (hostOf source) (asHost 255); number = asNumber (min number 65535) }
 
--- a cue that is not of 24 bytes is one out of range: refused as 6, in 6's place
+-- a cue that is not of 24 bytes is one out of range, by its lamp: refused as 6, in 6's place
 abbrev pub cueOf : List ℕ → List ℕ
 cueOf b = cond (eqb (length b) 24) b (replicate 24 255)
 
@@ -41,8 +41,8 @@ paramsOf p =
     })
     noParams
 
--- the events by number, for the reason call: 0 join, 1 joined, 2 leave, 3 left, 4 crash, 5 send, 6 arrival, 7 fire, 8 report, 9 fetch,
--- 10 announce
+-- the events by number, for the reason call: 0 join, 1 joined, 2 leave, 3 left, 4 crash; 5 send, 6 arrival, 7 fire, 8 report, 9 fetch,
+-- 10 announce. The call asks for at most 10 first
 abbrev pub moveOf : ℕ → Move
 moveOf n = getD (Join ∷ Joined ∷ Leave ∷ Left ∷ []) n Crash
 

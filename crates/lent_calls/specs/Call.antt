@@ -30,6 +30,10 @@ pub record Called (e : End) (a : Action) (clock : ℕ) (draws out out′ s s′ 
   pub kept : isState s′ ≡ true
   pub holds : endFrom s′ ≡ endAfter (gives e a clock draws out) e
 
+-- ---- questions 1 and 2: the first no, 0 where there is none
+abbrev pub asked : ℕ → ℕ → ℕ
+asked room draws = cond (leb roomNeeded room) (cond (eqb draws drawCount) 0 2) 1
+
 -- ---- a call: questions 1 and 2, whether the bytes are a state, then the event with its own questions
 abbrev pub ready : List ℕ → List ℕ → List ℕ → Bool
 ready s draws out = leb roomNeeded (length out) && (eqb (length draws) drawCount && isState s)

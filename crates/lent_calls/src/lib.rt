@@ -24,7 +24,7 @@ ghost use Rattle.end.specs.Event.{Send, Else, Fetch, actionOf};
 ghost use Rattle.end.specs.Why.{reasonNumber};
 ghost use Rattle.lent_end.specs.State.{endFrom, isState, stateWidth};
 ghost use Rattle.lent_calls.specs.Arguments.{nameOf, cueOf, paramsOf, moveOf, eventOf};
-ghost use Rattle.lent_calls.specs.Call.{Called, CallIs};
+ghost use Rattle.lent_calls.specs.Call.{asked, Called, CallIs};
 ghost use Rattle.lent_calls.specs.Open.{OpensAs, openOf, reopenOf};
 ghost use Rattle.lent_calls.specs.Reason.{whyNumber, reasonOf};
 
@@ -114,7 +114,42 @@ fn on_state(
     answer
 }
 
-// Any event. It asks questions 1 and 2 first, so that a call that they refuse costs next to nothing and needs little stack.
+// A call whose questions 1 and 2 are answered. It has three callers, so that the compiler keeps it apart from them: a call that is refused as 1 or
+// 2 then takes no time and next to no stack.
+fn on_bytes(
+    state: &mut [u8],
+    clock: u64,
+    draws: &[Draw],
+    what: Event,
+    cue: [u8; 24],
+    bytes: &[u8],
+    out: &mut [u8],
+) -> u64
+    requires { ⌜ asked (length (now out)) (length (now draws)) ≡ 0 ⌝ }
+    ensures { λ r. ⌜ CallIs (actionOf what cue (now (bytes .entry))) clock (now (draws .entry)) (now (out .entry)) (now (out .exit)) (now (state .entry)) (now (state .exit)) r ⌝ }
+{
+    let ok = lent_end::is_state(state);
+    if ok {
+        let answer = on_state(state, clock, draws, what, cue, bytes, out);
+        return lent_answer::number_of(answer);
+    }
+    3
+}
+
+// Questions 1 and 2.
+fn asked(room: usize, draws: usize) -> u64
+    ensures { λ r. ⌜ r ≡ asked room draws ⌝ }
+{
+    if room < ROOM_NEEDED {
+        return 1;
+    }
+    if draws != DRAWS {
+        return 2;
+    }
+    0
+}
+
+// Any event.
 pub fn event(
     state: &mut [u8],
     clock: u64,
@@ -126,26 +161,23 @@ pub fn event(
 ) -> u64
     ensures { λ r. ⌜ CallIs (actionOf what cue (now (bytes .entry))) clock (now (draws .entry)) (now (out .entry)) (now (out .exit)) (now (state .entry)) (now (state .exit)) r ⌝ }
 {
-    if out.len() < ROOM_NEEDED {
-        return 1;
+    let q = asked(out.len(), draws.len());
+    if q == 0 {
+        return on_bytes(state, clock, draws, what, cue, bytes, out);
     }
-    if draws.len() != DRAWS {
-        return 2;
-    }
-    let ok = lent_end::is_state(state);
-    if ok {
-        let answer = on_state(state, clock, draws, what, cue, bytes, out);
-        return lent_answer::number_of(answer);
-    }
-    3
+    q
 }
 
 // Send, with a cue of any length.
 pub fn send(state: &mut [u8], clock: u64, draws: &[Draw], cue: &[u8], out: &mut [u8]) -> u64
     ensures { λ r. ⌜ CallIs (Send (cueOf (now (cue .entry)))) clock (now (draws .entry)) (now (out .entry)) (now (out .exit)) (now (state .entry)) (now (state .exit)) r ⌝ }
 {
-    let c = cue_of(cue);
-    event(state, clock, draws, Event::Send, c, &[0; 0], out)
+    let q = asked(out.len(), draws.len());
+    if q == 0 {
+        let c = cue_of(cue);
+        return on_bytes(state, clock, draws, Event::Send, c, &[0; 0], out);
+    }
+    q
 }
 
 // Fetch, of any two numbers.
@@ -159,16 +191,13 @@ pub fn fetch(
 ) -> u64
     ensures { λ r. ⌜ CallIs (Else (Fetch (nameOf source number))) clock (now (draws .entry)) (now (out .entry)) (now (out .exit)) (now (state .entry)) (now (state .exit)) r ⌝ }
 {
-    let name = name_of(source, number);
-    event(
-        state,
-        clock,
-        draws,
-        Event::Fetch(name),
-        [0; 24],
-        &[0; 0],
-        out,
-    )
+    let q = asked(out.len(), draws.len());
+    if q == 0 {
+        let name = name_of(source, number);
+        let what = Event::Fetch(name);
+        return on_bytes(state, clock, draws, what, [0; 24], &[0; 0], out);
+    }
+    q
 }
 
 // ---- opening and reopening
@@ -182,11 +211,11 @@ fn put_opened(o: Opened, state: &mut [u8]) -> u64
     }
     let verdict = o.verdict;
     let end = o.end;
-    let q = message::number_of(verdict) as u64;
-    if q == 0 {
+    let refusal = message::number_of(verdict) as u64;
+    if refusal == 0 {
         lent_end::put_end(state, end);
     }
-    q
+    refusal
 }
 
 // Opens an end: questions 12, 13 and 14.
@@ -211,7 +240,7 @@ pub fn reopen(host: u64, params: &[u64], clock: u64, next: u64, state: &mut [u8]
 
 // ---- why an event would be ignored
 
-// The event of a number, with the name that a fetch has: a move, or another. 10 and above are announce; the call has asked for at most 10.
+// The move of a number: from 4 on crash, of which the caller has asked for at most 4.
 fn move_of(n: u64) -> Move
     ensures { λ r. ⌜ r ≡ moveOf n ⌝ }
 {
@@ -224,6 +253,7 @@ fn move_of(n: u64) -> Move
     }
 }
 
+// The event of a number, with the name that a fetch has. From 10 on it is announce; the call has asked for at most 10.
 fn event_of(n: u64, name: Name) -> Event
     ensures { λ r. ⌜ r ≡ eventOf n name ⌝ }
 {

@@ -214,6 +214,6 @@ status-kept s h =
     let r = and-both (eqb (number 2 s 0) mark) (leb (number 1 s 67) 4) (q .0) in
     sym (status-forth (number 1 s 67) (r .1))
 
--- so a state holds the end that is read from it, and no two ends have one form
+-- so a state holds the end that is read from it, and is that end's only form
 pub state-holds : (s : List ℕ) → Bytes s → isState s ≡ true → Holds s (endFrom s)
 state-holds s b h = record { bytes = sym (state-forth s b h); reads = refl; tested = h }

@@ -102,6 +102,7 @@ endFrom s = record {
   sources = many sourceFrom sourceWidth 8 s 72;
 }
 
+-- whether bytes are a state: its length, the mark and version, a status that there is, and sources in their one form; all other numbers are free
 unfoldable pub isState : List ℕ → Bool
 isState s = eqb (length s) stateWidth && (eqb (number 2 s 0) mark && leb (number 1 s 67) 4 && allPass sourceTest sourceWidth 8 s 72)
 

@@ -35,12 +35,14 @@ pub record Two (A B : Type 0) : Type 0 where
   pub one : A
   pub two : B
 
+-- what the type of a number of w bytes says, and that of n bytes
 abbrev pub Below : ℕ → ℕ → Type 0
 Below w v = v < 256 ^ w
 
 abbrev pub Long : ℕ → List ℕ → Type 0
 Long n b = length b ≡ n
 
+-- a test that all bytes pass
 abbrev pub free : List ℕ → ℕ → Bool
 free s k = true
 
@@ -69,6 +71,6 @@ threeAt v w x s k = three (number v s k) (number w s (k + v)) (number x s (k + (
 abbrev pub fourAt : ℕ → ℕ → ℕ → ℕ → List ℕ → ℕ → Two (Two (Two ℕ ℕ) ℕ) ℕ
 fourAt v w x y s k = four (number v s k) (number w s (k + v)) (number x s (k + (v + w))) (number y s (k + (v + w + x)))
 
--- ---- what is there or not: tag 1, or tag 0 and else zeros
+-- ---- what is there or not: tag 1, or tag 0 and else zeros (`none`: whether all its other numbers are 0)
 abbrev pub isOption : ℕ → Bool → Bool
 isOption tag none = cond (eqb tag 0) none (eqb tag 1)

@@ -12,7 +12,7 @@ use Rattle.message.proofs.QuestionLaws.{and-both}
 use Rattle.end.specs.declared.Source.{Source}
 use Rattle.end.specs.declared.End.{End}
 use Rattle.end.specs.State.{noSource}
-use Rattle.end_due.specs.Due.{never}
+use Rattle.lent_answer.specs.Number.{NONE}
 use Rattle.lent_fields.specs.Fields.{number, many}
 use Rattle.lent_source.specs.Source.{sourceFrom}
 use Rattle.lent_end.specs.State.{endFrom, isState}
@@ -27,7 +27,7 @@ module _ (f : End → ℕ) (s : List ℕ) (ok : Bool) (t : ok ≡ isState s) whe
       let yes : isState s ≡ true = sym t ∙ y in
       rw yes e
 
-  pub unseen : ok ≡ false → never ≡ look f s
+  pub unseen : ok ≡ false → NONE ≡ look f s
   unfolding look
   unseen n =
       let no : isState s ≡ false = sym t ∙ n in
@@ -62,10 +62,10 @@ module _ (f : Source → ℕ) (h : ℕ) (s : List ℕ) (ok : Bool) (t : ok ≡ (
       let both = and-both (ltb h 8) (isState s) (sym t ∙ y) in
       rw (both .0, both .1) (e ∙ ap (λ (k : ℕ). f (sourceFrom s k)) p ∙ ap f (sym (source-at s h (there-host y))))
 
-  not-both : (a b : Bool) (x : ℕ) → (a && b) ≡ false → never ≡ cond a (cond b x never) never
+  not-both : (a b : Bool) (x : ℕ) → (a && b) ≡ false → NONE ≡ cond a (cond b x NONE) NONE
   not-both true b x e = rw e
   not-both false b x e = refl
 
-  pub unseen-at : ok ≡ false → never ≡ lookAt f h s
+  pub unseen-at : ok ≡ false → NONE ≡ lookAt f h s
   unfolding lookAt look
   unseen-at n = not-both (ltb h 8) (isState s) (f (getD (endFrom s .sources) h noSource)) (sym t ∙ n)

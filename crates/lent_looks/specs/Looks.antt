@@ -13,12 +13,13 @@ use Rattle.end.specs.declared.Origin.the-variants.{NoOrigin, From}
 use Rattle.end.specs.declared.Source.{Source}
 use Rattle.end.specs.declared.End.{End}
 use Rattle.end.specs.State.{noSource}
-use Rattle.end_due.specs.Due.{never, dueOf}
+use Rattle.end_due.specs.Due.{dueOf}
+use Rattle.lent_answer.specs.Number.{NONE}
 use Rattle.lent_end.specs.State.{endFrom, isState, statusNumber}
 
 -- ---- of the end
 unfoldable pub look : (End → ℕ) → List ℕ → ℕ
-look f s = cond (isState s) (f (endFrom s)) never
+look f s = cond (isState s) (f (endFrom s)) NONE
 
 abbrev pub hostIn : End → ℕ
 hostIn e = e .host .0
@@ -40,19 +41,19 @@ dueIn e = dueOf e
 
 -- ---- of one of its eight hosts or sources
 unfoldable pub lookAt : (Source → ℕ) → ℕ → List ℕ → ℕ
-lookAt f h s = cond (ltb h hostLimit) (look (λ e. f (getD (e .sources) h noSource)) s) never
+lookAt f h s = cond (ltb h hostLimit) (look (λ e. f (getD (e .sources) h noSource)) s) NONE
 
 abbrev pub firstOf : Span → ℕ
-firstOf Closed = never
+firstOf Closed = NONE
 firstOf (Open first last) = first .0
 
 abbrev pub lastOf : Span → ℕ
-lastOf Closed = never
+lastOf Closed = NONE
 lastOf (Open first last) = last .0
 
-abbrev pub numberOf : Origin → ℕ
-numberOf NoOrigin = never
-numberOf (From n) = n .0
+abbrev pub originOf : Origin → ℕ
+originOf NoOrigin = NONE
+originOf (From n) = n .0
 
 abbrev pub firstIn : Source → ℕ
 firstIn x = firstOf (x .span)
@@ -64,9 +65,9 @@ lastIn x = lastOf (x .span)
 abbrev pub missedIn : Source → ℕ
 missedIn x = x .missed
 
--- the first original's number since joining, just below which a fetch may ask (document 02, P9)
+-- the first original's number since joining: the 64 numbers just below it may be fetched (document 02, P9)
 abbrev pub originIn : Source → ℕ
-originIn x = numberOf (x .origin)
+originIn x = originOf (x .origin)
 
 abbrev pub distanceIn : Source → ℕ
 distanceIn x = x .distance

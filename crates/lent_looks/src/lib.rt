@@ -6,13 +6,13 @@ use end::Span;
 use lent_answer::NONE;
 use message::HOST_LIMIT;
 ghost use mathlib.Core.Path.{_≡_};
-ghost use mathlib.Core.Bool.{true, _&&_};
+ghost use mathlib.Core.Bool.{_&&_};
 ghost use Prim.Native.Nat.{_+_, _*_, _<_};
 ghost use lib.Dec.{ltb};
 ghost use Rattle.message.specs.Limit.{hostLimit};
 ghost use Rattle.lent_end.specs.State.{isState};
 ghost use Rattle.lent_source.specs.Source.{sourceWidth};
-ghost use Rattle.lent_looks.specs.Looks.{look, hostIn, clockIn, statusIn, nextIn, dueIn, lookAt, firstOf, lastOf, numberOf, firstIn, lastIn, missedIn, originIn, distanceIn};
+ghost use Rattle.lent_looks.specs.Looks.{look, hostIn, clockIn, statusIn, nextIn, dueIn, lookAt, firstOf, lastOf, originOf, firstIn, lastIn, missedIn, originIn, distanceIn};
 
 // ---- of the end
 
@@ -109,8 +109,8 @@ fn last_of(span: Span) -> u64
     }
 }
 
-fn number_of(origin: Origin) -> u64
-    ensures { λ r. ⌜ r ≡ numberOf origin ⌝ }
+fn origin_of(origin: Origin) -> u64
+    ensures { λ r. ⌜ r ≡ originOf origin ⌝ }
 {
     match origin {
         Origin::NoOrigin => NONE,
@@ -161,7 +161,7 @@ pub fn origin(state: &[u8], source: u64) -> u64
     if ok {
         let at = place(source);
         let x = lent_source::get_origin(state, at + 40);
-        return number_of(x);
+        return origin_of(x);
     }
     NONE
 }

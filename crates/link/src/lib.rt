@@ -31,8 +31,9 @@ pub fn open(me: Host, params: Params) -> Opened
     membership::opening(me, params)
 }
 
-// Opens an end again after a restart, with the clock and the next own number that were stored: questions 12, 13, 14, 4 and 7. It is the very
-// end that Leave and then Left leave at that clock. Refused, it gives what a refused opening gives.
+// Opens an end again after a restart, with the clock and the next own number that were stored: questions 12, 13, 14, 4 and 7. Of an end with this
+// host, these parameters and this next number that is a member or joining, or that came from an opening and did not crash, it is the very end that
+// Leave and then Left leave at that clock (lent_runs: Reopening). Refused, it gives what a refused opening gives.
 pub fn reopen(me: Host, params: Params, clock: u64, next: u64) -> Opened
     ensures { λ r. ⌜ r ≡ reopeningOf me params clock next ⌝ }
     ensures { λ r. ⌜ refusalOf (r .verdict) ≡ reopenRefusal me params clock next ⌝ }
@@ -42,8 +43,8 @@ pub fn reopen(me: Host, params: Params, clock: u64, next: u64) -> Opened
 
 // ---- when to fire
 
-// The least due time of all waits, 2^64−1 where nothing waits: a Fire before it answers Nothing, and from it on it has a message to put out. Of
-// an end that is not sound it is 2^64−1 too.
+// The least due time of all waits, 2^64−1 where nothing waits: a member's Fire before it answers Nothing, and from it on it puts a message out.
+// Of an end that is not sound it is 2^64−1 too.
 pub fn next_due(e: End) -> u64
     ensures { λ r. ⌜ r ≡ dueOf e ⌝ }
 {

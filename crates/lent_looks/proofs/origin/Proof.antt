@@ -2,7 +2,7 @@
 use mathlib.Core.Path.{ap, _∙_}
 use native.Mathlib.Omega.{arith}
 use borrow.Author.Needs.{needs}
-use Rattle.lent_looks.specs.Looks.{originIn, numberOf}
+use Rattle.lent_looks.specs.Looks.{originIn, originOf}
 use Rattle.lent_looks.proofs.LookLaws.{there-host, there-long, seen-at, unseen-at}
 use Rattle.lent_looks.proofs.origin.Statement.{statement}
 use Rattle.lent_looks.proofs.origin.Tie as tie
@@ -37,7 +37,7 @@ returns c =
     let t = p .before in
     let i = t .before in
     let a = i .before .before .args in
-    seen-at originIn (a .source) (a .state .now) _ (i .is-there .ensures) _ _ (t .if1 .taken) (p .place .ensures) (c .number-of .ensures ∙ ap numberOf (r .get-origin .ensures))
+    seen-at originIn (a .source) (a .state .now) _ (i .is-there .ensures) _ _ (t .if1 .taken) (p .place .ensures) (c .origin-of .ensures ∙ ap originOf (r .get-origin .ensures))
 
 returns-2 : tie.Need-returns-2
 returns-2 c =

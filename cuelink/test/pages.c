@@ -34,6 +34,10 @@ struct pages pages_for(size_t most, int written)
     p.fill = view(file, page, p.size, PROT_READ | PROT_WRITE);
     p.given = view(file, page, p.size, written ? PROT_READ | PROT_WRITE : PROT_READ);
     close(file);
+    p.pattern = malloc(p.size);
+    if (p.pattern == NULL)
+        none();
+    memset(p.pattern, PATTERN, p.size);
     return p;
 }
 
@@ -49,7 +53,7 @@ static size_t start_of(const struct pages *p, enum place place, size_t length)
 void *pages_lend(const struct pages *p, enum place place, const void *bytes, size_t length)
 {
     size_t at = start_of(p, place, length);
-    memset(p->fill, PATTERN, p->size);
+    memcpy(p->fill, p->pattern, p->size);
     if (length == 0)
         return NULL;
     memcpy(p->fill + at, bytes, length);
@@ -58,11 +62,8 @@ void *pages_lend(const struct pages *p, enum place place, const void *bytes, siz
 
 int pages_whole(const struct pages *p, enum place place, size_t length)
 {
-    size_t at = start_of(p, place, length), i;
-    for (i = 0; i < p->size; i++)
-        if ((i < at || i >= at + length) && p->fill[i] != PATTERN)
-            return 0;
-    return 1;
+    size_t at = start_of(p, place, length), after = at + length;
+    return memcmp(p->fill, p->pattern, at) == 0 && memcmp(p->fill + after, p->pattern, p->size - after) == 0;
 }
 
 const uint8_t *pages_bytes(const struct pages *p, enum place place, size_t length)

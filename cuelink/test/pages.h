@@ -11,9 +11,10 @@
 enum place { PLAIN, AT_END, AT_START };
 
 struct pages {
-    size_t size;    /* the bytes of its pages */
-    uint8_t *fill;  /* the view of the test */
-    uint8_t *given; /* the view of the call */
+    size_t size;      /* the bytes of its pages */
+    uint8_t *fill;    /* the view of the test */
+    uint8_t *given;   /* the view of the call */
+    uint8_t *pattern; /* what stands in the bytes that are not the buffer's */
 };
 
 /* Pages for so many bytes; `written` where a call may write them. Ends the program where there are none. */

@@ -180,57 +180,44 @@ size_t accounted(uint64_t answer)
 
 /* ---- looks */
 
-typedef uint64_t look(const uint8_t *state, size_t length);
-typedef uint64_t look_at(const uint8_t *state, size_t length, uint64_t source);
-
 static void same(const char *which, uint64_t told, uint64_t is)
 {
     if (told != is)
         fail("cuelink_%s tells %" PRIu64 " where the bytes have %" PRIu64, which, told, is);
 }
 
-static void check_look(const char *which, look *call, const uint8_t *state, size_t length, uint64_t is)
-{
-    uint64_t told = call(lend_read(LENT_STATE, state, length), length);
-    memory_after();
-    same(which, told, is);
-}
-
-static void check_look_at(const char *which, look_at *call, const uint8_t *state, size_t length, uint64_t source, uint64_t is)
-{
-    uint64_t told = call(lend_read(LENT_STATE, state, length), length, source);
-    memory_after();
-    same(which, told, is);
-}
-
-void check_looks(const uint8_t *state, size_t length, uint64_t source)
+int check_looks(const uint8_t *state, size_t length, uint64_t source)
 {
     int there = is_state(state, length), at = there && source < HOSTS;
-    const uint8_t *from = at ? source_in(state, (int)source) : NULL;
+    const uint8_t *from = at ? source_in(state, (int)source) : NULL, *lent = lend_read(LENT_STATE, state, length);
     struct span span = {0, 0, 0};
     struct origin origin = {0, 0};
     if (at) {
         read_span(from, &span);
         read_origin(from, &origin);
     }
-    check_look("host", cuelink_host, state, length, there ? state[AT_HOST] : nothing_to_tell);
-    check_look("clock", cuelink_clock, state, length, there ? number_at(state + AT_CLOCK, 8) : nothing_to_tell);
-    check_look("status", cuelink_status, state, length, there ? state[AT_STATUS] : nothing_to_tell);
-    check_look("next", cuelink_next, state, length, there ? number_at(state + AT_NEXT, 4) : nothing_to_tell);
-    check_look_at("first", cuelink_first, state, length, source, span.open ? span.first : nothing_to_tell);
-    check_look_at("last", cuelink_last, state, length, source, span.open ? span.last : nothing_to_tell);
-    check_look_at("missed", cuelink_missed, state, length, source, at ? number_at(from + AT_MISSED, 4) : nothing_to_tell);
-    check_look_at("origin", cuelink_origin, state, length, source, origin.known ? origin.number : nothing_to_tell);
-    check_look_at("distance", cuelink_distance, state, length, source, at ? number_at(from + AT_DISTANCE, 8) : nothing_to_tell);
+    same("host", cuelink_host(lent, length), there ? state[AT_HOST] : nothing_to_tell);
+    same("clock", cuelink_clock(lent, length), there ? number_at(state + AT_CLOCK, 8) : nothing_to_tell);
+    same("status", cuelink_status(lent, length), there ? state[AT_STATUS] : nothing_to_tell);
+    same("next", cuelink_next(lent, length), there ? number_at(state + AT_NEXT, 4) : nothing_to_tell);
+    same("first", cuelink_first(lent, length, source), span.open ? span.first : nothing_to_tell);
+    same("last", cuelink_last(lent, length, source), span.open ? span.last : nothing_to_tell);
+    same("missed", cuelink_missed(lent, length, source), at ? number_at(from + AT_MISSED, 4) : nothing_to_tell);
+    same("origin", cuelink_origin(lent, length, source), origin.known ? origin.number : nothing_to_tell);
+    same("distance", cuelink_distance(lent, length, source), at ? number_at(from + AT_DISTANCE, 8) : nothing_to_tell);
+    memory_after();
+    return there;
 }
 
 void check_display_looks(const uint8_t *display, size_t length)
 {
     struct display d;
     int there = read_display(display, length, &d), started = there && d.started;
-    check_look("display_own", cuelink_display_own, display, length, there ? d.own : nothing_to_tell);
-    check_look("display_sender", cuelink_display_sender, display, length, there ? d.sender : nothing_to_tell);
-    check_look("display_clock", cuelink_display_clock, display, length, there ? d.clock : nothing_to_tell);
-    check_look("display_trail", cuelink_display_trail, display, length, started ? d.trail : nothing_to_tell);
-    check_look("display_lead", cuelink_display_lead, display, length, started ? d.lead : nothing_to_tell);
+    const uint8_t *lent = lend_read(LENT_STATE, display, length);
+    same("display_own", cuelink_display_own(lent, length), there ? d.own : nothing_to_tell);
+    same("display_sender", cuelink_display_sender(lent, length), there ? d.sender : nothing_to_tell);
+    same("display_clock", cuelink_display_clock(lent, length), there ? d.clock : nothing_to_tell);
+    same("display_trail", cuelink_display_trail(lent, length), started ? d.trail : nothing_to_tell);
+    same("display_lead", cuelink_display_lead(lent, length), started ? d.lead : nothing_to_tell);
+    memory_after();
 }

@@ -52,8 +52,9 @@ void text_reason(struct text *text, uint64_t reason);
 /* How many bytes of the output an answer accounts for. */
 size_t accounted(uint64_t answer);
 
-/* Fails unless the looks at these bytes tell what the layout has there, and nothing where they are no state; `source` may be any number. */
-void check_looks(const uint8_t *state, size_t length, uint64_t source);
+/* Fails unless the looks at these bytes tell what the layout has there, and nothing where they are no state's; `source` may be any number. Whether
+   they are a state's. */
+int check_looks(const uint8_t *state, size_t length, uint64_t source);
 void check_display_looks(const uint8_t *display, size_t length);
 
 #endif

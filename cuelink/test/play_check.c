@@ -101,13 +101,15 @@ static void check_no_event(const uint8_t *state)
 
 void check_state(const uint8_t *state)
 {
-    uint64_t due = call_due(state, STATE_BYTES), wanted = is_sound(state) ? least_due(state) : nothing_to_tell;
-    if (!is_state(state, STATE_BYTES))
+    uint64_t due, wanted;
+    if (!check_looks(state, STATE_BYTES, dice_below(10)))
         fail("a call has left bytes that are no state's");
+    due = call_due(state, STATE_BYTES);
+    wanted = is_sound(state) ? least_due(state) : nothing_to_tell;
     if (due != wanted)
         fail("cuelink_due tells %" PRIu64 " and not %" PRIu64, due, wanted);
-    check_looks(state, STATE_BYTES, dice_below(10));
-    check_no_event(state);
+    if (dice_one_in(8))
+        check_no_event(state);
 }
 
 /* What a Fire at a clock answers, as a kind; it is made on a copy. */

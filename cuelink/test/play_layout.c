@@ -2,15 +2,6 @@
 
 #include <string.h>
 
-uint64_t number_at(const uint8_t *bytes, int width)
-{
-    uint64_t number = 0;
-    int i;
-    for (i = 0; i < width; i++)
-        number = number << 8 | bytes[i];
-    return number;
-}
-
 void put_number(uint8_t *bytes, int width, uint64_t number)
 {
     int i;
@@ -109,7 +100,7 @@ int read_attempt(const uint8_t *source, int place, struct attempt *attempt)
 int read_record(const uint8_t *record, struct record *read)
 {
     uint8_t tag = record[0], small = record[1];
-    uint64_t a = number_at(record + 2, 8), b = number_at(record + 10, 8), c = number_at(record + 18, 8);
+    const uint8_t *a = record + 2, *b = record + 10, *c = record + 18;
     memset(read, 0, sizeof *read);
     memcpy(read->cue, record + 26, CUE_BYTES);
     read->hush = number_at(record + 50, 8);
@@ -119,16 +110,16 @@ int read_record(const uint8_t *record, struct record *read)
     if (tag == 2) {
         read->has_reply = 1;
         read->requester = small;
-        read->reply_due = a;
+        read->reply_due = number_at(a, 8);
     }
     if (read->body == WAITING) {
         read->round = small;
-        read->due = a;
-        read->quiet = b;
+        read->due = number_at(a, 8);
+        read->quiet = number_at(b, 8);
     }
     if (tag == 4) {
         read->has_express = 1;
-        read->express = c;
+        read->express = number_at(c, 8);
     }
     return 1;
 }

@@ -69,7 +69,15 @@ struct record {
     uint64_t hush;
 };
 
-uint64_t number_at(const uint8_t *bytes, int width);
+static inline uint64_t number_at(const uint8_t *bytes, int width)
+{
+    uint64_t number = 0;
+    int i;
+    for (i = 0; i < width; i++)
+        number = number << 8 | bytes[i];
+    return number;
+}
+
 void put_number(uint8_t *bytes, int width, uint64_t number);
 
 /* A source of a state, a record and an attempt of a source. */

@@ -20,6 +20,7 @@ struct place {
 };
 
 static struct place places[LENT_PLACES];
+static uint8_t beside[MOST_LENT];
 static int guarded, at_end;
 
 static uint8_t *view(int file, size_t page, size_t size, int protection)
@@ -48,6 +49,7 @@ void memory_open(int between_pages)
 {
     int i;
     guarded = between_pages;
+    memset(beside, BESIDE, sizeof beside);
     for (i = 0; guarded && i < LENT_PLACES; i++)
         open_place(&places[i], i == LENT_STATE ? 31138 : 4096);
 }
@@ -72,7 +74,7 @@ static void put(struct place *place, const void *bytes, size_t length, int read_
         fail("no memory");
     if (length > 0)
         memcpy(mine(place), bytes, length);
-    if (read_alone && length > 0)
+    if (read_alone && !guarded && length > 0)
         memcpy(place->copy, bytes, length);
 }
 
@@ -99,11 +101,7 @@ void take_back(enum lent which, void *bytes)
 
 static int all_beside(const uint8_t *bytes, size_t length)
 {
-    size_t i;
-    for (i = 0; i < length; i++)
-        if (bytes[i] != BESIDE)
-            return 0;
-    return 1;
+    return memcmp(bytes, beside, length) == 0;
 }
 
 void memory_after(void)
@@ -113,7 +111,7 @@ void memory_after(void)
         struct place *place = &places[i];
         if (!place->in_use)
             continue;
-        if (place->read_alone && place->length > 0 && memcmp(mine(place), place->copy, place->length) != 0)
+        if (!guarded && place->read_alone && place->length > 0 && memcmp(place->piece, place->copy, place->length) != 0)
             fail("a call has changed what it was lent to read");
         if (!guarded)
             free(place->piece);

@@ -283,7 +283,7 @@ static void damage_line(const char *line, size_t length)
     struct told told;
     if (!play_line(line, length, &told))
         fail("line %lu is bad", lines);
-    if (told.outcome == EVENT && dice_one_in(50))
+    if (told.outcome == EVENT && dice_one_in(25))
         damage_end(&bench, told.end, &damage);
 }
 

@@ -293,3 +293,22 @@ void damage_end(const struct bench *b, int end, struct damage *damage)
         ask_twin(state, &action);
     }
 }
+
+void damage_every_byte(const struct bench *b, int end, struct damage *damage)
+{
+    static uint8_t state[STATE_BYTES];
+    struct action fire = {FIRE, 0, 0, 0, NULL, 0};
+    size_t at;
+    memcpy(state, b->end[end], STATE_BYTES);
+    fire.clock = number_at(state + AT_CLOCK, 8);
+    for (at = 0; at < STATE_BYTES; at++) {
+        uint8_t old = state[at], new = some_byte(old);
+        state[at] = new == old ? (uint8_t)~old : new;
+        damage->all++;
+        if (check_looks(state, STATE_BYTES, dice_below(HOSTS)))
+            damage->forms++;
+        else
+            check_refused(state, STATE_BYTES, &fire, 64, 128, 3);
+        state[at] = old;
+    }
+}

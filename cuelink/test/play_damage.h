@@ -15,4 +15,7 @@ struct damage {
 /* Damages the bytes of an end in some ways, each on a copy. */
 void damage_end(const struct bench *bench, int end, struct damage *damage);
 
+/* Changes every byte of an end, each alone. Of these nothing is printed. */
+void damage_every_byte(const struct bench *bench, int end, struct damage *damage);
+
 #endif

@@ -313,8 +313,12 @@ static void finish(void)
     close_heading();
     if (mode <= WORDS)
         printf("%lu lines, %lu calls, %lu right, %lu wrong\n", lines, calls, right, wrong);
-    if (mode == DAMAGE)
-        fprintf(stderr, "%lu damaged states: %lu are a state's form, %lu of them sound\n", damage.all, damage.forms, damage.sound);
+    if (mode == DAMAGE) {
+        fprintf(stderr, "%lu damaged states: %lu are a state's form, %lu of them sound; ", damage.all, damage.forms, damage.sound);
+        damage.all = damage.forms = 0;
+        damage_every_byte(&bench, (int)dice_below(SPARE_END), &damage);
+        fprintf(stderr, "%lu with one byte changed, each in turn: %lu are\n", damage.all, damage.forms);
+    }
     if (bench.restarts > 0 && mode != RESTARTS)
         fprintf(stderr, "%lu ends opened again\n", bench.restarts);
 }

@@ -190,6 +190,8 @@ static int play_hear(struct words *w)
         fail("a hear has written a fifth number");
     if (answer >> 32 == REFUSED && (memcmp(lost, filled, sizeof lost) != 0 || memcmp(before, display, DISPLAY_BYTES) != 0))
         fail("a hear is refused as %" PRIu64 " and has changed the display or the losses", answer);
+    if (answer >> 32 != REFUSED && lost[0] != 0 && lost[0] != number_at(before + 13, 2))
+        fail("the set of losses counts from %" PRIu64 ", which is not the old trail", lost[0]);
     tell_display(clock, answer, lost);
     return 1;
 }

@@ -146,11 +146,14 @@ static void check_refused(const uint8_t *state, size_t length, const struct acti
 static void check_no_state(const uint8_t *state, size_t length, const struct action *a)
 {
     uint64_t reason = call_reason(state, length, a->event, a), due = call_due(state, length);
+    uint64_t no_event = call_reason(state, length, EVENTS + dice_below(300), a);
     check_refused(state, length, a, 64, 128, 3);
     check_refused(state, length, a, dice_one_in(2) ? 63 : 65, 128, 2);
     check_refused(state, length, a, dice_one_in(2) ? 64 : 0, dice_below(128), 1);
     if (reason != 3)
         fail("cuelink_reason answers %" PRIX64 " of bytes that are no state's, not 3", reason);
+    if (no_event != answer_of(NO_EVENT, 0, 0))
+        fail("cuelink_reason answers %" PRIX64 " to a number above 10, which is no event's, of bytes that are no state's", no_event);
     if (due != nothing_to_tell)
         fail("cuelink_due tells %" PRIu64 " of bytes that are no state's", due);
     check_looks(state, length, dice_below(HOSTS));

@@ -145,8 +145,9 @@ uint64_t cuelink_size(void);
 uint64_t cuelink_open(uint64_t host, const uint64_t *params, size_t params_len, uint8_t *state, size_t state_len);
 
 /*
- * Opens the end of a controller that was switched off, with the clock and the next own number that it stored before its last DATA left
- * (cuelink_clock, cuelink_next): idle, as cuelink_leave and cuelink_left would have left it at that clock. Never of a crashed end.
+ * Opens the end of a controller that was switched off: idle, as cuelink_leave and cuelink_left would have left it at that clock. `next` is the
+ * next own number (cuelink_next) that was stored before the last DATA left; `clock` is not below that of the end's last call: a clock that
+ * goes on while the controller is off, or the stored one (cuelink_clock) and more than the time since it was stored. Never of a crashed end.
  * Answers 0, or, asked in this order, 3 (state_len is not CUELINK_SIZE), 12, 13, 14, 4 (clock above 2^48-1), 7 (next above 65,536).
  */
 uint64_t cuelink_reopen(uint64_t host, const uint64_t *params, size_t params_len, uint64_t clock, uint64_t next, uint8_t *state,

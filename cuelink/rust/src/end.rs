@@ -109,8 +109,9 @@ impl End {
         Ok(End { bytes })
     }
 
-    /// Opens the end of a host that was switched off, with the [`clock`](End::clock) and the [`next`](End::next) own number that it stored before its
-    /// last DATA left: idle, as Leave and Left would have left it at that clock. Never do this with a crashed end.
+    /// Opens the end of a host that was switched off: idle, as Leave and Left would have left it at that clock. `next` is the [`next`](End::next) own
+    /// number that was stored before the last DATA left; `clock` is not below that of the end's last call: a clock that goes on while the host is
+    /// off, or the stored [`clock`](End::clock) and more than the time since it was stored. Never do this with a crashed end.
     ///
     /// Refused as [`open`](End::open) is, then as [`ClockHigh`](Refusal::ClockHigh) or [`NoNumbers`](Refusal::NoNumbers), where next is above 65,536.
     ///

@@ -1,5 +1,6 @@
 //! Code on the pages for users is quoted from the proved program `example`, or in C from `cuelink/example.c`, word for word, and the files that the
-//! pages name are there; the tables and pictures of docs/RECOVERY.md are what the programs print, but for the long runs.
+//! pages name are there; the README is short, and docs/ARCHITECTURE.md has every crate under its heading; the tables and pictures of
+//! docs/RECOVERY.md are what the programs print, but for the long runs.
 
 use std::fs;
 use std::path::Path;
@@ -11,7 +12,18 @@ use twin::recovery::judge::CLAIMS;
 use twin::recovery::tally::suppositions;
 use twin::waiting;
 
-const PAGES: [&str; 2] = ["README.md", "docs/INTEGRATION.md"];
+const IN_RATTLE: [&str; 2] = ["docs/PROGRAMS.md", "docs/INTEGRATION.md"];
+const IN_C: [&str; 2] = ["README.md", "docs/INTEGRATION.md"];
+const PAGES: [&str; 6] = [
+    "README.md",
+    "docs/ARCHITECTURE.md",
+    "docs/CHANGES.md",
+    "docs/INTEGRATION.md",
+    "docs/PROGRAMS.md",
+    "docs/REFERENCE.md",
+];
+/// "An entrance": the README has at most so many bytes.
+const ENTRANCE: usize = 9_000;
 
 fn text(file: &str) -> String {
     let path = Path::new(env!("CARGO_MANIFEST_DIR")).join("..").join(file);
@@ -26,34 +38,30 @@ fn quotes<'a>(page: &'a str, language: &str) -> Vec<&'a str> {
         .collect()
 }
 
-#[test]
-fn code_is_quoted_word_for_word() {
-    let program = text("crates/example/src/main.rt");
-    for file in PAGES {
+/// Every piece in this language on these pages is a piece of the program, and each page has one.
+fn quoted(pages: &[&str], language: &str, program: &str) {
+    let code = text(program);
+    for file in pages {
         let page = text(file);
-        let quotes = quotes(&page, "rust");
-        assert!(!quotes.is_empty(), "{file} quotes nothing");
+        let quotes = quotes(&page, language);
+        assert!(!quotes.is_empty(), "{file} quotes nothing of {program}");
         for quote in quotes {
             assert!(
-                program.contains(quote),
-                "{file}: not a piece of the example:\n{quote}"
+                code.contains(quote),
+                "{file}: not a piece of {program}:\n{quote}"
             );
         }
     }
 }
 
 #[test]
+fn code_is_quoted_word_for_word() {
+    quoted(&IN_RATTLE, "rust", "crates/example/src/main.rt");
+}
+
+#[test]
 fn code_in_c_is_quoted_word_for_word() {
-    let program = text("cuelink/example.c");
-    let page = text("docs/INTEGRATION.md");
-    let quotes = quotes(&page, "c");
-    assert!(!quotes.is_empty(), "nothing is quoted in C");
-    for quote in quotes {
-        assert!(
-            program.contains(quote),
-            "not a piece of cuelink/example.c:\n{quote}"
-        );
-    }
+    quoted(&IN_C, "c", "cuelink/example.c");
 }
 
 /// A word like docs/NAME.md, wherever it stands on a page.
@@ -68,7 +76,7 @@ fn named(page: &str) -> Vec<&str> {
 
 #[test]
 fn named_pages_are_there() {
-    for file in PAGES.into_iter().chain(["docs/CHANGES.md"]) {
+    for file in PAGES {
         for page in named(&text(file)) {
             text(page);
         }
@@ -76,19 +84,49 @@ fn named_pages_are_there() {
 }
 
 #[test]
-fn every_crate_is_in_the_readme() {
-    let readme = text("README.md");
-    for line in text("crates.txt").lines() {
-        let Some((name, _)) = line.split_once(':') else {
-            continue;
-        };
-        if !name.starts_with('#') {
-            assert!(
-                readme.contains(&format!("`{name}`")),
-                "README.md has no `{name}`"
-            );
+fn the_readme_is_an_entrance() {
+    let bytes = text("README.md").len();
+    assert!(bytes <= ENTRANCE, "README.md has {bytes} bytes");
+}
+
+/// The crates of a text under their headings, in its order: `heading` and `name` give what a line of it is.
+fn layers<'a>(
+    page: &'a str,
+    heading: impl Fn(&'a str) -> Option<&'a str>,
+    name: impl Fn(&'a str) -> Option<&'a str>,
+) -> Vec<(&'a str, &'a str)> {
+    let mut under = "";
+    let mut found = Vec::new();
+    for line in page.lines() {
+        if let Some(words) = heading(line) {
+            under = words;
+        } else if let Some(crate_name) = name(line) {
+            found.push((under, crate_name));
         }
     }
+    found
+}
+
+#[test]
+fn the_layers_are_those_of_crates_txt() {
+    let listed = text("crates.txt");
+    let listed = layers(
+        &listed,
+        |line| line.strip_prefix("# ---- "),
+        |line| Some(line.split_once(':')?.0).filter(|name| !name.starts_with('#')),
+    );
+    let page = text("docs/ARCHITECTURE.md");
+    let page = page
+        .split("\n## Layers\n")
+        .nth(1)
+        .and_then(|rest| rest.split("\n### Beside the crates\n").next())
+        .expect("docs/ARCHITECTURE.md has its layers");
+    let shown = layers(
+        page,
+        |line| line.strip_prefix("### "),
+        |line| line.strip_prefix("- `")?.split('`').next(),
+    );
+    assert_eq!(shown, listed);
 }
 
 #[test]

@@ -186,7 +186,6 @@ void run_past(const char *way)
     static const uint64_t params[PARAMS] = {9, 8, 4, 4, 4, 8, 0};
     static const uint16_t draws[64];
     static const uint8_t cue[CUE_BYTES];
-    memory_after();
     cuelink_open(0, params, PARAMS, state, STATE_BYTES);
     state[AT_STATUS] = MEMBER;
     if (strcmp(way, "read-past") == 0)

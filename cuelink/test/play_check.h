@@ -29,7 +29,7 @@ void check_fires(const uint8_t *state);
 void check_wide(const uint8_t *state, const struct action *action, const struct around *around);
 
 /* The guard at work: tells a call of a record more than it is lent, to be read (`read-past`), or of an output longer than it is (`write-past`), and
-   is stopped for it. Returns where it is not, or the word is another. */
+   is stopped for it. To be made before any other call; returns where it is not stopped, or the word is another. */
 void run_past(const char *way);
 
 #endif

@@ -21,7 +21,11 @@ struct place {
 
 static struct place places[LENT_PLACES];
 static uint8_t beside[MOST_LENT];
-static int guarded, at_end;
+static int guarded;
+
+/* Where the next call's buffers lie: at the end of their pages, at their start, or, those of bytes, at an odd address. */
+enum turn { AT_END, AT_START, AT_ODD, TURNS };
+static enum turn turn;
 
 static uint8_t *view(int file, size_t page, size_t size, int protection)
 {
@@ -60,6 +64,17 @@ static uint8_t *mine(struct place *place)
     return guarded ? place->fill + place->at : place->piece;
 }
 
+/* Where so many bytes lie in their pages. */
+static size_t place_for(const struct place *place, size_t length)
+{
+    enum lent which = (enum lent)(place - places);
+    size_t rest = place->size - length;
+    int of_bytes = which == LENT_STATE || which == LENT_OUT || which == LENT_BYTES;
+    if (turn == AT_END)
+        return rest;
+    return turn == AT_ODD && of_bytes && rest > 0 ? 1 : 0;
+}
+
 static void put(struct place *place, const void *bytes, size_t length, int read_alone)
 {
     if (length > (guarded ? place->size : MOST_LENT))
@@ -67,7 +82,7 @@ static void put(struct place *place, const void *bytes, size_t length, int read_
     place->in_use = 1;
     place->read_alone = read_alone;
     place->length = length;
-    place->at = guarded && at_end ? place->size - length : 0;
+    place->at = guarded ? place_for(place, length) : 0;
     if (!guarded)
         place->piece = length > 0 ? malloc(length) : NULL;
     if (!guarded && length > 0 && place->piece == NULL)
@@ -122,5 +137,5 @@ void memory_after(void)
             memset(mine(place), BESIDE, place->length);
         place->in_use = 0;
     }
-    at_end = !at_end;
+    turn = (enum turn)((turn + 1) % TURNS);
 }

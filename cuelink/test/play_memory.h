@@ -1,8 +1,8 @@
 /*
  * The memory that is lent to a call, a place for each of its buffers. Two ways:
  *   plain     each buffer is a piece of its own of just its length, NULL where it has none: for the sanitizers;
- *   guarded   each buffer lies in pages between two that nobody may touch, in every other call at their end and else at their start; what a
- *             call may only read lies in pages that cannot be written, and the bytes beside the buffer are looked at afterwards.
+ *   guarded   each buffer lies in pages between two that nobody may touch, in turn at their end, at their start and, those of bytes, at an odd
+ *             address; what a call may only read lies in pages that cannot be written, and the bytes beside the buffer are looked at afterwards.
  */
 #ifndef PLAY_MEMORY_H
 #define PLAY_MEMORY_H

@@ -14,6 +14,7 @@ use Rattle.end.specs.declared.Status.the-variants.{Idle, Leaving}
 use Rattle.end.specs.declared.Move.the-variants.{Leave, Left}
 use Rattle.end.specs.declared.End.{End}
 use Rattle.end.specs.State.{isMember, isCrashed, unheardSources, withClock}
+use Rattle.end.specs.Round.{drawCount}
 use Rattle.end.specs.Sound.{soundOf}
 use Rattle.end.specs.Answer.{Out, Nothing, Did}
 use Rattle.end.specs.Event.{Action, Moves, Else, Fire, moves, stepOf, eventOf, gives, leaves}
@@ -29,11 +30,13 @@ use Rattle.end_reopen.specs.Reopen.{reopened}
 use Rattle.lent_answer.specs.Number.{numberOf, ofKind, OUT, NOTHING}
 use Rattle.lent_end.specs.State.{stateWidth, endFrom, isState, endBytes, EndFits, Holds}
 use Rattle.lent_calls.specs.Call.{callNumber, callState, callOut}
+use Rattle.lent_calls.specs.Arguments.{cueOf}
+use Rattle.lent_calls.specs.Open.{openedState, openOf}
 use Rattle.lent_looks.specs.Looks.{look, dueIn}
 use Rattle.lent_runs.specs.Due.{FireLent}
 use Rattle.lent_runs.specs.Reopening.{leftAt}
 use Rattle.lent_runs.specs.Numbers.{outcomeIn}
-use Rattle.lent_runs.specs.Lists.{Lent, OpenedLent, lentThrough, given, heldBy, played, LentAllowed, onlooked}
+use Rattle.lent_runs.specs.Lists.{Lent, OpenedLent, lentThrough, given, heldBy, played, LentAllowed, onlooked, house}
 use Rattle.lent_runs.specs.Restarts.{Turn, turnsThrough, turnsGiven, asCalls, TurnsDeclared, TurnsAllowed, MayRestart}
 use Rattle.display.specs.declared.Display.{Display}
 use Rattle.display.specs.Call.{Event}
@@ -82,8 +85,11 @@ pub record LentKept : Type 0 where
   pub outcome-reads-back : (e : End) (a : Action) (clock : ℕ) (draws output : List ℕ) → CueArray a
       → outcomeIn (numberOf (gives e a clock draws output .answer)) (leaves e a clock draws output) ≡ eventOf e a clock (length output) draws .outcome
   -- Bytes that are no state are refused as 3, and nothing changes.
-  pub no-state-is-refused : (a : Action) (clock : ℕ) (draws output s : List ℕ) → 128 ≤ length output → length draws ≡ 64 → isState s ≡ false
+  pub no-state-is-refused : (a : Action) (clock : ℕ) (draws output s : List ℕ) → roomNeeded ≤ length output → length draws ≡ drawCount → isState s ≡ false
       → (callNumber a clock draws output s ≡ 3) × (callState a clock draws output s ≡ s) × (callOut a clock draws output s ≡ output)
+  -- Whatever bytes a host hands over as a cue, what is sent has 24; and there are lent states: every buffer that is long enough is opened.
+  pub cues-fit : (cue : List ℕ) → length (cueOf cue) ≡ 24
+  pub house-opens : (s : List ℕ) → length s ≡ stateWidth → OpenedLent (λ h. openedState (openOf h house) s)
   -- A list of calls over eight lent states, from openings, is the list of the same calls on the ends that they hold: the states hold these ends
   -- after every list, and each call answers and leaves the same.
   pub lent-fresh : (l : Lent) → OpenedLent l → Fresh (heldBy l)

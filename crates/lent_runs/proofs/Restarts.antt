@@ -9,6 +9,7 @@ use lib.ListN.{length, getD, replicate}
 use lib.Dec.{eqb}
 use borrow.Author.Tests.{eqb-true, eq-eqb, le-leb, lt-ltb}
 use Rattle.message.specs.declared.Host.{Host}
+use Rattle.message.specs.declared.Verdict.the-variants.{Accepted}
 use Rattle.message.specs.Question.{ask, hostIn, verdictFor}
 use Rattle.message.proofs.QuestionLaws.{all-passed}
 use Rattle.end.specs.declared.Params.{Params}
@@ -16,6 +17,7 @@ use Rattle.end.specs.declared.Answer.the-variants as answer
 use Rattle.end.specs.declared.Move.{Move}
 use Rattle.end.specs.declared.Move.the-variants.{Leave, Left}
 use Rattle.end.specs.declared.End.{End}
+use Rattle.end.specs.declared.Opened.{Opened}
 use Rattle.end.specs.State.{isCrashed, withClock, withStatus}
 use Rattle.end.specs.Round.{Drawn}
 use Rattle.end.specs.Sound.{allOf, paramsTests, delayIn, soundOf}
@@ -32,15 +34,16 @@ use Rattle.invariants.proofs.Stays.{stays-sound}
 use Rattle.end_reopen.specs.Reopening.{reopenRefusal, reopenedFor, reopeningOf}
 use Rattle.lent_answer.specs.Number.{numberOf}
 use Rattle.lent_end.specs.State.{stateWidth, statusNumber, endFrom, endBytes}
-use Rattle.lent_calls.specs.Open.{openedNumber, openedState}
+use Rattle.lent_calls.specs.Open.{openedNumber, openedState, reopenOf}
 use Rattle.lent_runs.specs.Reopening.{again}
 use Rattle.lent_runs.specs.Lists.{Lent, OpenedLent, stateOn, lentAfter, lentThrough, givenOn, given, heldBy, playedOn, outcomeOn, LentAllowed, onlooked}
-use Rattle.lent_runs.specs.Restarts.{Turn, Calls, Restarts, restarted, turnAfter, turnsThrough, counted, turnsGiven, moveCall, asCalls, MayRestart, MayAlwaysRestart}
+use Rattle.lent_runs.specs.Restarts.{Turn, Calls, Restarts, restarted, turnAfter, turnsThrough, counted, turnsGiven, moveCall, asCalls, MayRestart}
+use Rattle.lent_runs.specs.Restarts.{numbersOf, MayAlwaysRestart, ReopenAnswers0}
 use Rattle.lent_runs.specs.Restarts.{TurnsDeclared, AsWithout, RestartsAreLeaving, TurnsAllowed, RestartService, RestartLatesAsFiled}
 use Rattle.lent_runs.specs.Restarts as spec
 use Rattle.lent_runs.proofs.Reopening.{left-reopens}
 use Rattle.lent_runs.proofs.Kept.{Kept}
-use Rattle.lent_runs.proofs.Lists.{host-of, KeptAll, opened-kept, through-kept, turned, given-as, outcome-same, lent-service, lent-lates-as-filed}
+use Rattle.lent_runs.proofs.Lists.{host-of, KeptAll, opened-kept, turned, given-as, outcome-same, lent-service, lent-lates-as-filed}
 
 abbrev Blanks : List ℕ
 Blanks = replicate 64 0
@@ -138,17 +141,24 @@ reopens me p clock next q ticks n =
     let fourteen = all-passed (delayIn p) 14 [] (omega arith) (thirteen .1) .0 in
     rw (twelve .0, thirteen .0, fourteen, lt-ltb clock 281474976710656 ticks, le-leb next 65536 n)
 
-restarted-as : (h : ℕ) (s : List ℕ) (e : End) (clock : ℕ) (buffer : List ℕ) → h < 8 → length buffer ≡ stateWidth → Kept h s e → Ready e clock
-    → restarted h s clock buffer ≡ endBytes (again e clock)
-unfolding openedState openedNumber reopeningOf
-restarted-as h s e clock buffer hh long k r =
+reopen-as : (h : ℕ) (s : List ℕ) (e : End) (clock : ℕ) → h < 8 → Kept h s e → Ready e clock
+    → reopenOf h (numbersOf (endFrom s .params)) clock (endFrom s .next) ≡ record { verdict = Accepted; end = again e clock }
+unfolding reopeningOf
+reopen-as h s e clock hh k r =
     let passed = reopens (e .host) (e .params) clock (e .next) (k .opens) (r .ticks) (facts e (k .sound) .next) in
-    let read : restarted h s clock buffer ≡ openedState (reopeningOf (e .host) (e .params) clock (e .next)) buffer =
-    (λ i. openedState (reopeningOf (host-of h hh i) (k .holds .reads i .params) clock (k .holds .reads i .next)) buffer)
-    ∙ ap (λ (x : Host). openedState (reopeningOf x (e .params) clock (e .next)) buffer) (sym (k .host)) in
-    read
-    ∙ ap (λ (j : ℕ). openedState (record { verdict = verdictFor j; end = reopenedFor j (e .host) (e .params) clock (e .next) }) buffer) passed
-    ∙ rw (eq-eqb (length buffer) stateWidth long)
+    (λ i. reopeningOf (host-of h hh i) (k .holds .reads i .params) clock (k .holds .reads i .next))
+    ∙ ap (λ (x : Host). reopeningOf x (e .params) clock (e .next)) (sym (k .host))
+    ∙ ap (λ (j : ℕ). record { verdict = verdictFor j; end = reopenedFor j (e .host) (e .params) clock (e .next) }) passed
+
+module _ (h : ℕ) (s : List ℕ) (e : End) (clock : ℕ) (buffer : List ℕ) (hh : h < 8) (long : length buffer ≡ stateWidth) (k : Kept h s e)
+    (r : Ready e clock) where
+  restarted-as : restarted h s clock buffer ≡ endBytes (again e clock)
+  unfolding openedState openedNumber
+  restarted-as = ap (λ (o : Opened). openedState o buffer) (reopen-as h s e clock hh k r) ∙ rw (eq-eqb (length buffer) stateWidth long)
+
+  answers-0 : openedNumber (reopenOf h (numbersOf (endFrom s .params)) clock (endFrom s .next)) buffer ≡ 0
+  unfolding openedNumber
+  answers-0 = ap (λ (o : Opened). openedNumber o buffer) (reopen-as h s e clock hh k r) ∙ rw (eq-eqb (length buffer) stateWidth long)
 
 -- ---- a restart is the two calls
 
@@ -274,12 +284,28 @@ without (Restarts h clock buffer ∷ ts) l w k d =
     let tail = rest .gives ∙ ap (λ (x : Lent). given x (asCalls ts)) same in
     record { states = rest .states ∙ ap (λ (x : Lent). lentThrough x (asCalls ts)) same; gives = λ i. one i ∷ two i ∷ tail i }
 
+-- the bytes hold sound ends after every such list
+turns-kept : (ts : List Turn) (l : Lent) (w : World) → KeptAll l w → TurnsDeclared l ts → (v : World) × KeptAll (turnsThrough l ts) v
+unfolding turnsThrough turnAfter
+turns-kept [] l w k d = (w, k)
+turns-kept (Calls c ∷ ts) l w k d =
+    turns-kept ts (lentAfter l c) (worldAfter w (c .host) (resultOf w c)) (turned l w c (d .1) (d .2) (d .0) k) (d .3)
+turns-kept (Restarts h clock buffer ∷ ts) l w k d =
+    turns-kept ts (turnAfter l (Restarts h clock buffer)) (leftWorld w h clock) (kept-then l w k h clock buffer (d .0)) (d .1)
+
 pub may-always-restart : MayAlwaysRestart
-may-always-restart l o cs d h hh buffer long running =
-    let k = through-kept cs l (heldBy l) d (opened-kept l o) h hh in
-    let clock : endFrom (lentThrough l cs h) .clock < 281474976710656 =
+may-always-restart l o ts d h hh buffer long running =
+    let kept = turns-kept ts l (heldBy l) (opened-kept l o) d in
+    let k = kept .1 h hh in
+    let clock : endFrom (turnsThrough l ts h) .clock < 281474976710656 =
     subst (λ (x : End). x .clock < 281474976710656) (sym (k .holds .reads)) (facts _ (k .sound) .clock) in
     record { host = hh; running = running; later = omega arith; ticks = clock; long = long }
+
+pub reopen-answers-0 : ReopenAnswers0
+reopen-answers-0 l o ts d h clock buffer may =
+    let kept = turns-kept ts l (heldBy l) (opened-kept l o) d in
+    let l2 = turnsThrough l ts in
+    answers-0 h (l2 h) (kept .0 .ends h) clock buffer (may .host) (may .long) (kept .1 h (may .host)) (ready l2 (kept .0) (kept .1) h clock buffer may)
 
 pub restarts-are-leaving : RestartsAreLeaving
 restarts-are-leaving l o ts d = without ts l (heldBy l) (opened-kept l o) d

@@ -1,6 +1,6 @@
 -- Lists of calls in which hosts restart, as statements; proofs/Restarts.antt proves each. A host that restarts opens its end again by
--- cuelink_reopen, with its parameters, the clock and the next own number that it stored. The list is the list with a Leave and a Left in that
--- place: the same bytes, the same answers. So demand 3 holds of it.
+-- cuelink_reopen, with the parameters and the next own number that its lost bytes held, at any clock that is not below theirs. The list is the
+-- list with a Leave and a Left in that place: the same bytes, the same answers. So demand 3 holds of it.
 use mathlib.Core.Path.{_≡_}
 use mathlib.Core.Bool.{false, cond}
 use mathlib.Core.List.{List, [], _∷_, map}
@@ -18,10 +18,9 @@ use Rattle.end.specs.Event.{Moves, moves, movesTo}
 use Rattle.end.specs.Book.{put, RunFrom, emptyBook}
 use Rattle.end.specs.Lates.{LatesAsFiled}
 use Rattle.end.specs.Run.{Call, sentAfter, Brought, CueArray}
-use Rattle.invariants.specs.Lists.{Declared}
 use Rattle.lent_answer.specs.Number.{numberOf}
 use Rattle.lent_end.specs.State.{stateWidth, statusNumber, endFrom}
-use Rattle.lent_calls.specs.Open.{openedState, reopenOf}
+use Rattle.lent_calls.specs.Open.{openedNumber, openedState, reopenOf}
 use Rattle.lent_runs.specs.Lists.{Lent, OpenedLent, lentAfter, lentThrough, Given, givenOn, given, outcomeOn, onlooked}
 
 -- a call; or a host restarts: it opens its end again at a clock, into a buffer
@@ -74,7 +73,8 @@ asCalls [] = []
 asCalls (Calls c ∷ ts) = c ∷ asCalls ts
 asCalls (Restarts h clock buffer ∷ ts) = moveCall h Leave clock ∷ moveCall h Left clock ∷ asCalls ts
 
--- a host may restart: its end did not crash, and the clock is not below the end's and is one
+-- a host may restart: its end did not crash, and the clock is one and not below that of the end's last call, so a clock that was stored before is
+-- not enough unless the time since is added
 pub record MayRestart (h : ℕ) (s : List ℕ) (clock : ℕ) (buffer : List ℕ) : Type 0 where
   pub host : h < 8
   pub running : isCrashed (endFrom s .status) ≡ false
@@ -82,16 +82,22 @@ pub record MayRestart (h : ℕ) (s : List ℕ) (clock : ℕ) (buffer : List ℕ)
   pub ticks : clock < ticksLimit
   pub long : length buffer ≡ stateWidth
 
--- Whatever the calls before, a host whose end did not crash may restart at the clock of its state: a sound state has one that is in range.
-abbrev pub MayAlwaysRestart : Type 0
-MayAlwaysRestart = (l : Lent) → OpenedLent l → (cs : List Call) → Declared cs → (h : ℕ) → h < 8 → (buffer : List ℕ) → length buffer ≡ stateWidth
-    → let s = lentThrough l cs h in isCrashed (endFrom s .status) ≡ false → MayRestart h s (endFrom s .clock) buffer
-
 -- lists of calls with arguments of their declared types, and of restarts that may be
 abbrev pub TurnsDeclared : Lent → List Turn → Type 0
 TurnsDeclared l [] = Unit {0}
 TurnsDeclared l (Calls c ∷ ts) = (c .host < 8) × Drawn (c .draws) × CueArray (c .action) × TurnsDeclared (lentAfter l c) ts
 TurnsDeclared l (Restarts h clock buffer ∷ ts) = MayRestart h (l h) clock buffer × TurnsDeclared (turnAfter l (Restarts h clock buffer)) ts
+
+-- Whatever the calls and restarts before, a host whose end did not crash may restart at the clock of its state: a sound state has one that is in range.
+abbrev pub MayAlwaysRestart : Type 0
+MayAlwaysRestart = (l : Lent) → OpenedLent l → (ts : List Turn) → TurnsDeclared l ts → (h : ℕ) → h < 8 → (buffer : List ℕ) → length buffer ≡ stateWidth
+    → let s = turnsThrough l ts h in isCrashed (endFrom s .status) ≡ false → MayRestart h s (endFrom s .clock) buffer
+
+-- And cuelink_reopen then answers 0.
+abbrev pub ReopenAnswers0 : Type 0
+ReopenAnswers0 = (l : Lent) → OpenedLent l → (ts : List Turn) → TurnsDeclared l ts → (h clock : ℕ) (buffer : List ℕ)
+    → let s = turnsThrough l ts h in MayRestart h s clock buffer
+    → openedNumber (reopenOf h (numbersOf (endFrom s .params)) clock (endFrom s .next)) buffer ≡ 0
 
 -- Every list with restarts is the list without: after it the hosts have the very same bytes, and every call answered, left and said the same.
 pub record AsWithout (l : Lent) (ts : List Turn) : Type 0 where

@@ -70,7 +70,7 @@ use Rattle.lent_runs.proofs.Due.{fire-by-due, lent-fire-by-due}
 use Rattle.lent_runs.proofs.Reopening.{left-is-reopened, opened-reopens, non-members-keep-nothing, crash-is-for-good, crashed-is-not-reopened, sound-idle-may-differ}
 use Rattle.lent_runs.proofs.Numbers.{outcome-reads-back}
 use Rattle.lent_runs.proofs.Lists.{no-state-is-refused, cues-fit, house-opens, lent-is-played, lent-is-seen, allowed-is-lent, lent-service, lent-lates-as-filed}
-use Rattle.lent_runs.proofs.Restarts.{restarts-are-leaving, restart-service, restart-lates-as-filed, may-always-restart}
+use Rattle.lent_runs.proofs.Restarts.{restarts-are-leaving, restart-service, restart-lates-as-filed, may-always-restart, reopen-answers-0}
 use Rattle.lent_end.proofs.StateLaws.{form-holds, state-forth}
 use Rattle.lent_display.proofs.DisplayLaws as displayLaws
 use Rattle.lent_runs.proofs.Displays.{display-is-played, no-display-is-refused}
@@ -324,6 +324,7 @@ promises = record {
     restart-service = restart-service;
     restart-lates = restart-lates-as-filed;
     may-always-restart = may-always-restart;
+    reopen-answers-0 = reopen-answers-0;
   };
   lent-displays = record {
     display-back = displayLaws.form-holds;

@@ -31,13 +31,13 @@ use Rattle.lent_answer.specs.Number.{numberOf, ofKind, OUT, NOTHING}
 use Rattle.lent_end.specs.State.{stateWidth, endFrom, isState, endBytes, EndFits, Holds}
 use Rattle.lent_calls.specs.Call.{callNumber, callState, callOut}
 use Rattle.lent_calls.specs.Arguments.{cueOf}
-use Rattle.lent_calls.specs.Open.{openedState, openOf}
+use Rattle.lent_calls.specs.Open.{openedNumber, openedState, openOf, reopenOf}
 use Rattle.lent_looks.specs.Looks.{look, dueIn}
 use Rattle.lent_runs.specs.Due.{FireLent}
 use Rattle.lent_runs.specs.Reopening.{leftAt}
 use Rattle.lent_runs.specs.Numbers.{outcomeIn}
 use Rattle.lent_runs.specs.Lists.{Lent, OpenedLent, lentThrough, given, heldBy, played, LentAllowed, onlooked, house}
-use Rattle.lent_runs.specs.Restarts.{Turn, turnsThrough, turnsGiven, asCalls, TurnsDeclared, TurnsAllowed, MayRestart}
+use Rattle.lent_runs.specs.Restarts.{Turn, turnsThrough, turnsGiven, asCalls, TurnsDeclared, TurnsAllowed, MayRestart, numbersOf}
 use Rattle.display.specs.declared.Display.{Display}
 use Rattle.display.specs.Call.{Event}
 use Rattle.display_history.specs.History as shown
@@ -107,9 +107,12 @@ pub record LentKept : Type 0 where
   pub restart-gives : (l : Lent) → OpenedLent l → (ts : List Turn) → TurnsDeclared l ts → turnsGiven l ts ≡ given l (asCalls ts)
   pub restart-service : (l : Lent) → OpenedLent l → (ts : List Turn) → TurnsAllowed l [] ts → RunFrom emptyBook (map onlooked (turnsGiven l ts))
   pub restart-lates : (l : Lent) → OpenedLent l → (ts : List Turn) → TurnsAllowed l [] ts → LatesAsFiled emptyBook (map onlooked (turnsGiven l ts))
-  -- And a host whose end did not crash may always restart, at the clock of its state.
-  pub may-always-restart : (l : Lent) → OpenedLent l → (cs : List Call) → Declared cs → (h : ℕ) → h < 8 → (buffer : List ℕ) → length buffer ≡ stateWidth
-      → let s = lentThrough l cs h in isCrashed (endFrom s .status) ≡ false → MayRestart h s (endFrom s .clock) buffer
+  -- And a host whose end did not crash may always restart, at the clock of its state; cuelink_reopen then answers 0.
+  pub may-always-restart : (l : Lent) → OpenedLent l → (ts : List Turn) → TurnsDeclared l ts → (h : ℕ) → h < 8 → (buffer : List ℕ)
+      → length buffer ≡ stateWidth → let s = turnsThrough l ts h in isCrashed (endFrom s .status) ≡ false → MayRestart h s (endFrom s .clock) buffer
+  pub reopen-answers-0 : (l : Lent) → OpenedLent l → (ts : List Turn) → TurnsDeclared l ts → (h clock : ℕ) (buffer : List ℕ)
+      → let s = turnsThrough l ts h in MayRestart h s clock buffer
+      → openedNumber (reopenOf h (numbersOf (endFrom s .params)) clock (endFrom s .next)) buffer ≡ 0
 
 pub record LentDisplaysKept : Type 0 where
   -- The same two laws of a display's 25 bytes.

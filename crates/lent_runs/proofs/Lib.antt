@@ -7,3 +7,4 @@ pub mod Kept
 pub mod Lists
 pub mod Restarts
 pub mod Displays
+pub mod Plain

@@ -4,3 +4,4 @@ pub mod Numbers
 pub mod Lists
 pub mod Restarts
 pub mod Displays
+pub mod Plain

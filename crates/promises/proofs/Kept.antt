@@ -69,6 +69,7 @@ use Rattle.cases.proofs.Turn.{four-rounds, each-is-needed}
 use Rattle.lent_runs.proofs.Due.{fire-by-due, lent-fire-by-due}
 use Rattle.lent_runs.proofs.Reopening.{left-is-reopened, opened-reopens, non-members-keep-nothing, crash-is-for-good, crashed-is-not-reopened, sound-idle-may-differ}
 use Rattle.lent_runs.proofs.Numbers.{outcome-reads-back}
+use Rattle.lent_runs.proofs.Plain.{plain-numbers}
 use Rattle.lent_runs.proofs.Lists.{no-state-is-refused, cues-fit, house-opens, lent-is-played, lent-is-seen, allowed-is-lent, lent-service, lent-lates-as-filed}
 use Rattle.lent_runs.proofs.Restarts.{restarts-are-leaving, restart-service, restart-lates-as-filed, may-always-restart, reopen-answers-0}
 use Rattle.lent_end.proofs.StateLaws.{form-holds, state-forth}
@@ -309,6 +310,7 @@ promises = record {
     sound-idle-may-differ = sound-idle-may-differ;
     outcome-reads-back = outcome-reads-back;
     no-state-is-refused = no-state-is-refused;
+    plain-numbers = plain-numbers;
     cues-fit = cues-fit;
     house-opens = house-opens;
     lent-fresh = λ l o. lent-is-played l o .fresh;

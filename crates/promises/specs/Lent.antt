@@ -34,6 +34,7 @@ use Rattle.lent_calls.specs.Arguments.{cueOf}
 use Rattle.lent_calls.specs.Open.{openedNumber, openedState, openOf, reopenOf}
 use Rattle.lent_looks.specs.Looks.{look, dueIn}
 use Rattle.lent_runs.specs.Due.{FireLent}
+use Rattle.lent_runs.specs.Plain.{PlainNumbers}
 use Rattle.lent_runs.specs.Reopening.{leftAt}
 use Rattle.lent_runs.specs.Numbers.{outcomeIn}
 use Rattle.lent_runs.specs.Lists.{Lent, OpenedLent, lentThrough, given, heldBy, played, LentAllowed, onlooked, house}
@@ -87,6 +88,9 @@ pub record LentKept : Type 0 where
   -- Bytes that are no state are refused as 3, and nothing changes.
   pub no-state-is-refused : (a : Action) (clock : ℕ) (draws output s : List ℕ) → roomNeeded ≤ length output → length draws ≡ drawCount → isState s ≡ false
       → (callNumber a clock draws output s ≡ 3) × (callState a clock draws output s ≡ s) × (callOut a clock draws output s ≡ output)
+  -- No number and no cue that a host hands over is cut: hosts, parameters, cues and names that there are are the very ones, and others are refused as
+  -- 12, 13 and 6 in their order, a Fetch of such a name Ignored.
+  pub plain-numbers : PlainNumbers
   -- Whatever bytes a host hands over as a cue, what is sent has 24; and there are lent states: every buffer that is long enough is opened.
   pub cues-fit : (cue : List ℕ) → length (cueOf cue) ≡ 24
   pub house-opens : (s : List ℕ) → length s ≡ stateWidth → OpenedLent (λ h. openedState (openOf h house) s)

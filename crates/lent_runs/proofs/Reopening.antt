@@ -1,28 +1,40 @@
 -- Reopening: the statements of specs/Reopening.antt. Every call keeps that an end which is not a member keeps nothing of any source: Leave and
 -- Crash clear the sources, the other moves are no member's, other events leave a member a member and of a non-member change the clock alone.
 use mathlib.Core.Path.{_≡_, refl, sym, ap, _∙_}
-use mathlib.Core.Bool.{true, false}
+use mathlib.Core.Bool.{true, false, _&&_}
 use mathlib.Core.List.{List, [], _∷_}
 use Prim.Native.Nat.{ℕ, zero, suc}
+use native.Mathlib.Omega.{arith}
+use lib.Dec.{leb}
+use borrow.Author.Tests.{ltb-true, leb-true}
 use Rattle.message.specs.declared.Host.{Host}
+use Rattle.message.specs.Entry.{asHost}
+use Rattle.message.specs.Limit.{numberLimit}
+use Rattle.message.specs.Question.{ask, hostIn, ticksIn}
 use Rattle.message.specs.Message.{meaningFrom}
+use Rattle.message.proofs.QuestionLaws.{all-passed, and-both}
 use Rattle.end.specs.declared.Params.{Params}
 use Rattle.end.specs.declared.Status.{Status}
 use Rattle.end.specs.declared.Status.the-variants.{Idle, Joining, Member, Leaving, Crashed}
 use Rattle.end.specs.declared.Move.{Move}
 use Rattle.end.specs.declared.Move.the-variants.{Leave}
 use Rattle.end.specs.declared.End.{End}
-use Rattle.end.specs.State.{isMember, isCrashed, withClock}
+use Rattle.end.specs.State.{isMember, isCrashed, withClock, freshEnd}
+use Rattle.end.specs.Sound.{allOf, paramsTests, delayIn, soundOf}
 use Rattle.end.specs.Answer.{Step, Result}
 use Rattle.end.specs.Event.{Action, Moves, Send, Arrival, Else, moves, clears, movedEnd, moveOf, ifMember, actOf, eventOf}
-use Rattle.end.specs.Opening.{openRefusal, endFor, openingOf}
+use Rattle.end.specs.Opening.{constrainedTests, openRefusal, houseParams, endFor, openingOf}
 use Rattle.end.proofs.Tools.{byCond, clash, clash′}
+use Rattle.invariants.proofs.Facts.{SoundState, sound}
+use Rattle.invariants.proofs.Ends.{unheard-kept}
 use Rattle.guarantees.specs.Calls.{OneCall, after, afterAll}
 use Rattle.guarantees.proofs.Calls.{call-cases}
 use Rattle.guarantees.proofs.History.{kept-from, Frame, arrival-frame, other-frame}
+use Rattle.end_reopen.specs.Reopen.{reopened}
+use Rattle.end_reopen.specs.Reopening.{reopenRefusal, reopenedFor, reopeningOf}
 use Rattle.end_reopen.proofs.ReopenLaws.{Blank, left-member, left-joining, left-leaving, left-already, left-idle, idle-same, odd, odd-sound, odd-other}
 use Rattle.lent_runs.specs.Reopening.{leftAt, again, LeftIsReopened, NonMembersKeepNothing, OpenedReopens, CrashIsForGood, CrashedIsNotReopened}
-use Rattle.lent_runs.specs.Reopening.{SoundIdleMayDiffer}
+use Rattle.lent_runs.specs.Reopening.{ReopensSound, SoundIdleMayDiffer}
 
 -- ---- one that is not a member keeps nothing
 abbrev pub BlankAside : End → Type 0
@@ -111,7 +123,31 @@ crash-is-for-good e c (x ∷ cs) =
     ap (λ (y : End). afterAll y cs) same ∙ crash-is-for-good e c cs
 
 pub crashed-is-not-reopened : CrashedIsNotReopened
-crashed-is-not-reopened e c h p clock next same = clash (sym c ∙ ap (λ (x : End). isCrashed (x .status)) same)
+crashed-is-not-reopened e c cs h p clock next same =
+    clash (sym c ∙ ap (λ (x : End). isCrashed (x .status)) (sym (crash-is-for-good e c cs) ∙ same))
+
+-- ---- a reopened end is sound: it has passed questions 12, 13, 14, 4 and 7
+reopened-sound : (h : Host) (p : Params) (clock next : ℕ) → reopenRefusal h p clock next ≡ 0 → SoundState (reopened h p clock next)
+unfolding reopenRefusal
+reopened-sound h p clock next q =
+    let most = ask (leb next numberLimit) 7 ∷ [] in
+    let ticks = ask (ticksIn clock) 4 ∷ most in
+    let delay = ask (delayIn p) 14 ∷ ticks in
+    let twelve = all-passed (hostIn h) 12 (ask (allOf (paramsTests p) && allOf (constrainedTests p)) 13 ∷ delay) (omega arith) q in
+    let thirteen = all-passed (allOf (paramsTests p) && allOf (constrainedTests p)) 13 delay (omega arith) (twelve .1) in
+    let fourteen = all-passed (delayIn p) 14 ticks (omega arith) (thirteen .1) in
+    let four = all-passed (ticksIn clock) 4 most (omega arith) (fourteen .1) in
+    let seven = all-passed (leb next numberLimit) 7 [] (omega arith) (four .1) .0 in
+    unheard-kept (reopened h p clock next) (ltb-true (h .0) 8 (twelve .0)) (and-both (allOf (paramsTests p)) (allOf (constrainedTests p)) (thirteen .0) .0)
+    (fourteen .0) (ltb-true clock 281474976710656 (four .0)) (leb-true next 65536 seven) refl
+
+pub reopens-sound : ReopensSound
+unfolding reopeningOf
+reopens-sound h p clock next = go (reopenRefusal h p clock next) refl
+  where
+    go : (k : ℕ) → reopenRefusal h p clock next ≡ k → soundOf (reopenedFor k h p clock next) ≡ true
+    go zero q = sound (reopened h p clock next) (reopened-sound h p clock next q)
+    go (suc k) q = let e = freshEnd (asHost 0) houseParams Crashed in sound e (unheard-kept e (omega arith) refl refl (omega arith) (omega arith) refl)
 
 pub sound-idle-may-differ : SoundIdleMayDiffer
 sound-idle-may-differ = (odd, odd-sound, refl, odd-other)

@@ -15,6 +15,7 @@ use Rattle.end.specs.Event.{Moves, moves, stepOf}
 use Rattle.end.specs.Opening.{openingOf}
 use Rattle.guarantees.specs.Calls.{OneCall, afterAll}
 use Rattle.end_reopen.specs.Reopen.{reopened}
+use Rattle.end_reopen.specs.Reopening.{reopeningOf}
 
 -- what a Leave and then a Left at a clock leave of an end, where no question refuses them; a move reads no draws
 abbrev pub leftAt : End → ℕ → End
@@ -42,12 +43,18 @@ pub record Reopens (e : End) : Type 0 where
 abbrev pub OpenedReopens : Type 0
 OpenedReopens = (h : Host) (p : Params) (cs : List OneCall) → Reopens (afterAll (openingOf h p .end) cs)
 
--- A crash is for good: no call changes a crashed end. And it never is a reopened one, so a host must not reopen an end that crashed.
+-- A crash is for good: no call changes a crashed end. So no calls lead from it to a reopened one, and a host must not reopen an end that crashed: that
+-- is nothing that calls can do.
 abbrev pub CrashIsForGood : Type 0
 CrashIsForGood = (e : End) → isCrashed (e .status) ≡ true → (cs : List OneCall) → afterAll e cs ≡ e
 
 abbrev pub CrashedIsNotReopened : Type 0
-CrashedIsNotReopened = (e : End) → isCrashed (e .status) ≡ true → (h : Host) (p : Params) (clock next : ℕ) → e ≡ reopened h p clock next → ⊥
+CrashedIsNotReopened = (e : End) → isCrashed (e .status) ≡ true → (cs : List OneCall) (h : Host) (p : Params) (clock next : ℕ)
+    → afterAll e cs ≡ reopened h p clock next → ⊥
+
+-- Every reopening, refused or not, gives a sound state, whatever it is given: the next call is not refused as 3.
+abbrev pub ReopensSound : Type 0
+ReopensSound = (h : Host) (p : Params) (clock next : ℕ) → soundOf (reopeningOf h p clock next .end) ≡ true
 
 -- Soundness alone does not give it: there is a sound idle end, not from an opening, that is no reopened one. The bytes of the cue of an empty
 -- record are free, and no rule reads them.

@@ -67,6 +67,7 @@ use Rattle.cases.proofs.Shown.{service-shown, late-shown, never-returns-clash}
 use Rattle.cases.proofs.Cases.{cases-hold, answers-hold, moves-hold, wire-holds, timed-hold, half-trips-hold, factors-hold, reasons-hold, stage-holds, quiet-holds, clashes-hold, probe-holds, season-holds, express-holds, fetch-holds, announced-hold, announces-hold}
 use Rattle.cases.proofs.Turn.{four-rounds, each-is-needed}
 use Rattle.lent_runs.proofs.Due.{fire-by-due, lent-fire-by-due}
+use Rattle.lent_runs.proofs.Reopening.{reopens-sound}
 use Rattle.lent_runs.proofs.Reopening.{left-is-reopened, opened-reopens, non-members-keep-nothing, crash-is-for-good, crashed-is-not-reopened, sound-idle-may-differ}
 use Rattle.lent_runs.proofs.Numbers.{outcome-reads-back}
 use Rattle.lent_runs.proofs.Plain.{plain-numbers}
@@ -305,6 +306,7 @@ promises = record {
     opened-leaving = λ h p cs. opened-reopens h p cs .leaving;
     opened-idle = λ h p cs. opened-reopens h p cs .idle;
     non-members-keep-nothing = non-members-keep-nothing;
+    reopens-sound = reopens-sound;
     crash-is-for-good = crash-is-for-good;
     crashed-is-not-reopened = crashed-is-not-reopened;
     sound-idle-may-differ = sound-idle-may-differ;

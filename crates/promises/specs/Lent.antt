@@ -27,6 +27,7 @@ use Rattle.guarantees.specs.Calls.{OneCall, afterAll}
 use Rattle.guarantees.specs.Fires.{fire, FireTaken}
 use Rattle.end_due.specs.Due.{nextDue}
 use Rattle.end_reopen.specs.Reopen.{reopened}
+use Rattle.end_reopen.specs.Reopening.{reopeningOf}
 use Rattle.lent_answer.specs.Number.{numberOf, ofKind, OUT, NOTHING}
 use Rattle.lent_end.specs.State.{stateWidth, endFrom, isState, endBytes, EndFits, Holds}
 use Rattle.lent_calls.specs.Call.{callNumber, callState, callOut}
@@ -77,9 +78,12 @@ pub record LentKept : Type 0 where
       e .status ≡ Idle → e ≡ reopened (e .host) (e .params) (e .clock) (e .next)
   pub non-members-keep-nothing : (h : Host) (p : Params) (cs : List OneCall) → let e = afterAll (openingOf h p .end) cs in
       isMember (e .status) ≡ false → e .sources ≡ unheardSources (e .host .0)
-  -- A crash is for good, and a crashed end is no reopened one.
+  -- Every reopening, refused or not, gives a sound state, whatever it is given.
+  pub reopens-sound : (h : Host) (p : Params) (clock next : ℕ) → soundOf (reopeningOf h p clock next .end) ≡ true
+  -- A crash is for good, and no calls lead from a crashed end to a reopened one.
   pub crash-is-for-good : (e : End) → isCrashed (e .status) ≡ true → (cs : List OneCall) → afterAll e cs ≡ e
-  pub crashed-is-not-reopened : (e : End) → isCrashed (e .status) ≡ true → (h : Host) (p : Params) (clock next : ℕ) → e ≡ reopened h p clock next → ⊥
+  pub crashed-is-not-reopened : (e : End) → isCrashed (e .status) ≡ true → (cs : List OneCall) (h : Host) (p : Params) (clock next : ℕ)
+      → afterAll e cs ≡ reopened h p clock next → ⊥
   -- A sound idle end that came from elsewhere need not be a reopened one: the bytes of an empty record's cue are free.
   pub sound-idle-may-differ : (e : End) × (soundOf e ≡ true) × (e .status ≡ Idle) × (e ≡ reopened (e .host) (e .params) (e .clock) (e .next) → ⊥)
   -- Every call's outcome is read off the number that it answers and the output that it leaves.

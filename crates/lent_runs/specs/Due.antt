@@ -1,4 +1,4 @@
--- Fire against the next due time, as statements; proofs/Due.antt proves both. A host that sleeps until then misses nothing, and one that fires
+-- Fire against the next due time, as statements; proofs/Due.antt proves each. A host that sleeps until then misses nothing, and one that fires
 -- then puts something out.
 use mathlib.Core.Path.{_≡_}
 use mathlib.Core.Bool.{true}
@@ -6,6 +6,7 @@ use mathlib.Core.List.{List}
 use Prim.Native.Nat.{ℕ, _≤_, _<_}
 use lib.ListN.{length}
 use Rattle.message.specs.Limit.{roomNeeded, ticksLimit}
+use Rattle.end.specs.declared.Wait.{Wait}
 use Rattle.end.specs.declared.End.{End}
 use Rattle.end.specs.State.{isMember, withClock}
 use Rattle.end.specs.Round.{drawCount}
@@ -13,11 +14,21 @@ use Rattle.end.specs.Sound.{soundOf}
 use Rattle.end.specs.Answer.{Out, Nothing, Did}
 use Rattle.end.specs.Event.{Else, Fire}
 use Rattle.guarantees.specs.Fires.{fire, FireTaken}
-use Rattle.end_due.specs.Due.{nextDue}
+use Rattle.guarantees.specs.Waits.{waitsAt, Among}
+use Rattle.end_due.specs.Due.{never, nextDue}
 use Rattle.lent_answer.specs.Number.{ofKind, OUT, NOTHING}
 use Rattle.lent_end.specs.State.{endFrom, isState, endBytes}
 use Rattle.lent_calls.specs.Call.{callNumber, callState, callOut}
 use Rattle.lent_looks.specs.Looks.{look, dueIn}
+
+-- "The least due time of all waits, 2^64−1 where nothing waits", of any end: no wait of the eight sources is due before it, and it is 2^64−1 or the due
+-- time of one of them.
+pub record LeastOfAll (e : End) : Type 0 where
+  pub least : (w : Wait) → w .name .source .0 < 8 → Among w (waitsAt e (w .name)) → nextDue e ≤ w .due
+  pub one : (nextDue e ≡ never → ⊥) → (w : Wait) × (w .name .source .0 < 8) × Among w (waitsAt e (w .name)) × (w .due ≡ nextDue e)
+
+abbrev pub DueIsLeast : Type 0
+DueIsLeast = (e : End) → LeastOfAll e
 
 -- before it Fire answers Nothing, and the end is the same but for its clock; at it and after it a message goes out
 pub record ByDue (e : End) (clock room : ℕ) (draws : List ℕ) : Type 0 where

@@ -66,7 +66,7 @@ use Rattle.end.proofs.ReasonLaws.{reason-is-first, none-holds, number-exactly, 
 use Rattle.cases.proofs.Shown.{service-shown, late-shown, never-returns-clash}
 use Rattle.cases.proofs.Cases.{cases-hold, answers-hold, moves-hold, wire-holds, timed-hold, half-trips-hold, factors-hold, reasons-hold, stage-holds, quiet-holds, clashes-hold, probe-holds, season-holds, express-holds, fetch-holds, announced-hold, announces-hold}
 use Rattle.cases.proofs.Turn.{four-rounds, each-is-needed}
-use Rattle.lent_runs.proofs.Due.{fire-by-due, lent-fire-by-due}
+use Rattle.lent_runs.proofs.Due.{due-is-least, fire-by-due, lent-fire-by-due}
 use Rattle.lent_runs.proofs.Reopening.{reopens-sound}
 use Rattle.lent_runs.proofs.Reopening.{left-is-reopened, opened-reopens, non-members-keep-nothing, crash-is-for-good, crashed-is-not-reopened, sound-idle-may-differ}
 use Rattle.lent_runs.proofs.Numbers.{outcome-reads-back}
@@ -297,6 +297,8 @@ promises = record {
   lent = record {
     state-back = form-holds;
     state-forth = state-forth;
+    none-due-before = λ e. due-is-least e .least;
+    due-is-of-one = λ e. due-is-least e .one;
     nothing-before-due = λ e clock room draws f. fire-by-due e clock room draws f .before;
     out-from-due = λ e clock room draws f. fire-by-due e clock room draws f .after;
     lent-nothing-before-due = λ s clock draws output f. lent-fire-by-due s clock draws output f .before;

@@ -12,6 +12,7 @@ use Rattle.message.specs.Limit.{roomNeeded}
 use Rattle.end.specs.declared.Params.{Params}
 use Rattle.end.specs.declared.Status.the-variants.{Idle, Leaving}
 use Rattle.end.specs.declared.Move.the-variants.{Leave, Left}
+use Rattle.end.specs.declared.Wait.{Wait}
 use Rattle.end.specs.declared.End.{End}
 use Rattle.end.specs.State.{isMember, isCrashed, unheardSources, withClock}
 use Rattle.end.specs.Round.{drawCount}
@@ -25,7 +26,8 @@ use Rattle.end.specs.Run.{Call, CueArray, Allowed, Fresh, seen}
 use Rattle.invariants.specs.Lists.{through, Declared}
 use Rattle.guarantees.specs.Calls.{OneCall, afterAll}
 use Rattle.guarantees.specs.Fires.{fire, FireTaken}
-use Rattle.end_due.specs.Due.{nextDue}
+use Rattle.guarantees.specs.Waits.{waitsAt, Among}
+use Rattle.end_due.specs.Due.{never, nextDue}
 use Rattle.end_reopen.specs.Reopen.{reopened}
 use Rattle.end_reopen.specs.Reopening.{reopeningOf}
 use Rattle.lent_answer.specs.Number.{numberOf, ofKind, OUT, NOTHING}
@@ -55,6 +57,10 @@ pub record LentKept : Type 0 where
   -- are, read and written again, the very bytes. `EndFits` is what the declared types say.
   pub state-back : (e : End) (s : List ℕ) → EndFits e → s ≡ endBytes e → Holds s e
   pub state-forth : (s : List ℕ) → Bytes s → isState s ≡ true → endBytes (endFrom s) ≡ s
+  -- The next due time is the least due time of all waits of the eight sources, 2^64−1 where nothing waits.
+  pub none-due-before : (e : End) (w : Wait) → w .name .source .0 < 8 → Among w (waitsAt e (w .name)) → nextDue e ≤ w .due
+  pub due-is-of-one : (e : End) → (nextDue e ≡ never → ⊥)
+      → (w : Wait) × (w .name .source .0 < 8) × Among w (waitsAt e (w .name)) × (w .due ≡ nextDue e)
   -- Before the next due time a Fire of a member that is not refused answers Nothing and sets the clock, no more; from it on a message goes out.
   pub nothing-before-due : (e : End) (clock room : ℕ) (draws : List ℕ) → FireTaken e clock room draws → clock < nextDue e
       → fire e clock room draws ≡ record { outcome = Did Nothing; left = withClock e clock }

@@ -207,8 +207,8 @@ uint64_t cuelink_fetch(uint8_t *state, size_t state_len, uint64_t clock, const u
 
 /*
  * Why an event, made now, would be ignored: REASON with its number, or 0 where it would be neither refused nor ignored. It changes nothing, so
- * ask with the bytes from before the call. Refused as 3 to 11 where the event would be (1 and 2 are not asked); NO_EVENT where `event` is
- * above 10. `source` and `number` count for a fetch alone, `bytes` for send and arrival alone.
+ * ask with the bytes from before the call. NO_EVENT where `event` is above 10, which is asked first; then refused as 3 to 11 where the event
+ * would be (1 and 2 are not asked). `source` and `number` count for a fetch alone, `bytes` for send and arrival alone.
  */
 uint64_t cuelink_reason(const uint8_t *state, size_t state_len, uint64_t clock, uint64_t event, uint64_t source, uint64_t number,
                         const uint8_t *bytes, size_t bytes_len);

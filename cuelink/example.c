@@ -165,5 +165,7 @@ int main(int count, char **words)
         fail("the port of this host", strerror(errno));
     setvbuf(stdout, NULL, _IOLBF, 0);
     run();
+    if (fflush(stdout) != 0 || ferror(stdout))
+        fail("what it got cannot be printed", strerror(errno));
     return 0;
 }

@@ -262,8 +262,11 @@ int main(int count, char **words)
         if (limit(row) > 0)
             printf("   %g us%s", limit(row), row->compared && row->kind != 'x' ? ", 3 x direct" : "");
         printf("\n");
-        fflush(stdout);
+        if (fflush(stdout) != 0)
+            fail("pace: what was measured cannot be written");
         slow |= too_slow(row, ours, direct);
     }
+    if (!slow)
+        puts("every call keeps to its limits");
     return slow;
 }

@@ -120,7 +120,7 @@ static void refused(void)
     IS(agreed(300, CUELINK_EVENT_ARRIVAL, 0, 0, &eleven), CUELINK_BAD_HOSTS);
 }
 
-/* A number that is no event's, wide ones too. Bytes that are no state come first. */
+/* A number that is no event's, wide ones too. It is asked first, so of bytes that are no state too. */
 static void no_event(void)
 {
     static const uint64_t events[] = {11, 12, 255, 256, 256 + 7, UINT64_C(1) << 32, (UINT64_C(1) << 32) + 7, UINT64_MAX};
@@ -128,6 +128,9 @@ static void no_event(void)
     rich(&h);
     for (i = 0; i < sizeof events / sizeof *events; i++)
         IS(asks(&h, 300, events[i], 0, 0, NULL), answer_of(CUELINK_NO_EVENT, 0, 0));
+    memset(h.state, 0, sizeof h.state);
+    IS(asks(&h, 300, 11, 0, 0, NULL), answer_of(CUELINK_NO_EVENT, 0, 0));
+    IS(asks(&h, 300, 10, 0, 0, NULL), CUELINK_NOT_SOUND);
 }
 
 const struct test reason_tests[] = {{"reason-statuses", statuses}, {"reason-arrivals", arrivals}, {"reason-request-quiet", request_quiet},

@@ -166,5 +166,7 @@ int main(void)
     measure("display_step", on_host(STEP));
     measure("windows_find", on_host(FIND));
     printf("deepest %zu of %d\n", deepest, CUELINK_STACK);
+    if (fflush(stdout) != 0)
+        fail("stack: what was measured cannot be written");
     return 0;
 }

@@ -95,5 +95,9 @@ int main(int count, char **arguments)
         }
     }
     printf("%s%s: %d tests, %lu calls\n", mode, brief ? ", brief" : "", ran, calls);
+    if (fflush(stdout) != 0) {
+        perror("tests: what they say cannot be written");
+        return 2;
+    }
     return 0;
 }

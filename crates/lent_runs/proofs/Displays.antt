@@ -1,33 +1,44 @@
 -- Lists of calls over a display's lent bytes are lists of calls on displays.
 use mathlib.Core.Path.{_≡_, refl, sym, ap, _∙_}
-use mathlib.Core.Bool.{Bool, true, false, cond, not, _&&_}
+use mathlib.Core.Bool.{Bool, true, false, cond, not, _&&_, _||_}
 use mathlib.Core.List.{List, [], _∷_, _++_, append-nil, map}
 use Prim.Native.Nat.{ℕ, _+_, _-_, _^_, _≤_}
 use native.Mathlib.Nat.{pow-le-pow-right}
 use native.Mathlib.Omega.{arith}
-use lib.Dec.{eqb}
-use borrow.Author.Tests.{ltb-true, le-leb, eq-eqb}
+use mathlib.Core.Option.{Option, none, some}
+use lib.ListN.{length}
+use lib.Dec.{leb, eqb}
+use borrow.Author.Tests.{ltb-true, le-leb, eq-eqb, eqb-true}
 use Rattle.numbers.proofs.Cases.{by-flag}
 use Rattle.message.specs.Limit.{roomNeeded}
-use Rattle.message.specs.Question.{hostIn, ticksIn, sameHost}
-use Rattle.message.proofs.QuestionLaws.{and-both}
-use Rattle.end.specs.Answer.{answerOf}
+use Rattle.message.specs.Message.{Meaning, meaningFrom}
+use Rattle.message.specs.Question.{ask, firstNo, hostIn, ticksIn, sameHost}
+use Rattle.message.proofs.QuestionLaws.{and-both, all-passed}
+use Rattle.end.specs.Messages.{messageName, messageCue}
+use Rattle.end.specs.Answer.{Outcome, Refused, Did, answerOf, bufferOf}
+use Rattle.end.proofs.Tools.{byCond}
+use Rattle.invariants.proofs.Readings.{message-in}
 use Rattle.display_window.specs.declared.Window.{Window}
 use Rattle.display_window.specs.declared.Window.the-variants.{Unstarted, Started}
-use Rattle.display_window.specs.Window.{windowSound}
+use Rattle.display_window.specs.Window.{windowSound, isNew, lowestMissing}
 use Rattle.display_window.proofs.WindowLaws.{sound-window}
 use Rattle.display.specs.declared.Display.{Display}
-use Rattle.display.specs.Display.{hostsApart, soundOf, openingOf}
-use Rattle.display.specs.Call.{Result, eventOf}
+use Rattle.display.specs.Display.{hostsApart, soundOf, openingOf, withClock}
+use Rattle.display.specs.Hear.{Hearing, isOriginal, isRepair, isAnnounced, heardIn}
+use Rattle.display.specs.Request.{requestIf, stepOf}
+use Rattle.display.specs.Call.{Event, Hear, Step, ownQuestions, questions, questionOf, actOf, Result, eventOf}
 use Rattle.display_history.specs.History.{Call, after, afterAll, Told, told}
 use Rattle.display_history.proofs.StaysSound.{stays-sound, opens-sound}
-use Rattle.display_history.proofs.Answers.{Below, below-next}
+use Rattle.display_history.proofs.Answers.{Below, below-next, out-is-request}
 use Rattle.lent_answer.specs.Number.{hostOf, numberOf, isRefused}
 use Rattle.lent_display.specs.Bytes.{WindowFits, DisplayFits, displayBytes, displayFrom, Holds}
 use Rattle.lent_display.specs.Call.{lostNumbers, goes, callNumber, callState, callLost, callOut, openedFor, openNumber, openState}
 use Rattle.lent_display.proofs.DisplayLaws.{form-holds}
 use Rattle.lent_display.proofs.CallLaws.{number-told, refused-left}
-use Rattle.lent_runs.specs.Displays.{stateAfter, bytesThrough, givenOn, given, asGiven, DisplayIsPlayed, NoDisplayIsRefused}
+use Rattle.lent_runs.specs.Displays.{stateAfter, bytesThrough, givenOn, given, asGiven, DisplayIsPlayed, DisplayReadsBack, NoDisplayIsRefused}
+use Rattle.lent_runs.specs.Numbers.{outcomeIn}
+use Rattle.lent_runs.proofs.Numbers.{NameIn, Told as TellsPlainly, Most, first-most, short, outcome-back}
+use Rattle.lent_runs.proofs.Kept.{did-not-refuse}
 
 -- ---- a sound display fits its bytes
 window-fits : (w : Window) → windowSound w ≡ true → Below w → WindowFits w
@@ -141,6 +152,81 @@ display-is-played own sender s h cs =
     let o = open-holds own sender s h in
     let k = open-kept own sender in
     record { holds = holds-all (openState own sender s) d o k cs; gives = gives-all (openState own sender s) d o k cs }
+
+-- ---- the outcome is read back
+kept-all : (d : Display) → Kept d → (cs : List Call) → Kept (afterAll d cs)
+unfolding afterAll
+kept-all d k [] = k
+kept-all d k (c ∷ cs) = kept-all (after d c) (next-kept d c k) cs
+
+left-by : (o : Outcome) (out : List ℕ) → cond (not (isRefused (answerOf o))) (bufferOf o out) out ≡ bufferOf o out
+unfolding answerOf bufferOf
+left-by (Refused k) out = refl
+left-by (Did x) out = ap (λ (t : Bool). cond (not t) (bufferOf (Did x) out) out) (did-not-refuse x)
+
+output-is : (s : List ℕ) (d : Display) (h : Holds s d) (k : Kept d) (c : Call) (out : List ℕ)
+    → callOut (c .event) (c .clock) (c .room) s out ≡ bufferOf (eventOf d (c .event) (c .clock) (c .room) .outcome) out
+unfolding callOut
+output-is s d h k c out = (λ i. cond (on-it s d h k c i) (bufferOf (same s d h k c i .outcome) out) out)
+    ∙ left-by (eventOf d (c .event) (c .clock) (c .room) .outcome) out
+
+-- a name and a cue that are told are those of a message that was read
+abbrev Plain : Hearing → Type 0
+Plain x = TellsPlainly (Did (x .effect))
+
+module _ (m : Meaning) (got : NameIn (messageName m) × (length (messageCue m) ≡ 24)) (d : Display) where
+  heard-plain : (w : Window) → Plain (heardIn w m d)
+  unfolding heardIn
+  heard-plain Unstarted = byCond Plain (isOriginal d m) (λ _. got) (λ _. tt)
+  heard-plain (Started trail lead set) = byCond Plain (isOriginal d m || isRepair d m)
+      (λ _. byCond Plain (isNew (d .window) (messageName m .number .0)) (λ _. got) (λ _. tt))
+      (λ _. byCond Plain (isAnnounced d m) (λ _. tt) (λ _. tt))
+
+step-plain : (d : Display) (n : Option ℕ) → Plain (requestIf n d)
+step-plain d none = tt
+step-plain d (some n) = tt
+
+act-plain : (ev : Event) (d : Display) → firstNo (ownQuestions ev) ≡ 0 → Plain (actOf ev d)
+unfolding stepOf
+act-plain (Hear []) d own = tt
+act-plain (Hear (b ∷ s)) d own =
+    let v = message-in (b ∷ s) own in
+    heard-plain (meaningFrom (b ∷ s)) (record { source = v .source; number = v .number }, v .long) d (d .window)
+act-plain Step d own = step-plain d (lowestMissing (d .window))
+
+own-most : (ev : Event) → Most (ownQuestions ev)
+own-most (Hear []) = tt
+own-most (Hear (b ∷ s)) = (omega arith, (omega arith, (omega arith, (omega arith, tt))))
+own-most Step = tt
+
+call-told : (d : Display) (ev : Event) (clock room : ℕ) → TellsPlainly (eventOf d ev clock room .outcome)
+unfolding eventOf questionOf
+call-told d ev clock room = byCond (λ (r : Result). TellsPlainly (r .outcome)) (eqb (questionOf d ev clock room) 0)
+    (λ t.
+    let q5 = ask (leb (d .clock) clock) 5 ∷ ownQuestions ev in
+    let q4 = ask (ticksIn clock) 4 ∷ q5 in
+    let q3 = ask (soundOf d) 3 ∷ q4 in
+    let one = all-passed (leb roomNeeded room) 1 q3 (omega arith) (eqb-true _ _ t) in
+    let three = all-passed (soundOf d) 3 q4 (omega arith) (one .1) in
+    let four = all-passed (ticksIn clock) 4 q5 (omega arith) (three .1) in
+    let five = all-passed (leb (d .clock) clock) 5 (ownQuestions ev) (omega arith) (four .1) in
+    act-plain ev (withClock d clock) (five .1))
+    (λ _. first-most (questions d ev clock room) (omega arith, (omega arith, (omega arith, (omega arith, own-most ev)))))
+
+pub display-reads-back : DisplayReadsBack
+display-reads-back own sender s z cs c out =
+    let d = openedFor own sender .display in
+    let e = afterAll d cs in
+    let left = bytesThrough (openState own sender s) cs in
+    let h : Holds left e = display-is-played own sender s z cs .holds in
+    let k = kept-all d (open-kept own sender) cs in
+    let o = eventOf e (c .event) (c .clock) (c .room) .outcome in
+    let output = output-is left e h k c out in
+    let number : callNumber (c .event) (c .clock) (c .room) left ≡ numberOf (answerOf o) = number-told (c .event) (c .clock) (c .room) left (h .tested)
+    ∙ ap (λ (x : Result). numberOf (answerOf (x .outcome))) (same left e h k c) in
+    let back = outcome-back o out (call-told e (c .event) (c .clock) (c .room))
+    (λ bytes p. short bytes (out-is-request (hostOf own) (hostOf sender) cs c bytes p .accepted)) in
+    (output, (λ i. outcomeIn (number i) (output i)) ∙ back)
 
 pub no-display-is-refused : NoDisplayIsRefused
 unfolding callNumber callState callLost callOut goes

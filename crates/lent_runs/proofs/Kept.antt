@@ -38,7 +38,7 @@ refused-as : (e : End) (a : Action) (clock room : ℕ) (draws : List ℕ) (k : �
 unfolding eventOf
 refused-as e a clock room draws k z q = rw (q, z)
 
-did-not-refuse : (x : Effect) → isRefused (answerOf (Did x)) ≡ false
+pub did-not-refuse : (x : Effect) → isRefused (answerOf (Did x)) ≡ false
 unfolding answerOf
 did-not-refuse (Out bytes) = refl
 did-not-refuse (Got name cue) = refl

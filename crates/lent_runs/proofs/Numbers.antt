@@ -139,7 +139,7 @@ arrival-tells us m e =
     (λ _. byCond P (eqb (m .kind) ANNC) (λ _. tt) (λ _. tt))))))))
 
 -- ---- so what an outcome tells fits its number; of a message that is put out nothing is said here
-abbrev Told : Outcome → Type 0
+abbrev pub Told : Outcome → Type 0
 Told (Refused k) = k ≤ 11
 Told (Did (Out bytes)) = Unit {0}
 Told (Did (Got name cue)) = NameIn name × (length cue ≡ 24)
@@ -206,11 +206,11 @@ act-plain us (Arrival (b ∷ s)) e t own =
 act-plain us (Else o) e t own = byCond Plain (isMember (e .status)) (λ _. other-plain us o (withClock e t)) (λ _. tt)
 
 -- the questions' numbers are at most 11
-abbrev Most : List Question → Type 0
+abbrev pub Most : List Question → Type 0
 Most [] = Unit {0}
 Most (q ∷ qs) = (q .number ≤ 11) × Most qs
 
-first-most : (qs : List Question) → Most qs → firstNo qs ≤ 11
+pub first-most : (qs : List Question) → Most qs → firstNo qs ≤ 11
 first-most [] h = omega arith
 first-most (q ∷ qs) h = byCond (λ (k : ℕ). k ≤ 11) (q .passed) (λ _. first-most qs (h .1)) (λ _. h .0)
 
@@ -235,7 +235,7 @@ call-told e a clock room draws =
     (λ _. question-most e a clock room (length draws))
 
 -- ---- a message that is put out has at most 127 bytes: the reader accepts it
-short : (bytes : List ℕ) → readOf bytes .verdict ≡ Accepted → length bytes ≤ 127
+pub short : (bytes : List ℕ) → readOf bytes .verdict ≡ Accepted → length bytes ≤ 127
 unfolding readOf readRefusal
 short [] h = omega arith
 short (b ∷ s) h =
@@ -249,7 +249,7 @@ pub out-short : (e : End) (a : Action) (clock room : ℕ) (draws bytes : List �
 out-short e a clock room draws bytes array p = short bytes (goes-out-right e a clock room draws bytes array p .accepted)
 
 -- ---- the outcome is read back
-outcome-back : (o : Outcome) (out : List ℕ) → Told o → ((bytes : List ℕ) → o ≡ Did (Out bytes) → length bytes ≤ 127)
+pub outcome-back : (o : Outcome) (out : List ℕ) → Told o → ((bytes : List ℕ) → o ≡ Did (Out bytes) → length bytes ≤ 127)
     → outcomeIn (numberOf (answerOf o)) (bufferOf o out) ≡ o
 unfolding answerOf bufferOf readOff
 outcome-back (Refused k) out h s = ap (λ (a : Answer). readOff a out) (answer-back (answer.Refused k) (omega arith))

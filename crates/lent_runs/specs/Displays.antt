@@ -7,12 +7,13 @@ use mathlib.Core.Bool.{false, cond}
 use mathlib.Core.List.{List, [], _∷_, map}
 use Prim.Native.Nat.{ℕ, _≤_}
 use Rattle.message.specs.Limit.{roomNeeded}
-use Rattle.end.specs.Answer.{answerOf}
-use Rattle.display.specs.Call.{Event}
+use Rattle.end.specs.Answer.{answerOf, bufferOf}
+use Rattle.display.specs.Call.{Event, eventOf}
 use Rattle.display_history.specs.History.{Call, afterAll, Told, told}
 use Rattle.lent_answer.specs.Number.{numberOf, isRefused}
 use Rattle.lent_display.specs.Bytes.{isDisplay, Holds}
 use Rattle.lent_display.specs.Call.{lostNumbers, callNumber, callState, callLost, callOut, openedFor, openNumber, openState}
+use Rattle.lent_runs.specs.Numbers.{outcomeIn}
 
 -- ---- a call gets the bytes that the last one left
 abbrev pub stateAfter : List ℕ → Call → List ℕ
@@ -46,6 +47,15 @@ pub record DisplayPlays (own sender : ℕ) (s : List ℕ) (cs : List Call) : Typ
 
 abbrev pub DisplayIsPlayed : Type 0
 DisplayIsPlayed = (own sender : ℕ) (s : List ℕ) → openNumber own sender s ≡ 0 → (cs : List Call) → DisplayPlays own sender s cs
+
+-- And of every further call, whatever output it was lent: the output that it leaves is that of the call on the display, and the outcome of that call is
+-- read off the number and this output. So what is proved of outcomes holds of what the host sees.
+abbrev pub DisplayReadsBack : Type 0
+DisplayReadsBack = (own sender : ℕ) (s : List ℕ) → openNumber own sender s ≡ 0 → (cs : List Call) (c : Call) (out : List ℕ)
+    → let left = bytesThrough (openState own sender s) cs in
+    let output = callOut (c .event) (c .clock) (c .room) left out in
+    let o = eventOf (afterAll (openedFor own sender .display) cs) (c .event) (c .clock) (c .room) .outcome in
+    (output ≡ bufferOf o out) × (outcomeIn (callNumber (c .event) (c .clock) (c .room) left) output ≡ o)
 
 -- Bytes that are no display's, of any other form or of another length, are refused as 3, and nothing changes.
 abbrev pub NoDisplayIsRefused : Type 0

@@ -26,7 +26,7 @@ use Rattle.lent_runs.specs.Numbers.{outcomeIn}
 abbrev pub Lent : Type 0
 Lent = ℕ → List ℕ
 
--- at first those that cuelink_open leaves where it answers 0, of any parameters, in any buffer
+-- at first those that cuelink_open leaves where it answers 0, of any parameters, in any buffer; a list on fewer ends never calls the others
 abbrev pub OpenedLent : Lent → Type 0
 OpenedLent l = (h : ℕ) → h < 8 → (params s : List ℕ) × (openedNumber (openOf h params) s ≡ 0) × (l h ≡ openedState (openOf h params) s)
 
@@ -111,7 +111,7 @@ abbrev pub outcomeOn : Lent → Call → Outcome
 outcomeOn l c = outcomeIn (numberOn l c) (outputOn l c)
 
 -- the lists that demand 3 speaks of, as the hosts see them: a host's calls are on its own bytes, and an unrefused Arrival brings what an earlier
--- Out of the list put out
+-- Out of the list put out (draws are of 16 bits by their type)
 abbrev pub LentAllowed : Lent → List (List ℕ) → List Call → Type 0
 LentAllowed l sent [] = Unit {0}
 LentAllowed l sent (c ∷ cs) =

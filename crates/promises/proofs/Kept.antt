@@ -75,7 +75,7 @@ use Rattle.lent_runs.proofs.Lists.{no-state-is-refused, cues-fit, house-opens, 
 use Rattle.lent_runs.proofs.Restarts.{restarts-are-leaving, restart-service, restart-lates-as-filed, may-always-restart, reopen-answers-0}
 use Rattle.lent_end.proofs.StateLaws.{form-holds, state-forth}
 use Rattle.lent_display.proofs.DisplayLaws as displayLaws
-use Rattle.lent_runs.proofs.Displays.{display-is-played, no-display-is-refused}
+use Rattle.lent_runs.proofs.Displays.{display-is-played, display-reads-back, no-display-is-refused}
 use Rattle.lent_lens.proofs.Kept.{lens-holds}
 use Rattle.promises.specs.Promises.{Promises}
 
@@ -337,6 +337,8 @@ promises = record {
     display-forth = displayLaws.display-forth;
     display-holds = λ own sender s z cs. display-is-played own sender s z cs .holds;
     display-gives = λ own sender s z cs. display-is-played own sender s z cs .gives;
+    display-output = λ own sender s z cs c out. display-reads-back own sender s z cs c out .0;
+    display-reads-back = λ own sender s z cs c out. display-reads-back own sender s z cs c out .1;
     no-display-is-refused = no-display-is-refused;
   };
   lent-lens = lens-holds;

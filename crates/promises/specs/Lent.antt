@@ -17,7 +17,7 @@ use Rattle.end.specs.declared.End.{End}
 use Rattle.end.specs.State.{isMember, isCrashed, unheardSources, withClock}
 use Rattle.end.specs.Round.{drawCount}
 use Rattle.end.specs.Sound.{soundOf}
-use Rattle.end.specs.Answer.{Out, Nothing, Did}
+use Rattle.end.specs.Answer.{Out, Nothing, Did, bufferOf}
 use Rattle.end.specs.Event.{Action, Moves, Else, Fire, moves, stepOf, eventOf, gives, leaves}
 use Rattle.end.specs.Opening.{openingOf}
 use Rattle.end.specs.Book.{RunFrom, emptyBook}
@@ -43,6 +43,7 @@ use Rattle.lent_runs.specs.Numbers.{outcomeIn}
 use Rattle.lent_runs.specs.Lists.{Lent, OpenedLent, lentThrough, given, heldBy, played, LentAllowed, onlooked, house}
 use Rattle.lent_runs.specs.Restarts.{Turn, turnsThrough, turnsGiven, asCalls, TurnsDeclared, TurnsAllowed, MayRestart, numbersOf}
 use Rattle.display.specs.declared.Display.{Display}
+use Rattle.display.specs.Call as display
 use Rattle.display.specs.Call.{Event}
 use Rattle.display_history.specs.History as shown
 use Rattle.lent_display.specs.Bytes as lentBytes
@@ -138,6 +139,14 @@ pub record LentDisplaysKept : Type 0 where
       → lentBytes.Holds (bytesThrough (openState own sender s) cs) (shown.afterAll (openedFor own sender .display) cs)
   pub display-gives : (own sender : ℕ) (s : List ℕ) → openNumber own sender s ≡ 0 → (cs : List shown.Call)
       → lists.given (openState own sender s) cs ≡ map asGiven (shown.told (openedFor own sender .display) cs)
+  -- And of every further call, whatever output it was lent: the output is that of the call on the display, whose outcome is read off number and output.
+  pub display-output : (own sender : ℕ) (s : List ℕ) → openNumber own sender s ≡ 0 → (cs : List shown.Call) (c : shown.Call) (out : List ℕ)
+      → lentDisplay.callOut (c .event) (c .clock) (c .room) (bytesThrough (openState own sender s) cs) out
+      ≡ bufferOf (display.eventOf (shown.afterAll (openedFor own sender .display) cs) (c .event) (c .clock) (c .room) .outcome) out
+  pub display-reads-back : (own sender : ℕ) (s : List ℕ) → openNumber own sender s ≡ 0 → (cs : List shown.Call) (c : shown.Call) (out : List ℕ)
+      → let left = bytesThrough (openState own sender s) cs in
+      outcomeIn (lentDisplay.callNumber (c .event) (c .clock) (c .room) left) (lentDisplay.callOut (c .event) (c .clock) (c .room) left out)
+      ≡ display.eventOf (shown.afterAll (openedFor own sender .display) cs) (c .event) (c .clock) (c .room) .outcome
   -- Bytes that are no display's are refused as 3, and nothing changes.
   pub no-display-is-refused : (ev : Event) (clock room : ℕ) (s lost out : List ℕ) → roomNeeded ≤ room → isDisplay s ≡ false
       → (lentDisplay.callNumber ev clock room s ≡ 3)

@@ -1,12 +1,11 @@
 -- From the event's promise on the end that the bytes hold to the promise of the call on the bytes.
 use mathlib.Core.Path.{_≡_, refl, sym, ap, _∙_, subst}
-use Prim.Native.Nat.{ℕ}
-use native.Mathlib.Omega.{arith}
+use Prim.Native.Nat.{ℕ, _<_}
 use mathlib.Core.Bool.{Bool, true, false, cond, _&&_}
 use mathlib.Core.List.{List}
 use lib.ListN.{length, replicate}
 use lib.Dec.{T, leb, eqb}
-use borrow.Author.Tests.{eq-eqb, ne-eqb}
+use borrow.Author.Tests.{eq-eqb, ne-eqb, lt-leb}
 use Rattle.numbers.specs.Splice.{splice}
 use Rattle.message.proofs.QuestionLaws.{and-both}
 use Rattle.end.specs.declared.Answer.{Answer}
@@ -60,14 +59,62 @@ ready-rest s draws out h = and-both (eqb (length draws) 64) (isState s) (and-bot
 both-ways : (b : Bool) → b ≡ false → b ≡ true → ⊥
 both-ways b f t = subst T f (subst T (sym t) tt)
 
--- what questions 1 and 2 say where neither is answered no
-no-question : (room draws : ℕ) (x y : Bool) → leb 128 room ≡ x → eqb draws 64 ≡ y → _≡_ {A = ℕ} (cond x (cond y 0 2) 1) 0
-    → (leb 128 room ≡ true) × (eqb draws 64 ≡ true)
-no-question room draws true true p q e = (p, q)
-no-question room draws true false p q e = absurd (omega (arith, e))
-no-question room draws false y p q e = absurd (omega (arith, e))
-
 -- the questions in their order
+module _ (a : Action) (clock : ℕ) (draws out s : List ℕ) where
+  pub no-room : length out < 128 → CallIs a clock draws out out s s 1
+  unfolding callNumber callState callOut
+  no-room h =
+      let e : leb 128 (length out) ≡ false = lt-leb 128 (length out) h in
+      record {
+        number = rw e;
+        state = rw e;
+        output = rw e;
+        kept = λ k. k;
+        holds = λ r. absurd (both-ways (leb 128 (length out)) e (ready-room s draws out r));
+      }
+
+  module _ (h : leb 128 (length out) ≡ true) where
+    pub no-draws : (length draws ≡ 64 → ⊥) → CallIs a clock draws out out s s 2
+    unfolding callNumber callState callOut
+    no-draws g =
+        let e : eqb (length draws) 64 ≡ false = ne-eqb (length draws) 64 g in
+        record {
+          number = rw (h, e);
+          state = rw (h, e);
+          output = rw (h, e);
+          kept = λ k. k;
+          holds = λ r. absurd (both-ways (eqb (length draws) 64) e (ready-rest s draws out r .0));
+        }
+
+    module _ (g : length draws ≡ 64) (ok : Bool) (t : ok ≡ isState s) where
+      pub no-state : ok ≡ false → CallIs a clock draws out out s s 3
+      unfolding callNumber callState callOut
+      no-state f =
+          let d : eqb (length draws) 64 ≡ true = eq-eqb (length draws) 64 g in
+          let e : isState s ≡ false = sym t ∙ f in
+          record {
+            number = rw (h, d, e);
+            state = rw (h, d, e);
+            output = rw (h, d, e);
+            kept = λ k. k;
+            holds = λ r. absurd (both-ways (isState s) e (ready-rest s draws out r .1));
+          }
+
+      pub on-a-state : {out′ s′ : List ℕ} {answer : Answer} {n : ℕ} → ok ≡ true → Called (endFrom s) a clock draws out out′ s s′ answer → n ≡ numberOf answer
+          → CallIs a clock draws out out′ s s′ n
+      unfolding callNumber callState callOut
+      on-a-state f c m =
+          let d : eqb (length draws) 64 ≡ true = eq-eqb (length draws) 64 g in
+          let e : isState s ≡ true = sym t ∙ f in
+          record {
+            number = rw (h, d, e) (m ∙ ap numberOf (c .answered));
+            state = rw (h, d, e) (c .written);
+            output = rw (h, d, e) (c .output);
+            kept = λ k. c .kept;
+            holds = λ r. c .holds;
+          }
+
+-- questions 1 and 2 asked before the rest
 module _ (a : Action) (clock : ℕ) (draws out s : List ℕ) where
   -- one of questions 1 and 2 is answered no
   asked-as : (q : ℕ) (x y : Bool) → leb 128 (length out) ≡ x → eqb (length draws) 64 ≡ y → q ≡ cond x (cond y 0 2) 1 → (q ≡ 0 → ⊥) → CallIs a clock draws out out s s q
@@ -90,38 +137,6 @@ module _ (a : Action) (clock : ℕ) (draws out s : List ℕ) where
 
   pub refused-asked : (q : ℕ) → q ≡ asked (length out) (length draws) → (q ≡ 0 → ⊥) → CallIs a clock draws out out s s q
   refused-asked q e h = asked-as q (leb 128 (length out)) (eqb (length draws) 64) refl refl e h
-
-  module _ (none : asked (length out) (length draws) ≡ 0) (ok : Bool) (t : ok ≡ isState s) where
-    room-there : leb 128 (length out) ≡ true
-    room-there = no-question (length out) (length draws) (leb 128 (length out)) (eqb (length draws) 64) refl refl none .0
-
-    draws-there : eqb (length draws) 64 ≡ true
-    draws-there = no-question (length out) (length draws) (leb 128 (length out)) (eqb (length draws) 64) refl refl none .1
-
-    pub no-state : ok ≡ false → CallIs a clock draws out out s s 3
-    unfolding callNumber callState callOut
-    no-state f =
-        let e : isState s ≡ false = sym t ∙ f in
-        record {
-          number = rw (room-there, draws-there, e);
-          state = rw (room-there, draws-there, e);
-          output = rw (room-there, draws-there, e);
-          kept = λ k. k;
-          holds = λ r. absurd (both-ways (isState s) e (ready-rest s draws out r .1));
-        }
-
-    pub on-a-state : {out′ s′ : List ℕ} {answer : Answer} {n : ℕ} → ok ≡ true → Called (endFrom s) a clock draws out out′ s s′ answer → n ≡ numberOf answer
-        → CallIs a clock draws out out′ s s′ n
-    unfolding callNumber callState callOut
-    on-a-state f c m =
-        let e : isState s ≡ true = sym t ∙ f in
-        record {
-          number = rw (room-there, draws-there, e) (m ∙ ap numberOf (c .answered));
-          state = rw (room-there, draws-there, e) (c .written);
-          output = rw (room-there, draws-there, e) (c .output);
-          kept = λ k. c .kept;
-          holds = λ r. c .holds;
-        }
 
 -- ---- Send's cue
 pub cue-taken : (b last : List ℕ) → length b ≡ 24 → last ≡ splice 0 b (replicate 24 255) → last ≡ cueOf b

@@ -114,9 +114,9 @@ fn on_state(
     answer
 }
 
-// A call whose questions 1 and 2 are answered. It has three callers, so that the compiler keeps it apart from them: a call that is refused as 1 or
-// 2 then takes no time and next to no stack.
-fn on_bytes(
+// A whole call. It has three callers, so that the compiler keeps it apart from them, and they ask questions 1 and 2 before it: so a call that these
+// refuse takes no time and next to no stack.
+fn whole(
     state: &mut [u8],
     clock: u64,
     draws: &[Draw],
@@ -125,9 +125,14 @@ fn on_bytes(
     bytes: &[u8],
     out: &mut [u8],
 ) -> u64
-    requires { ⌜ asked (length (now out)) (length (now draws)) ≡ 0 ⌝ }
     ensures { λ r. ⌜ CallIs (actionOf what cue (now (bytes .entry))) clock (now (draws .entry)) (now (out .entry)) (now (out .exit)) (now (state .entry)) (now (state .exit)) r ⌝ }
 {
+    if out.len() < ROOM_NEEDED {
+        return 1;
+    }
+    if draws.len() != DRAWS {
+        return 2;
+    }
     let ok = lent_end::is_state(state);
     if ok {
         let answer = on_state(state, clock, draws, what, cue, bytes, out);
@@ -163,7 +168,7 @@ pub fn event(
 {
     let q = asked(out.len(), draws.len());
     if q == 0 {
-        return on_bytes(state, clock, draws, what, cue, bytes, out);
+        return whole(state, clock, draws, what, cue, bytes, out);
     }
     q
 }
@@ -175,7 +180,7 @@ pub fn send(state: &mut [u8], clock: u64, draws: &[Draw], cue: &[u8], out: &mut 
     let q = asked(out.len(), draws.len());
     if q == 0 {
         let c = cue_of(cue);
-        return on_bytes(state, clock, draws, Event::Send, c, &[0; 0], out);
+        return whole(state, clock, draws, Event::Send, c, &[0; 0], out);
     }
     q
 }
@@ -195,7 +200,7 @@ pub fn fetch(
     if q == 0 {
         let name = name_of(source, number);
         let what = Event::Fetch(name);
-        return on_bytes(state, clock, draws, what, [0; 24], &[0; 0], out);
+        return whole(state, clock, draws, what, [0; 24], &[0; 0], out);
     }
     q
 }

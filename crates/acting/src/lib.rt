@@ -1,5 +1,7 @@
 // What an event does on an end that takes it. The frame of the calls, `frame::frame`, has asked every question by then, and set the clock. It
 // is a helper of the crate frame and no call of the product: it asks in its `requires` for what the questions give.
+#![tactic(auto)]
+
 ghost use Rattle.std.specs.Prelude.{◌≡◌, length};
 ghost use Rattle.message.specs.Message.{meaning_of};
 ghost use Rattle.end.specs.Answer.{Did, done, called_of, buffer_of};

@@ -1,6 +1,8 @@
 // The line that is printed for a played line of a script, put into a buffer. The definition is specs/AnswerLine.antt. These are helpers of the
 // crates above (player, keeping, timetable) and no calls of the product: each asks in its `requires` for the room that its longest piece takes,
 // which its callers have seen to.
+#![tactic(auto)]
+
 ghost use Rattle.std.specs.Prelude.{[], ◌∷◌, ◌++◌, ◌+◌, ◌≤◌, length};
 ghost use Rattle.decimal.specs.Decimal.{decimal as decimalOf, signed_decimal};
 ghost use Rattle.end.specs.Why.{reason_words};
@@ -13,7 +15,7 @@ use message::{CueNumber, Host};
 
 // An answer as it is shown: a message number after out, the name and the focus after got and late, the question's number after refused, the
 // name after clash. Where the reason is asked for too, its words stand after ignored.
-#[derive(Drop)]
+#[derive(Clone, Copy)]
 pub enum Shown {
     Out(u64),
     Got(Host, CueNumber, i16),

@@ -1,4 +1,5 @@
 // The word behind a program's name, which is its flag. No contract can speak of what the outside gives; a word that no program knows is no flag.
+#![tactic(auto)]
 
 // The word as a number: trace::words has those that programs know. Without a word it is 0.
 pub fn first() -> u64 {

@@ -1,6 +1,8 @@
 // The benchmark's half in Rattle: one kind of event, many times over the public calls. The first argument is the kind's letter, the
 // second how often, in the form of a digit d for 10^d times. The twin's half, twin/src/bin/pace.rs, makes the same calls; bench/run
 // times both. Outputs are cleared before each call. The last clock is printed, so that no call can be left out.
+#![tactic(auto)]
+
 ghost use Rattle.std.specs.Prelude.{◌≤◌, length};
 
 use end::{Draw, End, Params};

@@ -1,9 +1,11 @@
 // The calendar of the years 2000 to 2099: its dates, and the day after a date. The definitions are in specs/Calendar.antt; what is
 // proved of them, that a roll is one day and that the order of dates is that of their day numbers, is stated in specs/Promise.antt.
+#![tactic(auto)]
+
 ghost use Rattle.std.specs.Prelude.{◌≡◌};
 ghost use Rattle.calendar.specs.Calendar.{date, leap_of, days_of, exists_of, not_after_lem, next_day, roll_code, roll_date};
 
-#[derive(Drop)]
+#[derive(Clone, Copy)]
 pub struct Date {
     pub year: u16,
     pub month: u8,
@@ -127,7 +129,7 @@ fn next_day(d: Date) -> Date
 }
 
 // A date after a roll, and the roll's number: 0, or 15 where the date does not exist and stays as it was.
-#[derive(Drop)]
+#[derive(Clone, Copy)]
 pub struct Stepped {
     pub date: Date,
     pub code: u8,

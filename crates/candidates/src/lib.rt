@@ -2,6 +2,8 @@
 // kind 22 is answered, and whether a kind 23 is handed out. Each is the definition of the crate end, specs/Fetch.antt, or its part that lies in
 // one source (specs/Candidates.antt). They are helpers of the crates above and no calls of the product: what they ask for in their `requires` the
 // call has seen to.
+#![tactic(auto)]
+
 ghost use Rattle.std.specs.Prelude.{◌≡◌, cond, ◌<◌};
 ghost use Rattle.message.specs.Limit.{host_limit};
 ghost use Rattle.message.specs.Entry.{as_host};

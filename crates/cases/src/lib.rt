@@ -3,3 +3,4 @@
 // times, answers with their outputs, and express repair. specs/Shown.antt says demand 3 in terms of answers and outputs (proofs/Shown.antt), and
 // proofs/Service.antt applies demand 3 to lists. specs/GotLimits.antt and CallLimits.antt have the lists that the book turns down
 // (proofs/Limits.antt).
+#![tactic(auto)]

@@ -1,5 +1,7 @@
 // `END set ..`: an end with a field changed, sound or not. Reading goes on at `at`, as the crate trace has it. These are tools of tests: their
 // contracts say no more than that they are safe and end.
+#![tactic(auto)]
+
 use end::{
     Attempt, End, Express, Heard, Hosts, Origin, Pair, Params, Record, Reply, Request, Slot,
     Source, Span, Status,

@@ -1,5 +1,7 @@
 // The messages that an end puts out, as the structs that the layout writes, `about_name`, `announce_message` and `session_message` of the
 // crate end, specs/Messages.antt; and how one goes out. They are helpers of the crates above and no calls of the product.
+#![tactic(auto)]
+
 ghost use Rattle.std.specs.Prelude.{◌≡◌, [], ◌∷◌, ◌+◌, ◌≤◌, ◌<◌, length, take};
 ghost use Rattle.message.specs.Limit.{host_limit, room_needed};
 ghost use Rattle.message.specs.Message.{Small, number_width, report_places, echo_places, meaning_of, bytes_of};
@@ -13,21 +15,21 @@ use end::{Answer, End, Heard, Moment, Span};
 use message::{ANNC, Counts, CueNumber, Echo, Host, Message, Name, NameEntry, Report, SESS};
 
 // Reports in their places, and how many there are.
-#[derive(Drop)]
+#[derive(Clone, Copy)]
 pub struct Reports {
     pub count: usize,
     pub places: [Report; 8],
 }
 
 // Echoes in their places, and how many there are.
-#[derive(Drop)]
+#[derive(Clone, Copy)]
 pub struct Echoes {
     pub count: usize,
     pub places: [Echo; 7],
 }
 
 // What a session message says.
-#[derive(Drop)]
+#[derive(Clone, Copy)]
 pub struct Entries {
     pub reports: Reports,
     pub echoes: Echoes,

@@ -1,5 +1,7 @@
 // Plays a script from standard input, and writes what it prints to standard output: what the programs house and why do. Here it is only read
 // and written: what a piece of the script prints, and where the script stands then, is proved of `interpreter::feed` and `finish`.
+#![tactic(auto)]
+
 ghost use Rattle.std.specs.Prelude.{◌≡◌, false, ◌≤◌, ◌<◌, length, take};
 ghost use Rattle.interpreter.specs.Interpreter.{after, standing};
 
@@ -7,7 +9,7 @@ use interpreter::{Playing, Progress};
 use libc::{STDIN_FILENO, STDOUT_FILENO};
 
 // Where the script stands after a piece, and whether another is to be read.
-#[derive(Drop)]
+#[derive(Clone, Copy)]
 struct Next {
     playing: Playing,
     more: bool,

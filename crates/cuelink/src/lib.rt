@@ -2,6 +2,8 @@
 // over a function of lent_calls, lent_looks, lent_display or lent_lens and has its contract. The C header is cuelink/cuelink.h at the repository's
 // root. A buffer comes from C as a pointer and a length; a state is 31,136 bytes and a display 25, which the host lends to each call. The
 // functions ask nothing of their caller but buffers of the lengths that it says. Answers are numbers: the crate lent_answer, specs/Number.antt.
+#![tactic(auto)]
+
 ghost use Rattle.std.specs.Prelude.{◌≡◌, length};
 ghost use Rattle.display.specs.Call.{Step};
 ghost use Rattle.end.specs.declared.Move.TheVariants.{Join, Joined, Leave, Left, Crash};

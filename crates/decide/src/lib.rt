@@ -1,6 +1,8 @@
 // What a member decides on a message about a name, and why one is ignored: each function is one definition of the crate end,
 // specs/Decide.antt. Of the source, `decide` is given first and last and the name's record alone, so that no source is copied. They are
 // helpers of the crates above and no calls of the product.
+#![tactic(auto)]
+
 ghost use Rattle.std.specs.Prelude.{◌≡◌, cond};
 ghost use Rattle.end.specs.Records.{is_closed};
 ghost use Rattle.end.specs.Decide.{unless, same_cue, if_same, decide_data, reached, decide_reply, decide_round, decide_request};

@@ -1,5 +1,7 @@
 // Decimal numbers, printed into a buffer and read from a line. The definitions are in specs/: Decimal.antt (what a number is
 // printed as, what a word means) and Room.antt (a part of a line, bytes put where there is room).
+#![tactic(auto)]
+
 ghost use Rattle.std.specs.Prelude.{◌≡◌, ◌∷◌, ◌-◌, min};
 ghost use Rattle.numbers.specs.Splice.{splice};
 ghost use Rattle.numbers.specs.Signed.{signed};
@@ -9,14 +11,14 @@ ghost use Rattle.decimal.specs.Room.{part, Put};
 ghost use Rattle.decimal.specs.Steps.{with_digit, digits_after, First, Width, Fits};
 
 // What a word means as an unsigned number.
-#[derive(Drop)]
+#[derive(Clone, Copy)]
 pub enum Unsigned {
     Number(u64),
     NoNumber,
 }
 
 // What a word means as a signed 16-bit number.
-#[derive(Drop)]
+#[derive(Clone, Copy)]
 pub enum Signed {
     Integer(i16),
     NoInteger,

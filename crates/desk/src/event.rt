@@ -6,7 +6,7 @@ use picture::{digest, same, text};
 use trace::words;
 
 // What the line of an event says: the event, its clock, and the cue of a `send`, which is zeros for the others.
-#[derive(Drop)]
+#[derive(Clone, Copy)]
 pub struct Said {
     pub what: Event,
     pub clock: u64,

@@ -2,6 +2,8 @@
 // buffer of its own, the draws, the output, the messages that were put out, and the text to print. Then the calls themselves: events,
 // openings, the reader, the writer and the cue test, and what an end is asked. docs/TRACES.md says what each line means. These are
 // tools of tests: their contracts say no more than that they are safe and end.
+#![tactic(auto)]
+
 pub mod answer;
 pub mod ask;
 pub mod codec;

@@ -2,6 +2,8 @@
 // which says what is received, missing and lost, is of the crate display_window. The definitions are in specs/: Display (the state), Hear
 // (messages), Request (what a step puts out), Call (questions, and what a call gives), Frame (what the functions below the calls are given),
 // Rows (cases). What holds over the list of a display's calls is stated and proved in the crate display_history.
+#![tactic(auto)]
+
 ghost use Rattle.std.specs.Prelude.{◌≡◌, true, ◌-◌, ◌≤◌, ◌<◌, length};
 ghost use Rattle.std.proofs.Math.Option.{none, some};
 ghost use Rattle.message.specs.Limit.{room_needed};
@@ -22,7 +24,7 @@ use message::{
 };
 
 // The state of a display: its own host, its sender's, its clock and its window.
-#[derive(Drop)]
+#[derive(Clone, Copy)]
 pub struct Display {
     pub own: Host,
     pub sender: Host,
@@ -31,7 +33,7 @@ pub struct Display {
 }
 
 // What a call gives: its answer (Refused, Out, Got, Done, Ignored or Nothing), the numbers that became lost, and the display that it leaves.
-#[derive(Drop)]
+#[derive(Clone, Copy)]
 pub struct Shown {
     pub answer: Answer,
     pub lost: Lost,
@@ -39,7 +41,7 @@ pub struct Shown {
 }
 
 // What an opening answers: whether it was refused, and the display.
-#[derive(Drop)]
+#[derive(Clone, Copy)]
 pub struct OpenedDisplay {
     pub verdict: Verdict,
     pub display: Display,

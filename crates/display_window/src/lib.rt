@@ -1,6 +1,8 @@
 // The window of a foyer display, document 02, P11: trail, lead and which of the numbers from trail on were received; how they rise, which
 // numbers that loses, and the lowest number that is missing. The crate display has the messages, requests and calls over it. The definitions
 // are in specs/: Window (the window, its losses and its lowest missing number), Frame (what the functions here are given and promise).
+#![tactic(auto)]
+
 ghost use Rattle.std.specs.Prelude.{◌≡◌, true, ◌+◌, ◌-◌, ◌/◌, ◌^◌, ◌≤◌, ◌<◌, min, max, ltb};
 ghost use Rattle.numbers.specs.Bits.{bit};
 ghost use Rattle.message.specs.Limit.{number_limit};
@@ -11,14 +13,14 @@ use message::CueNumber;
 
 // Trail and lead, and which of the numbers from trail on were received: bit i stands for trail + i. Before its sender's first DATA a display
 // has none of them.
-#[derive(Drop)]
+#[derive(Clone, Copy)]
 pub enum Window {
     Unstarted,
     Started(CueNumber, CueNumber, u64),
 }
 
 // The first and the last of the lost numbers above the old lead.
-#[derive(Drop)]
+#[derive(Clone, Copy)]
 pub enum Above {
     NoneAbove,
     Between(CueNumber, CueNumber),
@@ -26,7 +28,7 @@ pub enum Above {
 
 // The numbers that a call lost: of those up to the old lead a set up from the old trail, bit i for `trail` + i; and those above it. Where a
 // call can lose none (the start, an Ignored, a step, a refusal) `trail` is 0.
-#[derive(Drop)]
+#[derive(Clone, Copy)]
 pub struct Lost {
     pub trail: CueNumber,
     pub set: u64,
@@ -34,14 +36,14 @@ pub struct Lost {
 }
 
 // A place of a set that is not in it.
-#[derive(Drop)]
+#[derive(Clone, Copy)]
 enum Clear {
     At(u64),
     NoneClear,
 }
 
 // A number of trail..lead that was not received.
-#[derive(Drop)]
+#[derive(Clone, Copy)]
 pub enum Missing {
     Number(CueNumber),
     NoneMissing,

@@ -1,6 +1,8 @@
 // The wait that Fire sends next: each function is one definition of the crate end, specs/Fire.antt. The numbers first..last of
 // each source are gone through once, by rising source and number, so that ties go to the lower source and the lower number. They are helpers
 // of the crates above and no calls of the product: what they ask for in their `requires` the call has seen to.
+#![tactic(auto)]
+
 ghost use Rattle.std.specs.Prelude.{◌≡◌, ◌+◌, ◌≤◌};
 ghost use Rattle.message.specs.Limit.{host_limit, number_limit};
 ghost use Rattle.end.specs.Records.{start, width};

@@ -1,6 +1,8 @@
 // The types of one SRM end, in the forms that document 01 names. All rules of the end are definitions on these types, in specs/: State,
 // Records, Round, Names, Answer, Messages, Sound, Ready, Decide, Reasons, Session, Fire, Fetch, Arrival, Event, Why, Opening, in this order; then
 // the service: Book, Run, and what both say of a Clash and of a Late cue: Clashes, Lates.
+#![tactic(auto)]
+
 use message::{CueNumber, Host, Name, Verdict};
 
 // A draw, a number of 16 bits: which share of a wait is taken.
@@ -20,7 +22,7 @@ pub const TIME_LIMIT: u64 = 281479271677952;
 
 // C1, C2, C3 time a request and its quiet time, D1, D2, D3 a reply and its quiet time; each in quarters, 0..32. E, `express`, is how many
 // ticks an express wait waits, 0..1000.
-#[derive(Drop)]
+#[derive(Clone, Copy)]
 pub struct Params {
     pub c1: u64,
     pub c2: u64,
@@ -31,7 +33,7 @@ pub struct Params {
     pub express: u64,
 }
 
-#[derive(Drop)]
+#[derive(Clone, Copy)]
 pub enum Status {
     Idle,
     Joining,
@@ -41,7 +43,7 @@ pub enum Status {
 }
 
 // A waiting request: its round 1..16, when it is due, and its quiet-until time, up to which a heard request changes nothing.
-#[derive(Drop)]
+#[derive(Clone, Copy)]
 pub struct Request {
     pub round: u8,
     pub due: u64,
@@ -49,14 +51,14 @@ pub struct Request {
 }
 
 // Whether a reply waits: when it is due, and who asked.
-#[derive(Drop)]
+#[derive(Clone, Copy)]
 pub enum Reply {
     No,
     Due(u64, Host),
 }
 
 // Whether an express wait stands beside a request, and when it is due.
-#[derive(Drop)]
+#[derive(Clone, Copy)]
 pub enum Express {
     Unset,
     Soon(u64),
@@ -64,7 +66,7 @@ pub enum Express {
 
 // What an end has of a name: nothing; its cue, and beside it perhaps a waiting reply; or a request for it, and beside that perhaps an
 // express wait.
-#[derive(Drop)]
+#[derive(Clone, Copy)]
 pub enum Slot {
     Empty,
     Held(Reply),
@@ -72,7 +74,7 @@ pub enum Slot {
 }
 
 // A name's record. The cue bytes count where the slot is Held; `hush` is the reply-quiet time, before which no reply is set.
-#[derive(Drop)]
+#[derive(Clone, Copy)]
 pub struct Record {
     pub slot: Slot,
     pub cue: [u8; 24],
@@ -80,7 +82,7 @@ pub struct Record {
 }
 
 // First and last cue number of a source: both or neither.
-#[derive(Drop)]
+#[derive(Clone, Copy)]
 pub enum Span {
     Closed,
     Open(CueNumber, CueNumber),
@@ -90,21 +92,21 @@ pub enum Span {
 pub type Hosts = u8;
 
 // The latest stamp heard from a host, when, and the sources that the message reported.
-#[derive(Drop)]
+#[derive(Clone, Copy)]
 pub enum Heard {
     Never,
     At(u64, u64, Hosts),
 }
 
 // The requester and the sender of the latest REPL answered Got or Done that named a number at least as high as the kept one's, and that number.
-#[derive(Drop)]
+#[derive(Clone, Copy)]
 pub enum Pair {
     NoPair,
     Kept(Host, Host, CueNumber),
 }
 
 // The number of the first original since joining, of another host's source.
-#[derive(Drop)]
+#[derive(Clone, Copy)]
 pub enum Origin {
     NoOrigin,
     From(CueNumber),
@@ -112,7 +114,7 @@ pub enum Origin {
 
 // What an end has done to fetch one of the 64 numbers below a source's first original: the hosts that it tried, and whether the cue was handed
 // out as Late.
-#[derive(Drop)]
+#[derive(Clone, Copy)]
 pub struct Attempt {
     pub tried: Hosts,
     pub late: bool,
@@ -121,7 +123,7 @@ pub struct Attempt {
 // What an end keeps for one of the eight hosts, with a record for each of its latest 64 cue numbers: number n stands at place n mod 64.
 // `missed` is how many numbers were retired without a cue since joining. Of the 64 numbers below the first original, number n has its marks at
 // place n mod 64 of `attempts`.
-#[derive(Drop)]
+#[derive(Clone, Copy)]
 pub struct Source {
     pub span: Span,
     pub missed: u32,
@@ -134,7 +136,7 @@ pub struct Source {
 }
 
 // The state of an end. `next` is the next own cue number, 0..65536.
-#[derive(Drop)]
+#[derive(Clone, Copy)]
 pub struct End {
     pub host: Host,
     pub params: Params,
@@ -145,7 +147,7 @@ pub struct End {
 }
 
 // The moves of an end's membership.
-#[derive(Drop)]
+#[derive(Clone, Copy)]
 pub enum Move {
     Join,
     Joined,
@@ -155,7 +157,7 @@ pub enum Move {
 }
 
 // The events. Send's cue and Arrival's bytes stand beside, since an enum holds no array.
-#[derive(Drop)]
+#[derive(Clone, Copy)]
 pub enum Event {
     Moves(Move),
     Send,
@@ -167,7 +169,7 @@ pub enum Event {
 }
 
 // What a step on one source takes of the end: one's own host, the parameters, and the clock, which is the call's by then.
-#[derive(Drop)]
+#[derive(Clone, Copy)]
 pub struct Moment {
     pub me: Host,
     pub params: Params,
@@ -175,7 +177,7 @@ pub struct Moment {
 }
 
 // The kinds of a message about a name that a decision is made on. (FTCH and LATE have rules of their own.)
-#[derive(Drop)]
+#[derive(Clone, Copy)]
 pub enum Says {
     Data,
     Rqst,
@@ -185,7 +187,7 @@ pub enum Says {
 
 // What a message about a name says to its reader. `host` is the host in the name. The requester is the sender of a RQST or XPRS and the host
 // in the name of a REPL (a DATA has none, and its sender stands there unread); the distance is the reader's to the requester.
-#[derive(Drop)]
+#[derive(Clone, Copy)]
 pub struct Word {
     pub says: Says,
     pub name: Name,
@@ -198,7 +200,7 @@ pub struct Word {
 
 // Why an event is Ignored: document 02, P3, in its order, and P9's last reason. A decision on a message has one of those from NotOpen to
 // RequestQuiet, which lie in the name's source.
-#[derive(Drop)]
+#[derive(Clone, Copy)]
 pub enum Reason {
     Crashed,
     WrongStatus,
@@ -215,7 +217,7 @@ pub enum Reason {
 
 // What the reason call gives: the number of the question that would refuse the event, or why it would be Ignored, or that it would be
 // neither.
-#[derive(Drop)]
+#[derive(Clone, Copy)]
 pub enum Why {
     Refused(u8),
     Because(Reason),
@@ -224,7 +226,7 @@ pub enum Why {
 
 // What is decided on a message about a name: one for each thing that a DATA, RQST, REPL or XPRS may do. BacksOff has the round that waits;
 // Clashes is where the name is held with other bytes; Expresses is where the named sender repairs at once.
-#[derive(Drop)]
+#[derive(Clone, Copy)]
 pub enum Decision {
     Ignores(Reason),
     Opens,
@@ -241,7 +243,7 @@ pub enum Decision {
 // What a call answers. A refusal gives only its number; Out gives the length of the message in the first output bytes; Got
 // gives the name, and its cue is in the first 24 output bytes; Clash gives the name of a held cue that came with other bytes; Late gives the
 // name of a fetched cue, which is in the first 24 output bytes; Exhausted says that no host is left to fetch from.
-#[derive(Drop)]
+#[derive(Clone, Copy)]
 pub enum Answer {
     Refused(u8),
     Out(usize),
@@ -255,7 +257,7 @@ pub enum Answer {
 }
 
 // A wait that is due, as Fire compares it: its rank among waits due at one time (express, request, reply), and for which name.
-#[derive(Drop)]
+#[derive(Clone, Copy)]
 pub struct Wait {
     pub due: u64,
     pub rank: u8,
@@ -269,28 +271,28 @@ pub const REQUEST: u8 = 1;
 pub const REPLY: u8 = 2;
 
 // The earliest wait found so far.
-#[derive(Drop)]
+#[derive(Clone, Copy)]
 pub enum Earliest {
     NoWait,
     First(Wait),
 }
 
 // The nearest host found so far to fetch a cue from, and its distance.
-#[derive(Drop)]
+#[derive(Clone, Copy)]
 pub enum Nearest {
     Nobody,
     Found(Host, u64),
 }
 
 // What a call gives: its answer, and the end that it leaves.
-#[derive(Drop)]
+#[derive(Clone, Copy)]
 pub struct Stepped {
     pub answer: Answer,
     pub end: End,
 }
 
 // What an opening answers: whether it was refused, and the end.
-#[derive(Drop)]
+#[derive(Clone, Copy)]
 pub struct Opened {
     pub verdict: Verdict,
     pub end: End,

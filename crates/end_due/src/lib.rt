@@ -1,5 +1,7 @@
 // The next due time of an end: the least of all its waits, or 2^64-1 where nothing waits. The numbers first..last of each source are gone
 // through once, as Fire goes through them.
+#![tactic(auto)]
+
 ghost use Rattle.std.specs.Prelude.{◌≡◌, ◌+◌, ◌≤◌};
 ghost use Rattle.message.specs.Limit.{number_limit};
 ghost use Rattle.end.specs.Records.{start, width};

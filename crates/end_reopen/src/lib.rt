@@ -1,5 +1,7 @@
 // An end opened again after a restart, with the clock and the next own number that were stored. The definitions are in specs/: Reopen (the end),
 // Reopening (the questions, and what is given). What it equals, the state that Leave and Left leave, is proofs/ReopenLaws.antt.
+#![tactic(auto)]
+
 ghost use Rattle.std.specs.Prelude.{◌≡◌, cond, eqb, leb};
 ghost use Rattle.message.specs.Limit.{number_limit};
 ghost use Rattle.message.specs.Question.{ticks_in};

@@ -1,5 +1,7 @@
 // The lines of the program "windows" and the answers that it prints, one at a time: a line is read, an answer is put into a buffer. The
 // definitions are in specs/: Line.antt (what a line means) and Print.antt (what is printed). The stream of lines is of the crate timetable.
+#![tactic(auto)]
+
 ghost use Rattle.std.specs.Prelude.{◌≡◌, false, cond, [], ◌∷◌, ◌++◌, ◌+◌, ◌/◌, ◌%◌, ◌≤◌, ◌<◌, length};
 ghost use Rattle.decimal.specs.Decimal.{decimal as decimalOf};
 ghost use Rattle.answers.specs.Put.{Put};
@@ -14,14 +16,14 @@ use decimal::Unsigned;
 use openings::{Moment, Opening, Window};
 
 // A date that a word names, which may not exist, or a word that names none.
-#[derive(Drop)]
+#[derive(Clone, Copy)]
 pub enum DateWord {
     Is(Date),
     NoDate,
 }
 
 // What a line asks.
-#[derive(Drop)]
+#[derive(Clone, Copy)]
 pub enum Line {
     Add(Window),
     Next(Moment),

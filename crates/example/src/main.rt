@@ -1,6 +1,8 @@
 // How a host program calls the end: two controllers become members, a cue goes from one to the other, a third one joins late and fetches it,
 // a foyer display follows the sender, and each other event comes once.
 // A call takes an end by value and gives back the end for the next call. Only that one may be used again.
+#![tactic(auto)]
+
 use display::Display;
 use display_window::{Above, Lost};
 use end::{Answer, Draw, End, Params, Stepped};
@@ -143,7 +145,7 @@ fn restarted(host: Host, clock: u64, next: u32) -> End {
 }
 
 // A controller that joined late, and the one that it fetches from.
-#[derive(Drop)]
+#[derive(Clone, Copy)]
 struct Both {
     late: End,
     holder: End,

@@ -3,6 +3,8 @@
 // source of it and stores that back, and has one way out, as the crate transmit's. A message of kind 22 or 23 is a step on the one source that
 // its name is of (specs/Steps.antt), as the crate decide's. They are helpers of the crates above and no calls of the product: what they ask for
 // in their `requires` the call has seen to.
+#![tactic(auto)]
+
 ghost use Rattle.std.specs.Prelude.{◌≡◌, ◌≤◌, ◌<◌, length};
 ghost use Rattle.message.specs.Limit.{host_limit, room_needed};
 ghost use Rattle.end.specs.Answer.{Late, Did, done, answer_of, called_of, buffer_of};

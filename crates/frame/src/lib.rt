@@ -1,6 +1,8 @@
 // The one frame of all events: the questions, the crashed end, the clock, membership. What an event that is taken does is the crate acting's.
 // Its promise, specs/Promise.antt, is that of every event's call. It is a helper of the crate link and no call of the product: it asks in its
 // `requires` for the reading that goes with the event.
+#![tactic(auto)]
+
 ghost use Rattle.std.specs.Prelude.{◌≡◌, cond, ℕ, List};
 ghost use Rattle.end.specs.Answer.{answer_of};
 ghost use Rattle.end.specs.Event.{action_of};

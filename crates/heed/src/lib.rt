@@ -1,6 +1,8 @@
 // A message about a name is heeded: what is decided (`decide`) is done to the name's source, and answered and put out. Each function is one
 // definition of the crate end, specs/Decide.antt. They are helpers of the crates above and no calls of the product: each asks in its
 // `requires` for what soundness and the questions give.
+#![tactic(auto)]
+
 ghost use Rattle.std.specs.Prelude.{◌≡◌, ◌≤◌, length};
 ghost use Rattle.message.specs.Limit.{room_needed};
 ghost use Rattle.end.specs.declared.Decision.TheVariants.{Repairs};

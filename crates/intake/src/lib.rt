@@ -1,5 +1,7 @@
 // Standard input as lines, for the programs that play long lines. Whoever reads keeps the state of reading among its numbers, at FROM and
 // BEFORE; the other numbers are not touched here. No contract can say what is read: these say no more than that reading is safe and ends.
+#![tactic(auto)]
+
 use libc::STDIN_FILENO;
 
 // The bytes of the buffer that are still to be taken: from..before.
@@ -28,7 +30,7 @@ fn feed(line: &mut [u8; 1000], len: usize, b: u8) -> usize {
 }
 
 // Where taking stopped, the length of the line so far, and whether its line feed came.
-#[derive(Drop)]
+#[derive(Clone, Copy)]
 struct Taken {
     at: usize,
     len: usize,

@@ -1,6 +1,8 @@
 // Plays a script that comes in pieces, from bytes to bytes. The definitions are in specs/: Interpreter.antt (where a script stands between
 // two pieces, and what each prints) and Promise.antt. That the pieces together print what `prints_of` says of the whole script, however
 // it is cut, is proofs/Pieces.antt.
+#![tactic(auto)]
+
 ghost use Rattle.std.specs.Prelude.{◌≡◌, true, false, cond, ◌+◌, ◌≤◌, length, take};
 ghost use Rattle.numbers.specs.Splice.{splice};
 ghost use Rattle.end.specs.Opening.{house_params, opening_of};
@@ -17,7 +19,7 @@ use script::{Call, Line};
 
 // The two ends, hosts 0 and 1, and the messages that they have put out, `count` of them, each in a place of 128 bytes. Where it explains,
 // the reason is printed after "ignored".
-#[derive(Drop)]
+#[derive(Clone, Copy)]
 pub struct Pair {
     pub zero: End,
     pub one: End,
@@ -28,7 +30,7 @@ pub struct Pair {
 }
 
 // Where a script stands between two of its pieces: the line so far is the first `len` bytes of its buffer. After "bad" it has stopped.
-#[derive(Drop)]
+#[derive(Clone, Copy)]
 pub struct Playing {
     pub line: [u8; 34],
     pub len: usize,
@@ -37,7 +39,7 @@ pub struct Playing {
 }
 
 // Where the script stands after a piece, how many bytes of the piece are taken, and how many of the output are used.
-#[derive(Drop)]
+#[derive(Clone, Copy)]
 pub struct Progress {
     pub playing: Playing,
     pub taken: usize,
@@ -46,7 +48,7 @@ pub struct Progress {
 
 // What a line gives: the ends and messages after it, how many bytes the next line has so far, whether the script stops, and where the
 // output ends.
-#[derive(Drop)]
+#[derive(Clone, Copy)]
 struct Turned {
     pair: Pair,
     len: usize,

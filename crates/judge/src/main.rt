@@ -1,11 +1,13 @@
 // Reads a run's record from standard input and prints "allowed", the number of the first line that the service's book does not permit, or
 // "refused" with a number: document 02, P13. Here it is only read and written: what a record is judged as, fed in any pieces, is proved of
 // `judgement::feed` and `finish`.
+#![tactic(auto)]
+
 use judgement::Kept;
 use libc::{STDIN_FILENO, STDOUT_FILENO};
 
 // What is kept after a piece, and whether another is to be read.
-#[derive(Drop)]
+#[derive(Clone, Copy)]
 struct Next {
     kept: Kept,
     more: bool,

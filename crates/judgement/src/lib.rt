@@ -1,6 +1,8 @@
 // Judges a run's record that comes in pieces, from bytes to bytes. The definitions are in specs/: Record.antt (the lines of a record, and what is
 // printed) and Pieces.antt (what is kept between two pieces). That the pieces together are judged as the whole record is, however it is cut, is
 // proofs/Pieces.antt.
+#![tactic(auto)]
+
 ghost use Rattle.std.specs.Prelude.{◌≡◌, cond, [], ◌∷◌, ◌++◌, ◌+◌, ◌≤◌, ◌<◌, min, length, take, ltb};
 ghost use Rattle.numbers.specs.Splice.{splice};
 ghost use Rattle.decimal.specs.Decimal.{decimal as decimalOf};
@@ -14,14 +16,14 @@ use ledger::Judgement;
 use record::{Line, Said};
 
 // The lines so far: the first `count` of the places.
-#[derive(Drop)]
+#[derive(Clone, Copy)]
 pub struct Noted {
     pub lines: [Line; 1025],
     pub count: usize,
 }
 
 // What is kept of a record between two of its pieces: the lines, and the next line so far, the first `len` bytes of its buffer.
-#[derive(Drop)]
+#[derive(Clone, Copy)]
 pub struct Kept {
     pub noted: Noted,
     pub line: [u8; 63],
@@ -29,7 +31,7 @@ pub struct Kept {
 }
 
 // How many bytes a line has after those of a piece, whether it is whole, and where the bytes after it start.
-#[derive(Drop)]
+#[derive(Clone, Copy)]
 struct Cut {
     len: usize,
     whole: bool,

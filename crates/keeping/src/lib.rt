@@ -1,5 +1,7 @@
 // The line that a call leaves in a run's record (document 02, P13), found and written down. The definitions are specs/Kept.antt and, in the
 // crate record, Kept.antt and Text.antt.
+#![tactic(auto)]
+
 ghost use Rattle.std.specs.Prelude.{◌≡◌, [], ◌∷◌, ◌++◌, ◌+◌, ◌*◌, ◌≤◌, ◌<◌, length, get_or, take};
 ghost use Rattle.message.specs.Entry.{blank_name};
 ghost use Rattle.end.specs.Answer.{Out};

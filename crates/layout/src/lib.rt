@@ -2,6 +2,8 @@
 // here: the writer asks them, and an end's own messages have their counts by the way they are made. So these are helpers of the crates
 // above, whose `requires` ask for room and for counts that fit the places.
 // The width w of a cue number goes by the message's kind (`message::number_width`).
+#![tactic(auto)]
+
 ghost use Rattle.std.specs.Prelude.{◌≡◌, [], ◌∷◌, ◌+◌, ◌*◌, ◌≤◌, length, take};
 ghost use Rattle.numbers.specs.Number.{digits};
 ghost use Rattle.numbers.specs.Splice.{splice};

@@ -1,6 +1,8 @@
 // Judges the lines of a run's record by the service's book. The definitions are in specs/: Judgement.antt (which lines the book permits, and the
 // judgement) and View.antt (what the book says of one host, source and cue). The book is not kept: what it says of a line follows from the lines
 // before it, of which there are at most 1,024, so a walk over them answers.
+#![tactic(auto)]
+
 ghost use Rattle.std.specs.Prelude.{◌≡◌, ◌-◌, ◌≤◌, ◌<◌, min, take, get_or};
 ghost use Rattle.end.specs.Decide.{same_cue};
 ghost use Rattle.end.specs.Event.{moves_to};
@@ -13,7 +15,7 @@ use message::{CueNumber, Host};
 use record::{Line, Said};
 
 // The judgement of a record: it is allowed, or the number of the first line that is not permitted, or the record is refused.
-#[derive(Drop)]
+#[derive(Clone, Copy)]
 pub enum Judgement {
     Allowed,
     BrokenAt(usize),
@@ -21,7 +23,7 @@ pub enum Judgement {
 }
 
 // What a line is judged by: its host, and the name and cue that it brings.
-#[derive(Drop)]
+#[derive(Clone, Copy)]
 struct Asked {
     host: Host,
     source: Host,
@@ -31,7 +33,7 @@ struct Asked {
 
 // What the book says of that: the host's status; how many cues the source filed, and whether the one under the number is this; whether the
 // host was handed out a cue of the source since it joined, and whether the number may be handed out now.
-#[derive(Drop)]
+#[derive(Clone, Copy)]
 struct View {
     status: Status,
     filed: usize,

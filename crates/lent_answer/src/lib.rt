@@ -1,6 +1,8 @@
 // The plain numbers between a host in C or Rust and the calls. An answer as one number: kind × 2^32 + source × 2^16 + (number, length, refusal or
 // reason); the kinds stand here and in specs/Number.antt once, also those that no answer of an end or a display has. And numbers of 64 bits brought
 // into the width of a field: one that is too large becomes the field's largest, which no host, date or minute has, and is never cut.
+#![tactic(auto)]
+
 ghost use Rattle.std.specs.Prelude.{◌≡◌, ◌≤◌, ◌<◌, min};
 ghost use Rattle.lent_answer.specs.Number.{kind_unit, kind_most, of_kind, host_of, named, out_number, number_of, is_refused};
 

@@ -2,6 +2,8 @@
 // the test of the bytes' form, which is refused as 3, and then the call of the crate link on the end that they hold; what that leaves is written
 // back unless it was refused. The definitions are in specs/: Arguments (plain numbers), Call (events), Open, Reason. The crate cuelink exports these
 // functions to C.
+#![tactic(auto)]
+
 ghost use Rattle.std.specs.Prelude.{◌≡◌, true, ◌≤◌, length};
 ghost use Rattle.end.specs.Event.{Send, Else, Fetch, action_of};
 ghost use Rattle.end.specs.Why.{reason_number};

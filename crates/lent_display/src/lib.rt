@@ -2,6 +2,8 @@
 //   0 mark CD | 1 layout 01 | 2 own 1 | 3 sender 1 | 4 clock 8 | 12 tag 1 (0 unstarted, else 1) | 13 trail 2 | 15 lead 2 | 17 set 8
 // Numbers are big-endian; with tag 0 the rest is 0, so each display has exactly one form. The definitions are in specs/: Bytes (the form), Call (the
 // calls), Rows (two displays and their bytes). What a call does on the display itself is the crate display's.
+#![tactic(auto)]
+
 ghost use Rattle.std.specs.Prelude.{◌≡◌, true, ◌∷◌, ◌++◌, ◌≤◌, length, drop};
 ghost use Rattle.layout.specs.Puts.{Puts};
 ghost use Rattle.lent_fields.specs.Fields.{four};

@@ -1,5 +1,7 @@
 // An end as 31,136 bytes: written, read and tested. The layout is in specs/State.antt; that every end has exactly one form, and that bytes which
 // pass the test are written as they were, is proofs/StateLaws.antt.
+#![tactic(auto)]
+
 ghost use Rattle.std.specs.Prelude.{◌≡◌, ◌+◌, ◌*◌, ◌≤◌, length};
 ghost use Rattle.layout.specs.Puts.{Puts};
 ghost use Rattle.message.specs.Section.{flat};

@@ -1,4 +1,6 @@
 // Numbers of 1, 2, 4 and 8 bytes, the highest byte first. Whoever writes one promises also that it fits, which its type says.
+#![tactic(auto)]
+
 ghost use Rattle.std.specs.Prelude.{◌≡◌, ◌+◌, ◌≤◌, length};
 ghost use Rattle.lent_fields.specs.Fields.{number, PutsNumber, is_option};
 

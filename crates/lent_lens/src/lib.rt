@@ -1,6 +1,8 @@
 // The lens windows of document 02, P10, for a host in C or Rust: find and roll on plain numbers. A number that is too large for its field becomes the
 // field's largest, which no date and no minute has, so it is refused as 15 and never cut. The definitions are in specs/Lens.antt; that the minute found
 // is the earliest is proved of the crate openings.
+#![tactic(auto)]
+
 ghost use Rattle.std.specs.Prelude.{◌≡◌, ◌++◌, ◌+◌, ◌*◌, ◌-◌, ◌≤◌, length, drop, replicate};
 ghost use Rattle.message.specs.Section.{entries};
 ghost use Rattle.lent_lens.specs.Lens.{date_of, moment_of, window_numbers, window_of, places, blank, at_number, opening_code, find_number, roll_number};

@@ -1,6 +1,8 @@
 // What a host reads off the lent bytes of an end without an event, each by its definition in specs/Looks.antt: when to fire, the clock, the
 // status, the next own number, and of a source first, last, missed, origin and distance. Where there is nothing to tell, or the bytes are no
 // state, a look gives NONE. All but `due` read only the bytes of what they tell, after the test of the form.
+#![tactic(auto)]
+
 ghost use Rattle.std.specs.Prelude.{◌≡◌, ◌&&◌, ◌+◌, ◌*◌, ◌<◌, ltb};
 ghost use Rattle.message.specs.Limit.{host_limit};
 ghost use Rattle.lent_end.specs.State.{is_state};

@@ -1,5 +1,7 @@
 // A name's record as 58 bytes, and a source's 64 of them: written, read and tested. The layout is in specs/Bytes.antt; that each record has one
 // form, and that what passes the test is written as it was, is proofs/RecordLaws.antt. A slot's three enums are taken for five numbers first.
+#![tactic(auto)]
+
 ghost use Rattle.std.specs.Prelude.{◌≡◌, ◌+◌, ◌*◌, ◌≤◌, length};
 ghost use Rattle.layout.specs.Puts.{Puts};
 ghost use Rattle.message.specs.Section.{flat};
@@ -13,7 +15,7 @@ use message::Host;
 
 pub const RECORD: usize = 58;
 
-#[derive(Drop)]
+#[derive(Clone, Copy)]
 pub struct Five {
     pub tag: u8,
     pub small: u8,

@@ -1,5 +1,7 @@
 // A source as 3,883 bytes: written, read and tested. The layout is in specs/Source.antt; that each source has one form, and that what passes the
 // test is written as it was, is proofs/SourceLaws.antt.
+#![tactic(auto)]
+
 ghost use Rattle.std.specs.Prelude.{◌≡◌, ◌+◌, ◌≤◌, length};
 ghost use Rattle.layout.specs.Puts.{Puts};
 ghost use Rattle.lent_fields.specs.Fields.{many, all_pass, two, three, four};

@@ -1,9 +1,11 @@
 // Cuts a script into lines as its bytes come. The definitions are in specs/Cut.antt.
+#![tactic(auto)]
+
 ghost use Rattle.std.specs.Prelude.{◌≡◌, drop};
 ghost use Rattle.lines.specs.Cut.{fed_of, line_with, cut_of, line_cut};
 
 // What a byte makes of a line: it goes on, with so many bytes; it is whole, with so many bytes; or it is too long to be played.
-#[derive(Drop)]
+#[derive(Clone, Copy)]
 pub enum Fed {
     More(usize),
     Whole(usize),
@@ -11,7 +13,7 @@ pub enum Fed {
 }
 
 // What became of a line, and where the bytes after it start.
-#[derive(Drop)]
+#[derive(Clone, Copy)]
 pub struct Cut {
     pub fed: Fed,
     pub at: usize,

@@ -3,6 +3,8 @@
 // questions, the crashed end, the clock, membership. Each contract gives the answer and the end by `gives` and the output by `leaves`:
 // the crate end, specs/Event.antt. The last says document 01's number of the answer, 0 where the call was not refused, and its values:
 // the crate frame, specs/Promise.antt.
+#![tactic(auto)]
+
 ghost use Rattle.std.specs.Prelude.{◌≡◌};
 ghost use Rattle.message.specs.Question.{refusal_of};
 ghost use Rattle.end.specs.declared.Move.TheVariants.{Join, Joined, Leave, Left, Crash};

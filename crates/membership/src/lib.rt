@@ -1,6 +1,8 @@
 // Opening an end, and the five moves of its membership: each function is one definition of the crate end, specs/Opening.antt and
 // specs/Event.antt. The moves are a helper of the crates above and no call of the product: they come after the questions, on an end
 // whose clock is set, and ask in their `requires` for what soundness gives.
+#![tactic(auto)]
+
 ghost use Rattle.std.specs.Prelude.{◌≡◌, ◌&&◌, true, ◌<◌};
 ghost use Rattle.message.specs.Limit.{host_limit};
 ghost use Rattle.end.specs.State.{unheard, unheard_sources, fresh_end, with_sources};

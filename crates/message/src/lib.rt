@@ -2,6 +2,8 @@
 // cue's fields), Limit.antt and Kind.antt (the limits, the table of kinds and the kind byte), Entry.antt and Message.antt (the layout),
 // Question.antt (the questions).
 // A test joins its parts by `&` and `|`, in the order in which its definition does.
+#![tactic(auto)]
+
 ghost use Rattle.std.specs.Prelude.{◌≡◌, cond, ◌∷◌, [], ◌+◌, ◌≤◌, min, length, take};
 ghost use Rattle.message.specs.Cue.{fields_of, steps_in, steps_at, cue_in, cue_with};
 ghost use Rattle.message.specs.Section.{all, rises};
@@ -11,36 +13,36 @@ ghost use Rattle.message.specs.Kind.{row_of, row, is_old, kind_of, number_width,
 ghost use Rattle.message.specs.Question.{has_counts, kind_has_counts, name_in, report_in, echo_in, in_range, rule_holds, host_fits, not_from, report_source, echo_host, window_fits, hosts_fit, meaning_questions, first_no, refusal_of, same_host, blank_message};
 
 // A controller on the network, 0..7.
-#[derive(Drop)]
+#[derive(Clone, Copy)]
 pub struct Host(pub u8);
 
 // The number of a cue among those of its source, 0..65535.
-#[derive(Drop)]
+#[derive(Clone, Copy)]
 pub struct CueNumber(pub u16);
 
 // A name: a source with a cue number.
-#[derive(Drop)]
+#[derive(Clone, Copy)]
 pub struct Name {
     pub source: Host,
     pub number: CueNumber,
 }
 
 // A name as a message has it, with a host beside it: who that is goes by the message's kind.
-#[derive(Drop)]
+#[derive(Clone, Copy)]
 pub struct NameEntry {
     pub name: Name,
     pub host: Host,
 }
 
 // A session report: the last cue number that the sender knows of a source.
-#[derive(Drop)]
+#[derive(Clone, Copy)]
 pub struct Report {
     pub source: Host,
     pub last: CueNumber,
 }
 
 // A stamp that the sender heard from a host, and for how many ticks it has held it.
-#[derive(Drop)]
+#[derive(Clone, Copy)]
 pub struct Echo {
     pub host: Host,
     pub stamp: u64,
@@ -48,7 +50,7 @@ pub struct Echo {
 }
 
 // How many names, cues, reports and echoes a message has.
-#[derive(Drop)]
+#[derive(Clone, Copy)]
 pub struct Counts {
     pub names: usize,
     pub cues: usize,
@@ -58,7 +60,7 @@ pub struct Counts {
 
 // A message. Of the names, reports and echoes the first places are used, as many as the counts say; `cue` is the one place for
 // a cue.
-#[derive(Drop)]
+#[derive(Clone, Copy)]
 pub struct Message {
     pub kind: u8,
     pub sender: Host,
@@ -71,7 +73,7 @@ pub struct Message {
 }
 
 // Whether a call was refused, with document 01's number of the question that was answered no. Probe is the reader's alone: no bytes.
-#[derive(Drop)]
+#[derive(Clone, Copy)]
 pub enum Verdict {
     Accepted,
     Probe,
@@ -79,21 +81,21 @@ pub enum Verdict {
 }
 
 // What the reader answers: the message, or a probe or a refusal beside a message of zeros.
-#[derive(Drop)]
+#[derive(Clone, Copy)]
 pub struct Reading {
     pub verdict: Verdict,
     pub message: Message,
 }
 
 // What the writer answers: the length of what it wrote, or a refusal beside 0.
-#[derive(Drop)]
+#[derive(Clone, Copy)]
 pub struct Written {
     pub verdict: Verdict,
     pub len: usize,
 }
 
 // The fields of a cue: four offsets in motor steps, and the lamp's power.
-#[derive(Drop)]
+#[derive(Clone, Copy)]
 pub struct CueFields {
     pub focus: i16,
     pub zoom: i16,
@@ -103,7 +105,7 @@ pub struct CueFields {
 }
 
 // Who the host beside a name is.
-#[derive(Drop)]
+#[derive(Clone, Copy)]
 pub enum HostRule {
     SourceAndSender,
     SenderNotSource,
@@ -114,7 +116,7 @@ pub enum HostRule {
 
 // A row of the table of kinds: whether it is a kind at all, how many names and cues its messages have, how many reports and echoes at
 // most, and the rule of the host beside a name.
-#[derive(Drop)]
+#[derive(Clone, Copy)]
 pub struct Row {
     pub known: bool,
     pub names: usize,

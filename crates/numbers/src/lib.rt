@@ -1,5 +1,7 @@
 // Big-endian numbers in a byte slice, and two bytes as an i16. The functions here are helpers of the crates above and no calls
 // of the product: each asks in its `requires` that the bytes are there, which its callers have counted already.
+#![tactic(auto)]
+
 pub mod bits;
 
 ghost use Rattle.std.specs.Prelude.{◌≡◌, ◌+◌, ◌^◌, ◌≤◌, ◌<◌, ◌∷◌, [], length, take, drop};

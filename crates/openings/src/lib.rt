@@ -1,5 +1,7 @@
 // Windows of the year in which motors may move, and the earliest open minute from a given one on. The definitions are in
 // specs/Windows.antt and specs/Find.antt; what is proved of them, that the minute found is the earliest, is stated in specs/Promise.antt.
+#![tactic(auto)]
+
 ghost use Rattle.std.specs.Prelude.{◌≡◌, max, min, take};
 ghost use Rattle.openings.specs.Windows.{window_exists, before};
 ghost use Rattle.openings.specs.Find.{lasts_on, candidate_of, first_of, earlier_of, find_of};
@@ -8,7 +10,7 @@ ghost use Rattle.openings.specs.Pass.{start_of, with_window};
 use calendar::Date;
 
 // A span of dates, both included, and a span of minutes of the day, the start included and the end excluded.
-#[derive(Drop)]
+#[derive(Clone, Copy)]
 pub struct Window {
     pub first: Date,
     pub last: Date,
@@ -17,14 +19,14 @@ pub struct Window {
 }
 
 // A minute of a day.
-#[derive(Drop)]
+#[derive(Clone, Copy)]
 pub struct Moment {
     pub date: Date,
     pub minute: u16,
 }
 
 // What a search answers: a minute, that there is none up to the end of 2099, or the number of a refusal.
-#[derive(Drop)]
+#[derive(Clone, Copy)]
 pub enum Opening {
     At(Moment),
     None,

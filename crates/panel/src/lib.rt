@@ -1,6 +1,8 @@
 // The calls of a panel's software in C: the reader's verdict, the writer for DATA and the cue test, as plain numbers and byte buffers.
 // The C header is panel/panel.h at the repository's root. A buffer comes from C as a pointer and a length.
 // What they promise is in specs/Answers.antt. They ask nothing of their caller but buffers of the lengths that it says.
+#![tactic(auto)]
+
 ghost use Rattle.std.specs.Prelude.{◌≡◌, length};
 ghost use Rattle.message.specs.Entry.{cue_width};
 ghost use Rattle.message.specs.Message.{held_as};

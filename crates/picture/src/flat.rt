@@ -13,7 +13,7 @@ pub const WAITS: u64 = 2;
 
 pub const REPLIES: u64 = 3;
 
-#[derive(Drop)]
+#[derive(Clone, Copy)]
 pub struct Held {
     pub kind: u64,
     pub a: u64,
@@ -24,7 +24,7 @@ pub struct Held {
 }
 
 // A record: what it holds, its cue's bytes as three numbers, and its reply-quiet.
-#[derive(Drop)]
+#[derive(Clone, Copy)]
 pub struct Flat {
     pub held: Held,
     pub first: u64,
@@ -35,7 +35,7 @@ pub struct Flat {
 
 // A source without its records and attempts. `open`, `paired`, `heard` and `known` are 0 or 1, and what counts only with 1 is else 0.
 // `reported` has a bit for each source that the heard message reported; `known` says whether there is a first original, `origin`.
-#[derive(Drop)]
+#[derive(Clone, Copy)]
 pub struct Head {
     pub open: u64,
     pub first: u64,
@@ -55,7 +55,7 @@ pub struct Head {
 }
 
 // What was done to fetch a number: a bit for each host that was tried, and 0 or 1 for Late.
-#[derive(Drop)]
+#[derive(Clone, Copy)]
 pub struct Marks {
     pub tried: u64,
     pub late: u64,

@@ -1,6 +1,8 @@
 // Plays a trace from standard input, and prints what docs/TRACES.md says. A line's calls are in the crate desk; here is what stands
 // around them. The ends of a trace lie in `run`, by value: what a line changes is copied out and back. It is a tool of tests: its contracts say
 // no more than that it is safe.
+#![tactic(auto)]
+
 mod play;
 mod turn;
 

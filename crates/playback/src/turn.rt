@@ -7,7 +7,7 @@ use trace::words;
 
 // What is to be done with the ends: a line on one of them, at `who`, and beside it another, at `other`, which is the same one but for
 // `copy` and `ask same`; or all are to be opened; or nothing.
-#[derive(Drop)]
+#[derive(Clone, Copy)]
 pub struct Turn {
     pub who: usize,
     pub other: usize,

@@ -1,5 +1,7 @@
 // Plays a line of a script on the end that it names, and prints what it gives. The definitions are in specs/: Play.antt (what a line
 // gives), Explain.antt (the reason after "ignored") and House.antt (what is printed, for a line and for a whole script).
+#![tactic(auto)]
+
 ghost use Rattle.std.specs.Prelude.{◌≡◌, true, cond, ◌+◌, ◌*◌, ◌≤◌, ◌<◌, length};
 ghost use Rattle.message.specs.Cue.{steps_at};
 ghost use Rattle.store.specs.Store.{most, room, message_in, first_messages, messages_in};
@@ -19,14 +21,14 @@ use script::Verb;
 use store::{MOST, ROOM};
 
 // What is printed for a line: its answer, or "bad", after which the house stops.
-#[derive(Drop)]
+#[derive(Clone, Copy)]
 pub enum Printed {
     Bad,
     Shows(Shown),
 }
 
 // What a played line gives: what is printed, the end that is left, and how many messages there are then.
-#[derive(Drop)]
+#[derive(Clone, Copy)]
 pub struct Played {
     pub printed: Printed,
     pub end: End,
@@ -34,14 +36,14 @@ pub struct Played {
 }
 
 // What an answer tells: what is printed, and how many messages there are then.
-#[derive(Drop)]
+#[derive(Clone, Copy)]
 struct Told {
     printed: Printed,
     count: usize,
 }
 
 // What an event gives, and why it was ignored, where that is asked for.
-#[derive(Drop)]
+#[derive(Clone, Copy)]
 struct Happened {
     stepped: Stepped,
     why: Why,

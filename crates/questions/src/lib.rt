@@ -1,5 +1,7 @@
 // The questions that an event asks before it moves an end: `question_of` of the crate end, specs/Event.antt. A question that is answered
 // no gives its number; otherwise the questions after it decide.
+#![tactic(auto)]
+
 ghost use Rattle.std.specs.Prelude.{◌≡◌, cond, List, ℕ, leb};
 ghost use Rattle.message.specs.Question.{first_no, ticks_in};
 ghost use Rattle.end.specs.Sound.{sound_of};

@@ -1,5 +1,7 @@
 // The reader: any bytes to a message, or to the number of the question that they fail; no bytes are a probe. Its promise is `read_of` of
 // the crate message, specs/Question.antt.
+#![tactic(auto)]
+
 ghost use Rattle.std.specs.Prelude.{◌≡◌, ◌++◌, ◌+◌, ◌*◌, ◌-◌, ◌≤◌, ◌<◌, length, get_or, take, drop, replicate};
 ghost use Rattle.numbers.specs.Number.{value};
 ghost use Rattle.message.specs.Kind.{widest_number};

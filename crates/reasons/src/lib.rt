@@ -1,5 +1,7 @@
 // Why an event would be ignored: the reason call, and what it finds of an event that is not refused, one definition of specs/Reason.antt each.
 // The crate link gives the call under its own name.
+#![tactic(auto)]
+
 ghost use Rattle.std.specs.Prelude.{◌≡◌};
 ghost use Rattle.message.specs.Message.{meaning_of};
 ghost use Rattle.end.specs.Event.{action_of};

@@ -4,6 +4,8 @@
 // further copy or way out would cost a copy of the whole state. Nothing here refuses, tests the membership or sets the clock: these are
 // the calls' frame, in the crate frame. What a message says is the crate says, and what a SESS does to a source the crate session. Helpers of
 // the crates above and no calls of the product: each asks in its `requires` for what soundness and the questions give.
+#![tactic(auto)]
+
 ghost use Rattle.std.specs.Prelude.{◌≡◌, true, ◌-◌, ◌<◌, length, get_or};
 ghost use Rattle.message.specs.Limit.{number_limit};
 ghost use Rattle.message.specs.Entry.{blank_report};

@@ -1,4 +1,6 @@
 // A line of a run's record, read. The definitions are in specs/: Line.antt (what a line means) and Text.antt (what it is written as).
+#![tactic(auto)]
+
 ghost use Rattle.std.specs.Prelude.{◌≡◌, cond, ◌∷◌, ◌+◌, ◌*◌, ◌<◌};
 ghost use Rattle.script.specs.Words.{words, space_in, same as sameWord};
 ghost use Rattle.record.specs.declared.MoveWord.TheVariants.{Is};
@@ -9,7 +11,7 @@ use end::Move;
 use message::{CueNumber, Host, Name};
 
 // What a line says; the cue of a Sent and of a Got stands beside it.
-#[derive(Drop)]
+#[derive(Clone, Copy)]
 pub enum Said {
     Malformed,
     Moved(Move, Host),
@@ -18,21 +20,21 @@ pub enum Said {
 }
 
 // A line of a run's record. Where it has no cue, the 24 bytes are zeros.
-#[derive(Drop)]
+#[derive(Clone, Copy)]
 pub struct Line {
     pub said: Said,
     pub cue: [u8; 24],
 }
 
 // A move, or a word that is none.
-#[derive(Drop)]
+#[derive(Clone, Copy)]
 pub enum MoveWord {
     Is(Move),
     NoMove,
 }
 
 // Whether a word is a cue in range, and its bytes.
-#[derive(Drop)]
+#[derive(Clone, Copy)]
 pub struct CueWord {
     pub there: bool,
     pub cue: [u8; 24],

@@ -1,6 +1,8 @@
 // A source's records by cue number: each function is one definition of the crate end, specs/Records.antt and specs/Names.antt. They
 // are helpers of the crates above and no calls of the product: each asks in its `requires` for what soundness and the questions give.
 // Where a number's record and draw stand is said by `state::place` alone. What happens when last rises is the crate rises.
+#![tactic(auto)]
+
 ghost use Rattle.std.specs.Prelude.{◌≡◌, cond, ◌+◌, ◌≤◌, ◌<◌, length};
 ghost use Rattle.message.specs.Limit.{ticks_limit};
 ghost use Rattle.end.specs.State.{blank_record, with_origin};

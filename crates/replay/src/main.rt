@@ -1,4 +1,6 @@
 // Plays a trace from standard input on the compiled product: docs/TRACES.md. Behind the program's name may stand `rows`, `words` or `record`.
+#![tactic(auto)]
+
 use trace::words;
 
 fn main() {

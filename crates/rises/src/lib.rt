@@ -2,6 +2,8 @@
 // function is a part of the definition `rise_with` of the crate end, specs/Names.antt; `rise_to` and `rise_by_data` are the whole of it, one
 // for all events but a DATA, one for a DATA. They are helpers of the crates above and no calls of the product: each asks in its `requires`
 // for what soundness and the questions give.
+#![tactic(auto)]
+
 ghost use Rattle.std.specs.Prelude.{◌≡◌, ◌-◌, ◌≤◌, ◌<◌, min, max, length};
 ghost use Rattle.message.specs.Limit.{number_limit};
 ghost use Rattle.end.specs.Records.{is_held, raw_at};

@@ -1,6 +1,8 @@
 // What a message says of a name: its word, with its name, its cue and who asked; and whose source it is about, and how many of its reports are
 // heard. Each function is one definition of specs/Said.antt or of the crate end, specs/Arrival.antt. They are helpers of the crate receive and
 // no calls of the product.
+#![tactic(auto)]
+
 ghost use Rattle.std.specs.Prelude.{◌≡◌, cond, ◌||◌};
 ghost use Rattle.message.specs.Message.{meaning_of};
 ghost use Rattle.message.specs.Question.{same_host};

@@ -1,5 +1,7 @@
 // A line of a script, read. The definitions are in specs/: Words.antt (the words between the spaces) and Line.antt (what a line
 // means).
+#![tactic(auto)]
+
 ghost use Rattle.std.specs.Prelude.{◌≡◌, cond, ◌≤◌, ◌<◌, length};
 ghost use Rattle.script.specs.declared.VerbWord.TheVariants.{Is};
 ghost use Rattle.script.specs.Words.{words, same as sameWord};
@@ -10,7 +12,7 @@ use decimal::{Signed, Unsigned};
 use message::Host;
 
 // What a line asks of an end: a focus is sent, the message with a number is heard.
-#[derive(Drop)]
+#[derive(Clone, Copy)]
 pub enum Verb {
     Join,
     Joined,
@@ -24,14 +26,14 @@ pub enum Verb {
 }
 
 // A verb, or a word that is none.
-#[derive(Drop)]
+#[derive(Clone, Copy)]
 pub enum VerbWord {
     Is(Verb),
     NoVerb,
 }
 
 // A line's end, host 0 or 1, with its verb and its clock.
-#[derive(Drop)]
+#[derive(Clone, Copy)]
 pub struct Call {
     pub end: Host,
     pub verb: Verb,
@@ -39,7 +41,7 @@ pub struct Call {
 }
 
 // What a line means.
-#[derive(Drop)]
+#[derive(Clone, Copy)]
 pub enum Line {
     Play(Call),
     Malformed,
@@ -174,7 +176,7 @@ fn line_from(e: Unsigned, v: VerbWord, t: Unsigned) -> Line
 }
 
 // Where the first four words of a line end: at a space, or at the line's end. From there on there is no word.
-#[derive(Drop)]
+#[derive(Clone, Copy)]
 struct Ends {
     first: usize,
     second: usize,

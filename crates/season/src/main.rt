@@ -2,6 +2,8 @@
 // too, hears one message in a thousand, and in the end host 0's report. The rows on the way show the sender's next number and its own first
 // and last; and beside them how many cues the reader got, and what it has of the sender: first, last, and how many numbers were retired
 // without a cue. In each row these are the numbers below the reader's first that it did not get. Then the answers are counted.
+#![tactic(auto)]
+
 use end::{Answer, Draw, End, Params, Source, Span, Stepped};
 use libc::STDOUT_FILENO;
 use message::{CueNumber, Host};
@@ -12,7 +14,7 @@ const SENDS: u64 = 65536;
 const HEARD: u64 = 1000;
 
 // How often each answer came.
-#[derive(Drop)]
+#[derive(Clone, Copy)]
 struct Counts {
     outs: u64,
     gots: u64,
@@ -20,7 +22,7 @@ struct Counts {
     others: u64,
 }
 
-#[derive(Drop)]
+#[derive(Clone, Copy)]
 struct Season {
     sender: End,
     reader: End,

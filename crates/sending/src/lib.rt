@@ -1,6 +1,8 @@
 // Send of a member whose clock is set and whose questions were answered: `send_of` of the crate end, specs/Event.antt. It takes one working copy
 // of the end, changes the own source of it and stores that back, and has one way out, as the crate transmit's. These are helpers of the crates
 // above and no calls of the product: what they ask for in their `requires`, the records of specs/Given.antt, the call has seen to.
+#![tactic(auto)]
+
 ghost use Rattle.std.specs.Prelude.{◌≡◌, length};
 ghost use Rattle.end.specs.Answer.{Did, done, called_of, buffer_of};
 ghost use Rattle.end.specs.Event.{extended, sent_source, send_of};

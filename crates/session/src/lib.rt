@@ -1,6 +1,8 @@
 // What a SESS does to a source: a report may make its last rise, and of its sender the distance is measured and what it reported is kept. Each
 // function is one definition of the crate end, specs/Session.antt. They are helpers of the crate receive and no calls of the product: each asks
 // in its `requires` for what soundness and the questions give.
+#![tactic(auto)]
+
 ghost use Rattle.std.specs.Prelude.{◌≡◌, true, cond, ◌&&◌, ◌+◌, ◌-◌, ◌≤◌, ◌<◌, length, take, leb};
 ghost use Rattle.message.specs.Limit.{number_limit, ticks_limit};
 ghost use Rattle.message.specs.Section.{all};

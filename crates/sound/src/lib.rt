@@ -1,5 +1,7 @@
 // Question 3: whether a state is sound, as a test of any state value whatever. Its promise is `sound_of` of the crate end,
 // specs/Sound.antt; each function here is one definition of that file. The state is gone through once.
+#![tactic(auto)]
+
 ghost use Rattle.std.specs.Prelude.{◌≡◌, ◌&&◌, ◌<◌, length, eqb};
 ghost use Rattle.numbers.specs.Bits.{bit};
 ghost use Rattle.message.specs.Limit.{host_limit, number_limit};

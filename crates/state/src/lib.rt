@@ -1,6 +1,8 @@
 // The parts of an end that the steps read and change, each function one definition of the crate end, specs/State.antt and
 // specs/Records.antt. They are helpers of the crates above and no calls of the product. A field of Source or End that is added later is
 // a line in each setter here.
+#![tactic(auto)]
+
 ghost use Rattle.std.specs.Prelude.{◌≡◌, ◌<◌};
 ghost use Rattle.message.specs.Limit.{number_limit};
 ghost use Rattle.end.specs.State.{no_attempt, moment_of, is_member, is_crashed};
@@ -17,7 +19,7 @@ use end::{
 use message::CueNumber;
 
 // What a step changes: its answer, and the one source that it was given, as the step leaves it.
-#[derive(Drop)]
+#[derive(Clone, Copy)]
 pub struct Change {
     pub answer: Answer,
     pub source: Source,

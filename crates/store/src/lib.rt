@@ -1,5 +1,7 @@
 // The messages that a house keeps, each in a place of 128 bytes. The definitions are in specs/Store.antt. The functions here are
 // helpers of the crates above: each asks in its `requires` for the places that it uses.
+#![tactic(auto)]
+
 ghost use Rattle.std.specs.Prelude.{◌≡◌, ◌∷◌, [], ◌++◌, suc, ◌+◌, ◌*◌, ◌≤◌, ◌<◌, min, length, get_or};
 ghost use Rattle.store.specs.Store.{room, first_messages};
 

@@ -1,5 +1,7 @@
 // What a call takes its event for: the reading that goes with it, a probe as a Report, and whether an end takes it. Each function is one
 // definition of specs/Taking.antt. Helpers of the calls' frame and of the reason call, and no calls of the product.
+#![tactic(auto)]
+
 ghost use Rattle.std.specs.Prelude.{◌≡◌};
 ghost use Rattle.taking.specs.Taking.{nothing_read, reading_for, is_probe, taken_as, takes};
 

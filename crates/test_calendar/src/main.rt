@@ -1,5 +1,7 @@
 // Walks the calendar from its first day to its last, a roll at a time, and prints every month's last day, 29 February among them, with the
 // day after it. The stored output is Python's: twin/calendar.py.
+#![tactic(auto)]
+
 use calendar::Date;
 use libc::STDOUT_FILENO;
 

@@ -1,13 +1,15 @@
 // Plays the scripts of standard input, each on a fresh house, by the same functions as the program house. A line that starts with `next`
 // comes before each script and is printed as it is. Each script is played three times, in pieces of 1 byte, of 7 bytes, and whole; what
 // is printed must be the same. The input, and what one script prints, has at most 16384 bytes. What the scripts of the stored run are for is in SCRIPTS.md.
+#![tactic(auto)]
+
 ghost use Rattle.std.specs.Prelude.{◌≡◌, ◌≤◌, ◌<◌, length};
 
 use interpreter::Playing;
 use libc::{STDIN_FILENO, STDOUT_FILENO};
 
 // Where a script stands after a piece: how much of it is taken, and how much is printed.
-#[derive(Drop)]
+#[derive(Clone, Copy)]
 struct Reached {
     playing: Playing,
     at: usize,

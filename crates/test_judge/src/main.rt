@@ -1,12 +1,14 @@
 // Judges the records of standard input, each by the same functions as the program judge. A line that starts with `next` comes before each record
 // and is printed as it is. Each record is judged three times, in pieces of 1 byte, of 7 bytes, and whole; what is printed must be the same. The
 // input has at most 65536 bytes. What the records of the stored run are for is in RECORDS.md.
+#![tactic(auto)]
+
 ghost use Rattle.std.specs.Prelude.{◌≤◌, ◌<◌, length};
 
 use libc::{STDIN_FILENO, STDOUT_FILENO};
 
 // What is printed for a record: the first `len` bytes.
-#[derive(Drop)]
+#[derive(Clone, Copy)]
 struct Printed {
     out: [u8; 32],
     len: usize,

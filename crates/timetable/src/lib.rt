@@ -1,6 +1,8 @@
 // The lines of the program "windows", from bytes to bytes. What a line means and how an answer is printed is of the crate entries. The
 // definitions are in specs/: Table.antt (the list of windows after a line, and what the line prints) and Run.antt (where a run stands between
 // two of its pieces). That the pieces together print what the whole prints, however it is cut, is proofs/Pieces.antt.
+#![tactic(auto)]
+
 ghost use Rattle.std.specs.Prelude.{◌≡◌, false, [], ◌+◌, ◌≤◌, ◌<◌, min, length, take};
 ghost use Rattle.numbers.specs.Splice.{splice};
 ghost use Rattle.entries.specs.Line.{line_of};
@@ -14,14 +16,14 @@ use entries::Line;
 use openings::{Moment, Window};
 
 // The list of windows: the first `count` of the places.
-#[derive(Drop)]
+#[derive(Clone, Copy)]
 pub struct Table {
     pub places: [Window; 33],
     pub count: usize,
 }
 
 // Where a run stands between two pieces: the line so far is the first `len` bytes of its buffer. After "bad" it has stopped.
-#[derive(Drop)]
+#[derive(Clone, Copy)]
 pub struct Playing {
     pub line: [u8; 40],
     pub len: usize,
@@ -30,7 +32,7 @@ pub struct Playing {
 }
 
 // Where the run stands after a piece, how many bytes of the piece are taken, and how many of the output are used.
-#[derive(Drop)]
+#[derive(Clone, Copy)]
 pub struct Progress {
     pub playing: Playing,
     pub taken: usize,
@@ -38,7 +40,7 @@ pub struct Progress {
 }
 
 // The list after a line, whether the run stops, and where the output ends.
-#[derive(Drop)]
+#[derive(Clone, Copy)]
 struct Turned {
     table: Table,
     stopped: bool,
@@ -46,7 +48,7 @@ struct Turned {
 }
 
 // Where the run stands after a byte, and where the output ends.
-#[derive(Drop)]
+#[derive(Clone, Copy)]
 struct Step {
     playing: Playing,
     used: usize,

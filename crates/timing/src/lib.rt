@@ -1,6 +1,8 @@
 // When a request and a reply are due, and how far a host is: each function is one definition of the crate end, specs/Round.antt.
 // They are helpers of the crates above and no calls of the product: each asks in its `requires` for the ranges that soundness and
 // questions 3 and 4 give, so that no product leaves 64 bits.
+#![tactic(auto)]
+
 ghost use Rattle.std.specs.Prelude.{◌≡◌, ◌*◌, ◌≤◌, ◌<◌};
 ghost use Rattle.message.specs.Limit.{ticks_limit};
 ghost use Rattle.end.specs.Round.{factor, share, request_with, next_round, reply_with, quiet_after_reply, half_trip};

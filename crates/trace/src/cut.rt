@@ -2,7 +2,7 @@
 use crate::{LONGEST, byte_at};
 
 // A line without its remark: the call before `end`; where an answer is expected, its words from `from` on and before `to`.
-#[derive(Drop)]
+#[derive(Clone, Copy)]
 pub struct Parts {
     pub end: usize,
     pub expects: bool,

@@ -3,6 +3,8 @@
 // malformed, and then all further words are malformed too. So a line is read to its end without a test after each word, and it
 // is well written where `at` comes to stand at its end: whole. These are tools of tests: their contracts say no more than that they are safe and
 // end.
+#![tactic(auto)]
+
 pub mod composed;
 pub mod cut;
 pub mod words;

@@ -2,6 +2,8 @@
 // `announce_of` of the crate end, specs/Event.antt and specs/Fire.antt. Fire takes one working copy of the end, changes one source of it and
 // stores that back. Each has one way out: each further one would cost a copy of the end. They are helpers of the crates above and no calls
 // of the product: what they ask for in their `requires`, the records of specs/Given.antt, the call has seen to.
+#![tactic(auto)]
+
 ghost use Rattle.std.specs.Prelude.{◌≡◌, [], ◌≤◌, length};
 ghost use Rattle.message.specs.Limit.{room_needed};
 ghost use Rattle.end.specs.Ready.{Ranges, Numbered};

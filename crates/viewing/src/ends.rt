@@ -5,7 +5,7 @@ use picture::text;
 use trace::words;
 
 // What the line of an event says: its word and clock, and the focus of a `send`, which is 0 for the others.
-#[derive(Drop)]
+#[derive(Clone, Copy)]
 struct Said {
     word: u64,
     clock: u64,

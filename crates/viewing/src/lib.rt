@@ -1,5 +1,7 @@
 // Plays a script of docs/DISPLAYS.md from standard input on two ends and a display, and prints what they answer. What the calls give is proved
 // of `link` and `display`; this is a tool around them, and its contracts say no more than that it is safe and ends.
+#![tactic(auto)]
+
 mod answer;
 mod ends;
 mod kept;

@@ -1,5 +1,7 @@
 // Reads windows of the year and questions from standard input and prints the next open minute, or the day after a date: document 02, P10.
 // Here it is only read and written: what a piece of the input prints, and where the run stands then, is proved of `timetable::feed`, `finish`.
+#![tactic(auto)]
+
 ghost use Rattle.std.specs.Prelude.{◌≡◌, false, ◌≤◌, ◌<◌, length, take};
 ghost use Rattle.timetable.specs.Run.{after, standing};
 
@@ -7,7 +9,7 @@ use libc::{STDIN_FILENO, STDOUT_FILENO};
 use timetable::{Playing, Progress};
 
 // Where the run stands after a piece, and whether another is to be read.
-#[derive(Drop)]
+#[derive(Clone, Copy)]
 struct Next {
     playing: Playing,
     more: bool,

@@ -1,5 +1,7 @@
 // The writer: a message into the first bytes of an output, or the number of the question that it fails; and the probe, which is no bytes.
 // Its promises are `written_of` and `output_of` of the crate message, specs/Question.antt.
+#![tactic(auto)]
+
 ghost use Rattle.std.specs.Prelude.{◌≡◌};
 ghost use Rattle.message.specs.Message.{Probe, Saying};
 ghost use Rattle.message.specs.Question.{first_no, room_questions, refusal_of, write_refusal, written_of, output_of};

@@ -1,4 +1,3 @@
--- `message::cue_with` meets its contract: five writes, each at the end of the one before, are one write of ten bytes.
 use mathlib.Core.Path.{◌≡◌, ap, ◌∙◌}
 use Prim.Native.Nat.{ℕ, ◌+◌}
 use mathlib.Core.List.{List, ◌++◌, append_assoc}
@@ -13,9 +12,9 @@ use Rattle.numbers.proofs.NumberLaws.{length_digits}
 use Rattle.numbers.proofs.SpliceLaws.{put_next, splice-start}
 use Rattle.message.specs.Cue.{cue_with}
 use borrow.Author.Rules.{rules}
-use Rattle.message.proofs.cue_with.Statement.{statement}
-use Rattle.message.proofs.cue_with.Tie as tie
+use Rattle.message.proofs.cue_with.Goals as goal
 
+-- `message::cue_with` meets its contract: five writes, each at the end of the one before, are one write of ten bytes.
 -- five numbers of two bytes, written one after the other over zeros
 five : (a b d e g : List ℕ) (s1 s2 s3 s4 s5 : List ℕ)
     → length a ≡ 2 → length b ≡ 2 → length d ≡ 2 → length e ≡ 2 → length g ≡ 2
@@ -33,7 +32,7 @@ five a b d e g s1 s2 s3 s4 s5 la lb ld le lg p1 p2 p3 p4 p5 =
     let q5 : s5 ≡ splice 0 ((((a ++ b) ++ d) ++ e) ++ g) z = put_next z 0 8 (((a ++ b) ++ d) ++ e) g (omega arith) (omega arith) q4 p5 in
     q5 ∙ splice-start ((((a ++ b) ++ d) ++ e) ++ g) z ∙ ap (λ (n : ℕ). ((((a ++ b) ++ d) ++ e) ++ g) ++ drop n z) l5 ∙ simp append_assoc
 
-returns : tie.Need-returns
+pub returns : goal.returns
 unfolding cue_with
 returns c =
     let lamp = c.before in
@@ -45,26 +44,10 @@ returns c =
     let bytes : ℤ → List ℕ = λ z. digits 2 (unsigned z) in
     let wide : (n : ℕ) → length (digits 2 n) ≡ 2 = length_digits 2 in
     five (bytes a.args.focus) (bytes a.args.zoom) (bytes a.args.sideways) (bytes a.args.upright) (digits 2 a.args.lamp)
-    focus.put-i16.new.0 zoom.put-i162.new.0 sideways.put-i163.new.0 upright.put-i164.new.0 lamp.put-be.new.0
+    focus.put_i16.new.out zoom.put_i16-2.new.out sideways.put_i16-3.new.out upright.put_i16-4.new.out lamp.put_be.new.out
     (wide _) (wide _) (wide _) (wide _) (wide _)
-    (focus.put-i16.ensures ∙ ap (λ (z : ℤ). splice 0 (bytes z) (replicate 24 0)) (to_z-of_z a.ranges.focus))
-    (zoom.put-i162.ensures ∙ ap (λ (z : ℤ). splice 2 (bytes z) focus.put-i16.new.0) (to_z-of_z a.ranges.zoom))
-    (sideways.put-i163.ensures ∙ ap (λ (z : ℤ). splice 4 (bytes z) zoom.put-i162.new.0) (to_z-of_z a.ranges.sideways))
-    (upright.put-i164.ensures ∙ ap (λ (z : ℤ). splice 6 (bytes z) sideways.put-i163.new.0) (to_z-of_z a.ranges.upright))
-    lamp.put-be.ensures
-
-pub cue-with-spec : {M : Type 1} → statement M
-cue-with-spec =
-    tie.close
-    (tie.spec
-    (λ c. search rules)
-    (λ c κs. search rules)
-    (λ c. search rules)
-    (λ c κs. search rules)
-    (λ c. search rules)
-    (λ c κs. search rules)
-    (λ c. search rules)
-    (λ c κs. search rules)
-    (λ c. search rules)
-    (λ c κs. search rules)
-    returns)
+    (focus.put_i16.ensures ∙ ap (λ (z : ℤ). splice 0 (bytes z) (replicate 24 0)) (to_z-of_z a.ranges.focus))
+    (zoom.put_i16-2.ensures ∙ ap (λ (z : ℤ). splice 2 (bytes z) focus.put_i16.new.out) (to_z-of_z a.ranges.zoom))
+    (sideways.put_i16-3.ensures ∙ ap (λ (z : ℤ). splice 4 (bytes z) zoom.put_i16-2.new.out) (to_z-of_z a.ranges.sideways))
+    (upright.put_i16-4.ensures ∙ ap (λ (z : ℤ). splice 6 (bytes z) sideways.put_i16-3.new.out) (to_z-of_z a.ranges.upright))
+    lamp.put_be.ensures

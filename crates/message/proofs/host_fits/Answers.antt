@@ -1,18 +1,14 @@
--- `message::host_fits` meets its contract: the rule of the kind's row.
 use mathlib.Core.Path.{◌≡◌, ap, ◌∙◌}
 use mathlib.Core.Bool.{Bool}
 use borrow.Author.Rules.{rules}
 use Rattle.message.specs.Question.{rule_holds}
 use Rattle.message.specs.declared.Row.{Row}
-use Rattle.message.proofs.host_fits.Statement.{statement}
-use Rattle.message.proofs.host_fits.Tie as tie
+use Rattle.message.proofs.host_fits.Goals as goal
 
+-- `message::host_fits` meets its contract: the rule of the kind's row.
 -- the rule of a row that is another's
 at_row : {x y : Row} (source sender own : Bool) → x ≡ y → rule_holds x.host source sender own ≡ rule_holds y.host source sender own
 at_row source sender own e = ap (λ (r : Row). rule_holds r.host source sender own) e
 
-returns : tie.Need-returns
-returns c = c.rule-holds.ensures ∙ at_row _ _ _ c.before.row_of.ensures
-
-pub host-fits-spec : {M : Type 1} → statement M
-host-fits-spec = tie.close (tie.spec (λ c κs. search rules) (λ c κs. search rules) returns)
+pub returns : goal.returns
+returns c = c.rule_holds.ensures ∙ at_row _ _ _ c.row_of-r.ensures

@@ -1,4 +1,3 @@
--- `message::window_fits` meets its contract: fewer than two names have nothing to hold, and of two the code compares the numbers.
 use mathlib.Core.Path.{◌≡◌, refl, sym}
 use Prim.Native.Nat.{ℕ, zero, suc, ◌+◌, ◌≤◌, ◌<◌}
 use native.Mathlib.Omega.{arith}
@@ -11,9 +10,9 @@ use Rattle.message.specs.Entry.{blank_name}
 use Rattle.message.specs.Message.{name_places}
 use Rattle.message.specs.Question.{window_fits}
 use Rattle.message.specs.declared.NameEntry.{NameEntry}
-use Rattle.message.proofs.window_fits.Statement.{statement}
-use Rattle.message.proofs.window_fits.Tie as tie
+use Rattle.message.proofs.window_fits.Goals as goal
 
+-- `message::window_fits` meets its contract: fewer than two names have nothing to hold, and of two the code compares the numbers.
 few : (names : List NameEntry) (k : ℕ) → k < name_places → window_fits (take k names) ≡ true
 unfolding window_fits
 few names zero p = refl
@@ -33,22 +32,10 @@ both (trail ∷ lead ∷ names) zero e p = absurd (omega arith)
 both (trail ∷ lead ∷ names) (suc zero) e p = absurd (omega arith)
 both (trail ∷ lead ∷ names) (suc (suc k)) e p = refl
 
-returns : tie.Need-returns
-returns c = sym (few c.before.args.t1 c.before.args.count (omega arith))
+pub returns-then-count-lt-NAME_PLACES : goal.returns-then-count-lt-NAME_PLACES
+returns-then-count-lt-NAME_PLACES c = sym (few c.args.names c.args.count (omega arith))
 
-returns-2 : tie.Need-returns-2
-returns-2 c =
+pub returns : goal.returns
+returns c =
     let start = c.before.before.before.before.before in
-    both start.args.t1 start.args.count (search rules) (omega arith)
-
-pub window-fits-spec : {M : Type 1} → statement M
-window-fits-spec =
-    tie.close
-    (tie.spec
-    returns
-    (λ c. search rules)
-    (λ c. search rules)
-    (λ c. search rules)
-    (λ c. search rules)
-    (λ c. search rules)
-    returns-2)
+    both start.args.names start.args.count (search rules) (omega arith)

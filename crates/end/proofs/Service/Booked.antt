@@ -523,7 +523,7 @@ moved_rel b h m e e' q v = record {
       rw (put_same b.handed h (cleared_by m [] (b.handed h)), joined-clears m [] mm (b.handed h) s, v.empty mm s n hs);
   firsts = λ x s hs d.
       let mm : is_member (moves_to m) ≡ true = ap is_member (sym v.status) ∙ x in
-      rw (put_same b.handed h (cleared_by m [] (b.handed h)), joined-clears m [] mm (b.handed h) s, v.no-first mm s hs);
+      rw (put_same b.handed h (cleared_by m [] (b.handed h)), joined-clears m [] mm (b.handed h) s, v.no_first mm s hs);
   lasts = λ x s hs d.
       let mm : is_member (moves_to m) ≡ true = ap is_member (sym v.status) ∙ x in
       rw (put_same b.highest h (cleared_by m none (b.highest h)), joined-clears m none mm (b.highest h) s, v.no_last mm s hs);

@@ -1,0 +1,10 @@
+use mathlib.Core.Path.{sym, ◌∙◌}
+use Rattle.calendar.proofs.Tests.{rolls, rolls_not}
+use borrow.Author.Rules.{rules}
+use Rattle.calendar.proofs.step.Goals as goal
+
+pub returns-then-exists : goal.returns-then-exists
+returns-then-exists c = rolls _ _ (sym c.exists.ensures ∙ c.if-exists.true) c.next_day-next.ensures
+
+pub returns : goal.returns
+returns c = rolls_not _ (sym c.exists.ensures ∙ c.if-exists.false)

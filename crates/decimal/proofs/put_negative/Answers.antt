@@ -1,0 +1,19 @@
+use mathlib.Core.Path.{◌∙◌}
+use native.Mathlib.Omega.{arith}
+use lib.ListN.{length-set}
+use Rattle.decimal.proofs.RoomLaws.{signed-written, not_written}
+use borrow.Author.Rules.{rules}
+use Rattle.decimal.proofs.put_negative.Goals as goal
+
+-- `decimal::put_negative` meets its contract: the sign and then the digits are one write.
+pub put_digits-requires : goal.put_digits-requires
+put_digits-requires c = record { ends = omega arith; inside = simp length-set (omega arith) }
+
+pub shape_of-out : goal.shape_of-out
+shape_of-out c = c.put_digits.auto.out ∙ simp length-set
+
+pub returns-then-w-room_from : goal.returns-then-w-room_from
+returns-then-w-room_from c = signed-written (omega arith) (omega arith) c.put_digits.ensures
+
+pub returns-else-w-room_from : goal.returns-else-w-room_from
+returns-else-w-room_from c = not_written (omega arith)

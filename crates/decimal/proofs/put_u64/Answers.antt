@@ -1,0 +1,14 @@
+use native.Mathlib.Omega.{arith}
+use Rattle.decimal.proofs.RoomLaws.{written, not_written}
+use borrow.Author.Rules.{rules}
+use Rattle.decimal.proofs.put_u64.Goals as goal
+
+-- `decimal::put_u64` meets its contract: the digits are written where there is room for them.
+pub put_digits-requires : goal.put_digits-requires
+put_digits-requires c = record { ends = omega arith; inside = omega arith }
+
+pub returns-then-w-room_from : goal.returns-then-w-room_from
+returns-then-w-room_from c = written (omega arith) (omega arith) c.put_digits.ensures
+
+pub returns-else-w-room_from : goal.returns-else-w-room_from
+returns-else-w-room_from c = not_written (omega arith)

@@ -1,0 +1,11 @@
+use native.Mathlib.Omega.{arith}
+use borrow.Author.Rules.{rules}
+use Rattle.layout.proofs.PutLaws.{puts-next, puts-long}
+use Rattle.layout.proofs.put_back.Goals as goal
+
+-- `layout::put_back` meets its contract: two sections, the second at the end of the first.
+pub returns : goal.returns
+returns c =
+    let echoes = c.before.before in
+    let reports = echoes.before.before.before.before in
+    puts-long (puts-next reports.put_reports.ensures echoes.put_echoes.ensures (omega arith)) (omega arith)

@@ -1,0 +1,30 @@
+use mathlib.Core.Path.{ap, ◌∙◌}
+use lib.ListN.{get_or}
+use borrow.Author.Rules.{rules}
+use Rattle.message.specs.Entry.{as_host}
+use Rattle.reader.proofs.LoadLaws.{loaded_by, loaded}
+use Rattle.reader.proofs.load.Goals as goal
+
+-- `reader::load` meets its contract: each call gives the part of the message at its place.
+pub returns : goal.returns
+returns c =
+    let reports = c.before in
+    let cue = reports.before in
+    let names = cue.before in
+    let stamp = names.before in
+    let kind = stamp.before.before in
+    let counts = kind.before.before in
+    let a = counts.before.before.before.before in
+    let s = a.args.s.now in
+    (λ i. record {
+      kind = kind.kind_of.ensures i;
+      sender = as_host (get_or s 1 0);
+      stamp = stamp.read_be.ensures.number i;
+      counts = a.args.c;
+      names = names.read_names.ensures i;
+      cue = cue.read_cue.ensures i;
+      reports = reports.read_reports.ensures i;
+      echoes = c.read_echoes.ensures i;
+    })
+    ∙ ap (loaded_by a.args.w s) a.requires.counts
+    ∙ loaded a.args.w s

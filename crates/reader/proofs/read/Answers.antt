@@ -1,0 +1,8 @@
+use native.Mathlib.Omega.{arith}
+use borrow.Author.Rules.{rules}
+use Rattle.reader.proofs.ReadLaws.{read_none}
+use Rattle.reader.proofs.read.Goals as goal
+
+-- `reader::read` meets its contract: no bytes are a probe, and of any others the message decides.
+pub returns-then-s-eq0 : goal.returns-then-s-eq0
+returns-then-s-eq0 c = read_none c.args.s.now c.probed.result (omega arith) c.probed.ensures

@@ -1,0 +1,20 @@
+use mathlib.Core.Path.{◌≡◌, refl, sym, ap, ◌∙◌}
+use mathlib.Core.List.{List, ◌++◌, append-nil}
+use Prim.Native.Nat.{ℕ, zero, suc, ◌+◌, ◌*◌, ◌-◌, ◌≤◌}
+use native.Mathlib.Omega.{arith}
+use lib.ListN.{length, length-drop, get_or, drop, replicate}
+use Rattle.message.specs.Section.{entries}
+use Rattle.message.specs.Entry.{cue_width, cue_of, blank_cue}
+use Rattle.message.proofs.EntryLaws.{head_at}
+use Rattle.reader.proofs.LoadLaws.{entries-bytes, FilledSoFar, fill_start, fill_more}
+use Rattle.reader.proofs.read_cue.Given as goal
+
+-- `reader::read_cue` meets its contract: the bytes are entries of width one, of which none or 24 are read.
+abbrev pub byte_of : List ℕ → ℕ
+byte_of t = get_or t 0 0
+
+abbrev pub invariant-loop-i : goal.invariant-loop-i
+invariant-loop-i l = (l.end ≡ l.n * cue_width) × FilledSoFar byte_of 1 cue_width 0 l.s l.at l.end l.cue l.i
+
+abbrev pub decreases-loop-i : goal.decreases-loop-i
+decreases-loop-i l = l.end - l.i

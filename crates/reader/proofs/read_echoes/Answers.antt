@@ -1,0 +1,37 @@
+use Prim.Native.Nat.{◌-◌}
+use native.Mathlib.Omega.{arith}
+use borrow.Author.Rules.{rules}
+use Rattle.message.specs.Entry.{echo_of, echo_width, blank_echo}
+use Rattle.message.specs.Message.{echo_places}
+use Rattle.reader.proofs.LoadLaws.{FilledSoFar, fill_start, entry-there, fill_more, fill_all}
+use Rattle.reader.proofs.read_echoes.Goals as goal
+
+pub loop-i-init : goal.loop-i-init
+loop-i-init c = fill_start (omega arith) (omega arith)
+
+pub overflow_mul-i : goal.overflow_mul-i
+overflow_mul-i c = omega (arith, entry-there c.loop-i.invariant (omega arith))
+
+pub overflow_add-at : goal.overflow_add-at
+overflow_add-at c = omega (arith, entry-there c.loop-i.invariant (omega arith))
+
+pub read_echo-requires : goal.read_echo-requires
+read_echo-requires c = omega (arith, entry-there c.loop-i.invariant (omega arith))
+
+pub offset_bounds-echoes-i : goal.offset_bounds-echoes-i
+offset_bounds-echoes-i c = omega arith
+
+pub bounds-echoes-i : goal.bounds-echoes-i
+bounds-echoes-i c = omega arith
+
+pub overflow_add-i : goal.overflow_add-i
+overflow_add-i c = omega arith
+
+pub loop-i-smaller : goal.loop-i-smaller
+loop-i-smaller c = omega arith
+
+pub loop-i-preserved : goal.loop-i-preserved
+loop-i-preserved c = fill_more c.loop-i.invariant (omega arith) c.read_echo.ensures
+
+pub returns : goal.returns
+returns c = fill_all c.loop-i.invariant (omega arith)

@@ -1,0 +1,14 @@
+use Prim.Native.Nat.{◌-◌}
+use native.Mathlib.Omega.{arith}
+use borrow.Author.Rules.{rules}
+use Rattle.message.specs.Entry.{report_of, report_width, blank_report}
+use Rattle.message.specs.Message.{report_places}
+use Rattle.reader.proofs.LoadLaws.{FilledSoFar, fill_start, entry-there, fill_more, fill_all}
+use Rattle.reader.proofs.read_reports.Given as goal
+
+-- `reader::read_reports` meets its contract: after i turns the first i places are filled.
+abbrev pub invariant-loop-i : goal.invariant-loop-i
+invariant-loop-i l = FilledSoFar (report_of l.w) (report_width l.w) report_places blank_report l.s l.at l.n l.reports l.i
+
+abbrev pub decreases-loop-i : goal.decreases-loop-i
+decreases-loop-i l = l.n - l.i

@@ -1,0 +1,12 @@
+use Prim.Native.Nat.{◌+◌, ◌*◌}
+use borrow.Author.Rules.{rules}
+use Rattle.message.specs.Entry.{cue_width, echo_width}
+use Rattle.reader.proofs.size_of.Goals as goal
+
+-- `reader::size_of` meets its contract: the lengths of the four sections.
+pub returns : goal.returns
+returns c =
+    let reports = c.before.before in
+    let names = reports.before in
+    let counts = names.args.c in
+    λ i. 12 + names.entries_long-names.ensures.long i + counts.cues * cue_width + reports.entries_long-reports.ensures.long i + counts.echoes * echo_width

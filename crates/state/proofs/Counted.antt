@@ -14,7 +14,7 @@ use Rattle.end.specs.declared.End.{End}
 use Rattle.end.specs.State.{is_member, source_at}
 use Rattle.end.specs.Records.{start}
 use Rattle.end.specs.Sound.{all_of, span_tests, source_tests, sound_of}
-use Rattle.end.specs.Names.{lacking, holds_cue, rise_with}
+use Rattle.end.specs.Names.{holds_cue, rise_with}
 use Rattle.end.specs.Ready.{SpanIn}
 use Rattle.end.proofs.SoundLaws.{nth, sound-end}
 use Rattle.end.proofs.Facts.{last_in_lem}

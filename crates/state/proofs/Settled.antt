@@ -10,7 +10,6 @@ use Rattle.message.specs.Entry.{as_host}
 use Rattle.message.specs.Question.{same_host}
 use Rattle.end.specs.declared.Slot.{Slot}
 use Rattle.end.specs.declared.Slot.TheVariants.{Empty, Held, Waiting}
-use Rattle.end.specs.declared.Reply.{Reply}
 use Rattle.end.specs.declared.Reply.TheVariants.{No, Due}
 use Rattle.end.specs.declared.Record.{Record}
 use Rattle.end.specs.declared.Pair.{Pair}

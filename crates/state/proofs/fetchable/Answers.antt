@@ -1,0 +1,4 @@
+use Rattle.state.proofs.fetchable.Goals as goal
+
+pub returns-in-From : goal.returns-in-From
+returns-in-From c = rw c.in-From.is

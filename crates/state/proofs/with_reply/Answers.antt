@@ -1,0 +1,7 @@
+use Rattle.state.proofs.with_reply.Goals as goal
+
+pub returns-in-Held : goal.returns-in-Held
+returns-in-Held c = rw c.in-Held.is
+
+pub returns-in-Waiting : goal.returns-in-Waiting
+returns-in-Waiting c = rw c.in-Waiting.is

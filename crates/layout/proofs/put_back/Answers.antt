@@ -1,5 +1,4 @@
 use native.Mathlib.Omega.{arith}
-use borrow.Author.Rules.{rules}
 use Rattle.layout.proofs.PutLaws.{puts-next, puts-long}
 use Rattle.layout.proofs.put_back.Goals as goal
 

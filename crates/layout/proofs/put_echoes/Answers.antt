@@ -1,10 +1,9 @@
-use Prim.Native.Nat.{◌+◌, ◌-◌}
 use native.Mathlib.Omega.{arith}
 use mathlib.Core.Path.{refl}
 use borrow.Author.Rules.{rules}
-use Rattle.message.specs.Entry.{echo_bytes, echo_width, blank_echo}
+use Rattle.message.specs.Entry.{blank_echo}
 use Rattle.message.specs.Message.{echo_places}
-use Rattle.layout.proofs.PutLaws.{PutSoFar, put-start, entry-room, entry-put, section-put}
+use Rattle.layout.proofs.PutLaws.{put-start, entry-room, entry-put, section-put}
 use Rattle.layout.proofs.put_echoes.Goals as goal
 
 pub loop-i-init : goal.loop-i-init

@@ -1,6 +1,5 @@
 use mathlib.Core.Path.{refl}
 use native.Mathlib.Omega.{arith}
-use borrow.Author.Rules.{rules}
 use Rattle.layout.proofs.PutLaws.{puts-next, puts-long}
 use Rattle.layout.proofs.put_front.Goals as goal
 

@@ -1,6 +1,5 @@
 use mathlib.Core.Path.{refl}
 use native.Mathlib.Omega.{arith}
-use borrow.Author.Rules.{rules}
 use Rattle.layout.proofs.PutLaws.{put_byte, put-number, puts-next}
 use Rattle.layout.proofs.put_head.Goals as goal
 

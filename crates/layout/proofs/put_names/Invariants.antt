@@ -1,10 +1,6 @@
 use Prim.Native.Nat.{◌+◌, ◌-◌}
-use native.Mathlib.Omega.{arith}
-use mathlib.Core.Path.{refl}
-use borrow.Author.Rules.{rules}
-use Rattle.message.specs.Entry.{name_bytes, name_width, blank_name}
-use Rattle.message.specs.Message.{name_places}
-use Rattle.layout.proofs.PutLaws.{PutSoFar, put-start, entry-room, entry-put, section-put}
+use Rattle.message.specs.Entry.{name_bytes, name_width}
+use Rattle.layout.proofs.PutLaws.{PutSoFar}
 use Rattle.layout.proofs.put_names.Given as goal
 
 -- `layout::put_names` meets its contract: the count, and after i turns the first i entries.

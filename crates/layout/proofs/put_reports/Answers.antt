@@ -1,10 +1,9 @@
-use Prim.Native.Nat.{◌+◌, ◌-◌}
 use native.Mathlib.Omega.{arith}
 use mathlib.Core.Path.{refl}
 use borrow.Author.Rules.{rules}
-use Rattle.message.specs.Entry.{report_bytes, report_width, blank_report}
+use Rattle.message.specs.Entry.{blank_report}
 use Rattle.message.specs.Message.{report_places}
-use Rattle.layout.proofs.PutLaws.{PutSoFar, put-start, entry-room, entry-put, section-put}
+use Rattle.layout.proofs.PutLaws.{put-start, entry-room, entry-put, section-put}
 use Rattle.layout.proofs.put_reports.Goals as goal
 
 pub loop-i-init : goal.loop-i-init

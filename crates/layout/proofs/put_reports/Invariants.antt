@@ -1,10 +1,6 @@
 use Prim.Native.Nat.{◌+◌, ◌-◌}
-use native.Mathlib.Omega.{arith}
-use mathlib.Core.Path.{refl}
-use borrow.Author.Rules.{rules}
-use Rattle.message.specs.Entry.{report_bytes, report_width, blank_report}
-use Rattle.message.specs.Message.{report_places}
-use Rattle.layout.proofs.PutLaws.{PutSoFar, put-start, entry-room, entry-put, section-put}
+use Rattle.message.specs.Entry.{report_bytes, report_width}
+use Rattle.layout.proofs.PutLaws.{PutSoFar}
 use Rattle.layout.proofs.put_reports.Given as goal
 
 -- `layout::put_reports` meets its contract: the count, and after i turns the first i entries.

@@ -1,5 +1,4 @@
 use native.Mathlib.Omega.{arith}
-use borrow.Author.Rules.{rules}
 use Rattle.message.specs.Message.{bytes_with}
 use Rattle.layout.proofs.PutLaws.{puts-next}
 use Rattle.layout.proofs.put_with.Goals as goal

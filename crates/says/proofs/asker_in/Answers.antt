@@ -1,0 +1,4 @@
+use Rattle.says.proofs.asker_in.Goals as goal
+
+pub returns : goal.returns
+returns c = rw (c.requester_in.ensures, c.says_in-says.ensures)

@@ -7,9 +7,7 @@ use Rattle.lines.specs.declared.Fed.TheVariants.{Whole, TooLong}
 use Rattle.lines.specs.Cut.{cut_of, line_cut}
 use Rattle.lines.proofs.CutLaws.{cut_more, cut_ended}
 use borrow.Author.Rules.{rules}
-use Rattle.lines.proofs.take_line.Invariants.{bytes, place, turn}
 use Rattle.lines.proofs.take_line.Goals as goal
-use Rattle.lines.proofs.take_line.Goals.{After-feed}
 
 pub loop-at-init : goal.loop-at-init
 loop-at-init c = (refl, refl)
@@ -25,26 +23,28 @@ loop-at-smaller c = omega arith
 
 pub loop-at-preserved : goal.loop-at-preserved
 loop-at-preserved c =
-    let f = c.before in
-    let l = f.loop-at in
-    let p = cut_more (bytes f) (place f) l.n l.line (omega arith) c.in-More.m (sym f.feed.ensures.value ∙ c.in-More.is) in
-    (p.0 ∙ l.inv.0, ap (line_cut (drop (place f + 1) (bytes f)) c.in-More.m) f.feed.ensures.line_after ∙ p.1 ∙ l.inv.1)
+    let bytes : List ℕ = c.args.piece.now in
+    let place : ℕ = c.loop-at.at in
+    let l = c.loop-at in
+    let p = cut_more bytes place l.n l.line (omega arith) c.in-More.m (sym c.feed.ensures.value ∙ c.in-More.is) in
+    (p.0 ∙ l.invariant.0, ap (line_cut (drop (place + 1) bytes) c.in-More.m) c.feed.ensures.line_after ∙ p.1 ∙ l.invariant.1)
 
 pub returns-in-Whole : goal.returns-in-Whole
 returns-in-Whole c =
-    let f = c.before in
-    let l = f.loop-at in
-    let p = cut_ended (bytes f) (place f) l.n l.line (omega arith) (Whole c.in-Whole.m) (λ A y z. refl) (sym f.feed.ensures.value ∙ c.in-Whole.is) in record { value = p.0 ∙ l.inv.0; line_after = f.feed.ensures.line_after ∙ p.1 ∙ l.inv.1 }
+    let bytes : List ℕ = c.args.piece.now in
+    let place : ℕ = c.loop-at.at in
+    let l = c.loop-at in
+    let p = cut_ended bytes place l.n l.line (omega arith) (Whole c.in-Whole.m) (λ A y z. refl) (sym c.feed.ensures.value ∙ c.in-Whole.is) in record { value = p.0 ∙ l.invariant.0; line_after = c.feed.ensures.line_after ∙ p.1 ∙ l.invariant.1 }
 
 pub returns-in-TooLong : goal.returns-in-TooLong
 returns-in-TooLong c =
-    let f = c.before in
-    let l = f.loop-at in
-    let p = cut_ended (bytes f) (place f) l.n l.line (omega arith) TooLong (λ A y z. refl) (sym f.feed.ensures.value ∙ c.in-TooLong.is) in record { value = p.0 ∙ l.inv.0; line_after = f.feed.ensures.line_after ∙ p.1 ∙ l.inv.1 }
+    let bytes : List ℕ = c.args.piece.now in
+    let place : ℕ = c.loop-at.at in
+    let l = c.loop-at in
+    let p = cut_ended bytes place l.n l.line (omega arith) TooLong (λ A y z. refl) (sym c.feed.ensures.value ∙ c.in-TooLong.is) in record { value = p.0 ∙ l.invariant.0; line_after = c.feed.ensures.line_after ∙ p.1 ∙ l.invariant.1 }
 
 pub returns : goal.returns
 unfolding cut_of line_cut
 returns c =
-    let t = c.before in
-    let l = t.loop-at in
-    let none = drop_of_length-le t.args.piece.now {i = l.at} (omega arith) in record { value = sym (ap (λ (s : List ℕ). cut_of s l.at l.n) none) ∙ l.invariant.0; line_after = sym (ap (λ (s : List ℕ). line_cut s l.n l.line) none) ∙ l.invariant.1 }
+    let l = c.loop-at in
+    let none = drop_of_length-le c.args.piece.now {i = l.at} (omega arith) in record { value = sym (ap (λ (s : List ℕ). cut_of s l.at l.n) none) ∙ l.invariant.0; line_after = sym (ap (λ (s : List ℕ). line_cut s l.n l.line) none) ∙ l.invariant.1 }

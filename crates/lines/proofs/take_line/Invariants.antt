@@ -9,16 +9,6 @@ use Rattle.lines.proofs.CutLaws.{cut_more, cut_ended}
 use borrow.Author.Rules.{rules}
 use Rattle.lines.proofs.take_line.Given as goal
 
-abbrev pub place : tie.After-feed invariant-loop decreases-loop → ℕ
-place f = (turn f).loop.at
-
--- a byte was fed: the turn that it was fed in, the byte's place and what it was taken from
-abbrev pub turn : tie.After-feed invariant-loop decreases-loop → tie.At-loop invariant-loop decreases-loop
-turn f = f.before.before.before.before
-
-abbrev pub bytes : tie.After-feed invariant-loop decreases-loop → List ℕ
-bytes f = (turn f).before.before.args.piece.now
-
 -- `lines::take_line` meets its contract. What is left of the bytes, taken into the line so far, is what the whole gives.
 abbrev pub invariant-loop-at : goal.invariant-loop-at
 invariant-loop-at l =

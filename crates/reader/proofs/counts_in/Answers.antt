@@ -12,19 +12,16 @@ use Rattle.reader.proofs.counts_in.Goals as goal
 pub returns : goal.returns
 returns c =
     let reports = c.before in
-    let third = reports.before in
-    let second = third.before in
-    let names = second.before in
-    let first = names.before in
-    let a = first.args in
+    let names = reports.before in
+    let a = names.args in
     let s : List ℕ = a.s.now in
     let w : ℕ = a.w in
     let count : Counts = counts_with w s in
-    let n : first.byte_at-n.result ≡ count.names = first.byte_at-n.ensures.there ∙ sym (names_byte w s) in
+    let n : names.byte_at-n.result ≡ count.names = names.byte_at-n.ensures.there ∙ sym (names_byte w s) in
     let b : names.entries_long-names.result ≡ count.names * name_width w = names.entries_long-names.ensures.long ∙ ap (λ (x : ℕ). x * name_width w) n in
-    let k : second.byte_at-k.result ≡ count.cues = second.byte_at-k.ensures.there ∙ ap (λ (x : ℕ). get_or s (9 + x) 0) b ∙ sym (cues_byte w s) in
-    let r : third.byte_at-r.result ≡ count.reports =
-    third.byte_at-r.ensures.there ∙ (λ i. get_or s (10 + b i + k i * cue_width) 0) ∙ sym (reports_byte w s) in
+    let k : reports.byte_at-k.result ≡ count.cues = reports.byte_at-k.ensures.there ∙ ap (λ (x : ℕ). get_or s (9 + x) 0) b ∙ sym (cues_byte w s) in
+    let r : reports.byte_at-r.result ≡ count.reports =
+    reports.byte_at-r.ensures.there ∙ (λ i. get_or s (10 + b i + k i * cue_width) 0) ∙ sym (reports_byte w s) in
     let d : reports.entries_long-reports.result ≡ count.reports * report_width w =
     reports.entries_long-reports.ensures.long ∙ ap (λ (x : ℕ). x * report_width w) r in
     let e : c.byte_at-e.result ≡ count.echoes =
@@ -32,9 +29,9 @@ returns c =
     record {
       counts = λ i. record { names = n i; cues = k i; reports = r i; echoes = e i };
       bytes = record {
-        names = first.byte_at-n.ensures.small;
-        cues = second.byte_at-k.ensures.small;
-        reports = third.byte_at-r.ensures.small;
+        names = names.byte_at-n.ensures.small;
+        cues = reports.byte_at-k.ensures.small;
+        reports = reports.byte_at-r.ensures.small;
         echoes = c.byte_at-e.ensures.small;
       };
     }

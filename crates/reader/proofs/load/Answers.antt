@@ -14,17 +14,16 @@ returns c =
     let stamp = names.before in
     let kind = stamp.before.before in
     let counts = kind.before.before in
-    let a = counts.before.before.before.before in
-    let s = a.args.s.now in
+    let s = counts.args.s.now in
     (λ i. record {
       kind = kind.kind_of.ensures i;
       sender = as_host (get_or s 1 0);
       stamp = stamp.read_be.ensures.number i;
-      counts = a.args.c;
+      counts = counts.args.c;
       names = names.read_names.ensures i;
       cue = cue.read_cue.ensures i;
       reports = reports.read_reports.ensures i;
       echoes = c.read_echoes.ensures i;
     })
-    ∙ ap (loaded_by a.args.w s) a.requires.counts
-    ∙ loaded a.args.w s
+    ∙ ap (loaded_by counts.args.w s) counts.requires.counts
+    ∙ loaded counts.args.w s

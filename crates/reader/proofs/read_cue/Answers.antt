@@ -46,14 +46,12 @@ loop-i-smaller c = omega arith
 
 pub loop-i-preserved : goal.loop-i-preserved
 loop-i-preserved c =
-    let t = c.before.before in
-    let a = t.args in
-    let at = a.at + t.loop-i.i * 1 in
-    let e : a.at + t.loop-i.i ≡ at = omega arith in
-    (refl, fill_more t.loop-i.invariant.1 (omega arith) (ap (λ (k : ℕ). get_or a.s.now k 0) e ∙ sym (head_at a.s.now at)))
+    let a = c.args in
+    let at = a.at + c.loop-i.i * 1 in
+    let e : a.at + c.loop-i.i ≡ at = omega arith in
+    (refl, fill_more c.loop-i.invariant.1 (omega arith) (ap (λ (k : ℕ). get_or a.s.now k 0) e ∙ sym (head_at a.s.now at)))
 
 pub returns : goal.returns
 returns c =
-    let l = c.before in
-    let a = l.args in
-    filled a.n l.loop-i.i a.s.now a.at l.loop-i.cue (omega arith) (omega arith) (omega arith) l.loop-i.invariant.1.filled
+    let a = c.args in
+    filled a.n c.loop-i.i a.s.now a.at c.loop-i.cue (omega arith) (omega arith) (omega arith) c.loop-i.invariant.1.filled

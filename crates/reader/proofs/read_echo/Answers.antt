@@ -12,9 +12,8 @@ use Rattle.reader.proofs.read_echo.Goals as goal
 -- `reader::read_echo` meets its contract, field by field.
 pub returns : goal.returns
 returns c =
-    let n = c.before in
-    let a = n.args in
+    let a = c.args in
     let s : List ℕ = a.s.now in
-    let stamp = n.read_be.ensures.number ∙ ap (λ (l : List ℕ). value (take 6 l)) (sym (drop-drop 1 a.at s)) in
+    let stamp = c.read_be.ensures.number ∙ ap (λ (l : List ℕ). value (take 6 l)) (sym (drop-drop 1 a.at s)) in
     let held = c.read_be-2.ensures.number ∙ ap (λ (l : List ℕ). value (take 6 l)) (sym (drop-drop 7 a.at s)) in
     λ i. record { host = as_host (sym (head_at s a.at) i); stamp = stamp i; held = held i }

@@ -12,10 +12,9 @@ use Rattle.reader.proofs.read_name.Goals as goal
 -- `reader::read_name` meets its contract, field by field.
 pub returns : goal.returns
 returns c =
-    let n = c.before.before in
-    let a = n.args in
+    let a = c.args in
     let s : List ℕ = a.s.now in
-    let number = n.read_number-number.ensures ∙ ap (λ (l : List ℕ). value (take a.w l)) (sym (drop-drop 1 a.at s)) in
+    let number = c.read_number-number.ensures ∙ ap (λ (l : List ℕ). value (take a.w l)) (sym (drop-drop 1 a.at s)) in
     let host = sym (get_or-drop a.at s (1 + a.w) 0) ∙ sym (head_at (drop a.at s) (1 + a.w)) in
     λ i. record {
       name = record { source = as_host (sym (head_at s a.at) i); number = as_number (number i) };

@@ -12,8 +12,7 @@ use Rattle.reader.proofs.read_report.Goals as goal
 -- `reader::read_report` meets its contract, field by field.
 pub returns : goal.returns
 returns c =
-    let n = c.before in
-    let a = n.args in
+    let a = c.args in
     let s : List ℕ = a.s.now in
-    let number = n.read_number-last.ensures ∙ ap (λ (l : List ℕ). value (take a.w l)) (sym (drop-drop 1 a.at s)) in
+    let number = c.read_number-last.ensures ∙ ap (λ (l : List ℕ). value (take a.w l)) (sym (drop-drop 1 a.at s)) in
     λ i. record { source = as_host (sym (head_at s a.at) i); last = as_number (number i) }

@@ -6,7 +6,5 @@ use Rattle.reader.proofs.size_of.Goals as goal
 -- `reader::size_of` meets its contract: the lengths of the four sections.
 pub returns : goal.returns
 returns c =
-    let reports = c.before.before in
-    let names = reports.before in
-    let counts = names.args.c in
-    λ i. 12 + names.entries_long-names.ensures.long i + counts.cues * cue_width + reports.entries_long-reports.ensures.long i + counts.echoes * echo_width
+    let counts = c.args.c in
+    λ i. 12 + c.entries_long-names.ensures.long i + counts.cues * cue_width + c.entries_long-reports.ensures.long i + counts.echoes * echo_width

@@ -55,7 +55,7 @@ use Rattle.invariants.proofs.Stays.{opens-sound, stays-sound}
 use Rattle.guarantees.specs.Calls.{moment_at, OneCall, after, after_all}
 use Rattle.guarantees.specs.Waits.{wait_of, waits_in, waits_at, Among}
 use Rattle.guarantees.specs.Records.{slot_of, request_in, request_of, retired, Cause, MayBecome, HeardAs}
-use Rattle.guarantees.specs.Arrivals.{hear}
+use Rattle.guarantees.specs.Arrivals.{hear, is_about, asks, express_by}
 use Rattle.guarantees.specs.Fires.{OpenedFiringEnds, OpenedC3BelowC1}
 use Rattle.guarantees.specs.BackOff.{cause_of, asks_for, RoundsRise, SetNow, SetOrKept, Hearing, heard_all, OncePerQuiet, AlwaysDue, QuietIgnores, RoundsThrough, SetIn, DrawsFit, CuesAreArrays, AlwaysSet, QuietBeforeDue, OneRoundPerQuiet}
 use Rattle.guarantees.proofs.Names.{sound-waits, waits_as, waits-inside, inside_not_above, waiting-not, far}
@@ -191,9 +191,11 @@ once_per_quiet e h n q hh p (x ∷ xs) by above =
     let t = moment_at e x.clock in
     let d = distance_to e (as_host h) in
     let kept = first-kept x xs e h n hh above in
+    let m = meaning_from x.bytes in
+    let new = express_by t m h (source_at e (as_host h)).pair in
     ⊎_elim (λ same. once_per_quiet now h n q hh same xs by.1 above)
     (λ held. inr (held-through xs now h n hh held above))
-    (quiet_one t x.draws d n _ _ _ q (express_in (slot_of e h n)) (slot_of now h n) by.0
+    (quiet_one t x.draws d n (is_about DATA m h n || is_about REPL m h n) (asks m h n) new q (express_in (slot_of e h n)) (slot_of now h n) by.0
     (rw (waits_as (slot_of e h n) q p) at (slots_as_heard e x.bytes x.clock x.room x.draws h n hh kept)))
 
 -- ---- always a due time

@@ -1,7 +1,7 @@
 -- Fetch, Announce and the messages of kinds 22 to 24 lie outside the service's book: the statements of specs/Fetch.antt and
 -- specs/Announce.antt on it.
 use mathlib.Core.Path.{◌≡◌, refl, sym, ap, ◌∙◌}
-use mathlib.Core.Bool.{Bool, true, false}
+use mathlib.Core.Bool.{true, false}
 use mathlib.Core.List.{List, [], ◌∷◌}
 use mathlib.Core.Option.{Option, none, some}
 use Prim.Native.Nat.{ℕ}
@@ -33,23 +33,23 @@ by_kind P m is fetched late = by_test (eqb m.kind FTCH)
 -- neither an original nor a repair, about no name that counts, and no session message
 record Aside (kind : ℕ) : Type 0 where
   data_none : eqb kind DATA ≡ false
-  request-none : eqb kind RQST ≡ false
-  repair-none : eqb kind REPL ≡ false
-  express-none : eqb kind XPRS ≡ false
-  session-none : eqb kind SESS ≡ false
+  request_none : eqb kind RQST ≡ false
+  repair_none : eqb kind REPL ≡ false
+  express_none : eqb kind XPRS ≡ false
+  session_none : eqb kind SESS ≡ false
 
 aside : (m : Meaning) → is_fetched m ≡ true → Aside m.kind
 aside m is = by_kind Aside m is
-    (record { data_none = refl; request-none = refl; repair-none = refl; express-none = refl; session-none = refl })
-    (record { data_none = refl; request-none = refl; repair-none = refl; express-none = refl; session-none = refl })
+    (record { data_none = refl; request_none = refl; repair_none = refl; express_none = refl; session_none = refl })
+    (record { data_none = refl; request_none = refl; repair_none = refl; express_none = refl; session_none = refl })
 
 aside_24 : (m : Meaning) → is_announced m ≡ true → Aside m.kind
 aside_24 m is = rw (eqb-true m.kind ANNC is)
-    (record { data_none = refl; request-none = refl; repair-none = refl; express-none = refl; session-none = refl })
+    (record { data_none = refl; request_none = refl; repair_none = refl; express_none = refl; session_none = refl })
 
 brings-none : (m : Meaning) → Aside m.kind → (s : ℕ) (top : Option ℕ) → brought_to m s top ≡ top
 unfolding brought_to
-brings-none m k s top = rw (k.data-none, k.request-none, k.repair-none, k.express-none, k.session-none)
+brings-none m k s top = rw (k.data_none, k.request_none, k.repair_none, k.express_none, k.session_none)
 
 pub brings-nothing : BringsNothing
 brings-nothing m is = brings-none m (aside m is)
@@ -59,7 +59,7 @@ announced_brings_nothing m is = brings-none m (aside_24 m is)
 
 gets-nothing : (b : Book) (h : ℕ) (m : Meaning) → Aside m.kind → gets b h m ≡ false
 unfolding gets
-gets-nothing b h m k = rw (k.data-none, k.repair-none)
+gets-nothing b h m k = rw (k.data_none, k.repair_none)
 
 -- a function of which one value is put as it was
 put_back : {A : Type 0} (f : ℕ → A) (h : ℕ) (x : A) → x ≡ f h → (k : ℕ) → put f h x k ≡ f k

@@ -41,13 +41,13 @@ use Rattle.end.specs.Records.{is_closed, within, record_at, is_held, with_record
 use Rattle.end.specs.Names.{asked, holds_cue, first_after}
 use Rattle.end.specs.Sound.{all_of, span_tests, non_member_tests, origin_sound, sound_of}
 use Rattle.end.specs.Answer.{Done, Ignored, Step, Untouched, Did, Result, done}
-use Rattle.end.specs.Decide.{step_at, number, known}
+use Rattle.end.specs.Decide.{step_at}
 use Rattle.end.specs.Session.{reported_source, all_reported, session_of}
 use Rattle.end.specs.Arrival.{message_step, arrival_of}
 use Rattle.end.specs.Fire.{express_rank, earliest, fire_at, fired}
 use Rattle.end.specs.Event.{Action, Moves, Send, Arrival, Else, Other, Fire, Report as Reporting, Announce, Fetch, moves, clears, moved_end, move_of, extended, sent_source, send_of, other_of, if_member, act_of, event_of}
 use Rattle.end.specs.Opening.{open_refusal, end_for, opening_of}
-use Rattle.end.specs.Book.{source, read_as, among}
+use Rattle.end.specs.Book.{read_as, among}
 use Rattle.end.proofs.Tools.{by_cond, clash, clash', set_elim}
 use Rattle.end.proofs.Lacking.{lacking_no}
 use Rattle.end.proofs.Readings.{reads}

@@ -29,7 +29,7 @@ use Rattle.end.specs.State.{source_at, moment_of, with_attempts, on_source}
 use Rattle.end.specs.Records.{within, is_above, is_held, with_record}
 use Rattle.end.specs.Names.{asked, holds_cue}
 use Rattle.end.specs.Answer.{Step, Class, PutsOut, HandsOut, HandsLate, Untouched, class_of, hands_out}
-use Rattle.end.specs.Decide.{decide, apply, effect_of, step_at, number, known}
+use Rattle.end.specs.Decide.{decide, apply, effect_of, step_at, known}
 use Rattle.end.specs.Session.{reported_source, all_reported, heard_from, session_of}
 use Rattle.end.specs.Arrival.{message_name, word_of, word_step, message_step, arrival_of}
 use Rattle.end.specs.Book.{source, raised_to, reported_to, is_about_name, brought_to, read_as}

@@ -30,7 +30,7 @@ use Rattle.end.specs.Records.{within, is_above, start, place, raw_at, record_at,
 use Rattle.end.specs.Round.{request_at}
 use Rattle.end.specs.Names.{holding, hold, expressed, quiet_reply, is_requester, asked, rise_with}
 use Rattle.end.specs.Sound.{outside_sound}
-use Rattle.end.specs.Decide.{number, decide, paired, opened, apply, step_at}
+use Rattle.end.specs.Decide.{decide, paired, opened, apply, step_at}
 use Rattle.end.specs.Arrival.{message_name, message_cue, requester_in, word_of, word_step}
 use Rattle.end.proofs.Facts.{narrow}
 use Rattle.end.proofs.Grounds.{Missing, is_data, is_request, Grounds, grounds}

@@ -1,11 +1,10 @@
 -- Laws of bytes: eight are twice four, all written over all, and what holds of each entry that was written.
-use mathlib.Core.Path.{◌≡◌, refl, sym, ap, ◌∙◌, subst}
-use Prim.Native.Nat.{ℕ, zero, suc, ◌+◌, ◌*◌, ◌-◌, ◌≤◌, ◌<◌}
+use mathlib.Core.Path.{◌≡◌, sym, ap, ◌∙◌, subst}
+use Prim.Native.Nat.{ℕ, ◌+◌, ◌*◌, ◌-◌, ◌≤◌, ◌<◌}
 use native.Mathlib.Omega.{arith}
 use mathlib.Core.List.{List, [], ◌∷◌, ◌++◌, append-nil}
 use lib.Seq.{take-add, length-take-le, drop-drop, take-length, take-suc, take_all}
 use lib.ListN.{length, take, drop, get_or, length-drop, replicate, length-replicate, drop_of_length-le}
-use mathlib.Core.Bool.{Bool, true, ◌&&◌, and-true, and_assoc}
 use native.Mathlib.Numerals.{add-one}
 use Rattle.message.specs.Section.{flat}
 use Rattle.message.proofs.SectionLaws.{All, none, some}

@@ -2,7 +2,8 @@
 // BEFORE; the other numbers are not touched here. No contract can say what is read: these say no more than that reading is safe and ends.
 #![tactic(auto)]
 
-use libc::STDIN_FILENO;
+use std::io;
+use std::io::Read;
 
 // The bytes of the buffer that are still to be taken: from..before.
 pub const FROM: usize = 18;
@@ -13,12 +14,6 @@ pub const BEFORE: usize = 19;
 pub const MALFORMED: usize = 1001;
 
 pub const END: usize = 1002;
-
-// Reads on, and answers how many bytes came: 0 at the end of the input.
-fn refill(buffer: &mut [u8; 65536]) -> usize {
-    let got = libc::read(STDIN_FILENO, buffer);
-    io::count(got, buffer)
-}
 
 // One byte more of a line of `len` bytes; a line that is too long stays so.
 fn feed(line: &mut [u8; 1000], len: usize, b: u8) -> usize {
@@ -63,25 +58,34 @@ fn take(
     Taken { at, len, found }
 }
 
+// Reads on, and answers how many bytes came: 0 at the end of the input.
+fn refill(input: &mut impl Read, buffer: &mut [u8; 65536]) -> io::Result<usize> {
+    input.read(buffer)
+}
+
 // The next line: its length, or MALFORMED, or END. A proved loop has to end, and nothing says that the input does, so the turns are
-// counted, from a number that no run uses up.
-pub fn next(buffer: &mut [u8; 65536], n: &mut [usize; 20], line: &mut [u8; 1000]) -> usize {
+// counted, up to a number that no run uses up. A read that failed is given back, and may be tried again: the bytes that were read before
+// are kept, but for those of the line that it cut off.
+pub fn next(
+    input: &mut impl Read,
+    buffer: &mut [u8; 65536],
+    n: &mut [usize; 20],
+    line: &mut [u8; 1000],
+) -> io::Result<usize> {
     let mut len: usize = 0;
-    let mut turns = u64::MAX;
-    while 0 < turns {
-        turns -= 1;
+    for _ in 0..u64::MAX {
         let t = take(buffer, n[FROM], n[BEFORE], line, len);
         n[FROM] = t.at;
         len = t.len;
         if t.found {
-            return len;
+            return Ok(len);
         }
-        let got = refill(buffer);
+        let got = refill(input, buffer)?;
         n[FROM] = 0;
         n[BEFORE] = got;
         if got == 0 {
-            return if len == 0 { END } else { MALFORMED };
+            return Ok(if len == 0 { END } else { MALFORMED });
         }
     }
-    END
+    Ok(END)
 }

@@ -1,0 +1,5 @@
+use Rattle.records.proofs.Steps.{express-dropped}
+use Rattle.records.proofs.drop_express.Goals as goal
+
+pub returns : goal.returns
+returns c = search express-dropped

@@ -1,0 +1,8 @@
+use Rattle.records.proofs.Steps.{at_in, at_out}
+use Rattle.records.proofs.record_at.Goals as goal
+
+pub returns-then-is_within : goal.returns-then-is_within
+returns-then-is_within c = search at_in
+
+pub returns-else-is_within : goal.returns-else-is_within
+returns-else-is_within c = search at_out

@@ -1,0 +1,4 @@
+use Rattle.records.proofs.request_for.Goals as goal
+
+pub returns : goal.returns
+returns c = rw (c.request_at.ensures, c.draw_at-u.ensures)

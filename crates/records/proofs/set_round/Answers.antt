@@ -1,0 +1,5 @@
+use Rattle.records.proofs.Steps.{round-set}
+use Rattle.records.proofs.set_round.Goals as goal
+
+pub returns : goal.returns
+returns c = search round-set

@@ -1,0 +1,4 @@
+use Rattle.records.proofs.with_record.Goals as goal
+
+pub returns : goal.returns
+returns c = rw c.place-at.ensures

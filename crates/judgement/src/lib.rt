@@ -49,7 +49,7 @@ fn least(a: usize, b: usize) -> usize
     if a < b { a } else { b }
 }
 
-fn no_line_lem() -> Line
+fn no_line() -> Line
     ensures { result ≡ malformed }
 {
     Line {
@@ -142,7 +142,7 @@ fn left(whole: bool, len: usize) -> usize
 pub fn opened() -> Kept
     ensures { standing result ≡ start }
 {
-    let blank = no_line_lem();
+    let blank = no_line();
     let lines = [blank; 1025];
     let noted = Noted { lines, count: 0 };
     Kept {
@@ -193,7 +193,7 @@ fn closed_lines(kept: Kept) -> Noted
     if kept.len == 0 {
         return noted;
     }
-    noted_with(noted, no_line_lem())
+    noted_with(noted, no_line())
 }
 
 fn judged(kept: Kept) -> Judgement

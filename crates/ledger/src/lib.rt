@@ -100,7 +100,7 @@ fn same_cue(a: [u8; 24], b: [u8; 24]) -> bool
 
 // ---- the view
 
-fn moved_view_lem(m: Move, v: View) -> View
+fn moved_view(m: Move, v: View) -> View
     ensures { result ≡ moved_view m v }
 {
     let status = v.status;
@@ -178,7 +178,7 @@ fn view_after(a: Asked, l: Line, v: View) -> View
     let cue = l.cue;
     match said {
         Said::Malformed => v,
-        Said::Moved(m, h) => { if a.host.0 == h.0 { moved_view_lem(m, v) } else { v } }
+        Said::Moved(m, h) => { if a.host.0 == h.0 { moved_view(m, v) } else { v } }
         Said::Sent(h, _) => {
             if a.source.0 == h.0 {
                 filed_view(a, cue, v)

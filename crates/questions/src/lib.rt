@@ -47,7 +47,7 @@ fn state_refusal(e: End, clock: u64, rest: u8) -> u8
 }
 
 // The first no of those that need neither output nor draws: the reason call's.
-pub fn refused_as_lem(e: End, clock: u64, what: Event, cue: [u8; 24], verdict: Verdict) -> u8
+pub fn refused_as(e: End, clock: u64, what: Event, cue: [u8; 24], verdict: Verdict) -> u8
     ensures { (bytes : List ℕ) → ReadAs what verdict bytes → result ≡ refused_as e clock (action_of what cue bytes) }
 {
     let own = own_refusal(e, what, cue, verdict);

@@ -155,7 +155,7 @@ fn cue_in(w: &[u8]) -> CueWord
 
 // ---- lines by what their words mean
 
-fn no_line_lem() -> Line
+fn no_line() -> Line
     ensures { result ≡ malformed }
 {
     Line {
@@ -168,10 +168,10 @@ fn moved_of(m: MoveWord, h: Unsigned) -> Line
     ensures { result ≡ moved_of m h }
 {
     let MoveWord::Is(to) = m else {
-        return no_line_lem();
+        return no_line();
     };
     let Unsigned::Number(host) = h else {
-        return no_line_lem();
+        return no_line();
     };
     if host < HOSTS {
         return Line {
@@ -179,17 +179,17 @@ fn moved_of(m: MoveWord, h: Unsigned) -> Line
             cue: [0; 24],
         };
     }
-    no_line_lem()
+    no_line()
 }
 
 fn sent_of(h: Unsigned, n: Unsigned, c: CueWord) -> Line
     ensures { result ≡ sent_of h n c }
 {
     let Unsigned::Number(host) = h else {
-        return no_line_lem();
+        return no_line();
     };
     let Unsigned::Number(number) = n else {
-        return no_line_lem();
+        return no_line();
     };
     if (host < HOSTS) & ((number < NUMBERS) & c.there) {
         let cue = c.cue;
@@ -198,20 +198,20 @@ fn sent_of(h: Unsigned, n: Unsigned, c: CueWord) -> Line
             cue,
         };
     }
-    no_line_lem()
+    no_line()
 }
 
 fn got_of(h: Unsigned, s: Unsigned, n: Unsigned, c: CueWord) -> Line
     ensures { result ≡ got_of h s n c }
 {
     let Unsigned::Number(host) = h else {
-        return no_line_lem();
+        return no_line();
     };
     let Unsigned::Number(source) = s else {
-        return no_line_lem();
+        return no_line();
     };
     let Unsigned::Number(number) = n else {
-        return no_line_lem();
+        return no_line();
     };
     if (host < HOSTS) & ((source < HOSTS) & ((number < NUMBERS) & c.there)) {
         let cue = c.cue;
@@ -224,7 +224,7 @@ fn got_of(h: Unsigned, s: Unsigned, n: Unsigned, c: CueWord) -> Line
             cue,
         };
     }
-    no_line_lem()
+    no_line()
 }
 
 // ---- lines by their words
@@ -241,7 +241,7 @@ fn sent_in(v: &[u8], h: &[u8], n: &[u8], c: &[u8]) -> Line
     if same(v, b"send") {
         sent_of(decimal::number_in(h), decimal::number_in(n), cue_in(c))
     } else {
-        no_line_lem()
+        no_line()
     }
 }
 
@@ -256,7 +256,7 @@ fn got_in(v: &[u8], h: &[u8], s: &[u8], n: &[u8], c: &[u8]) -> Line
             cue_in(c),
         )
     } else {
-        no_line_lem()
+        no_line()
     }
 }
 
@@ -269,7 +269,7 @@ fn after_four(v: &[u8], h: &[u8], s: &[u8], n: &[u8], rest: &[u8]) -> Line
     if rest.len() <= end {
         got_in(v, h, s, n, rest)
     } else {
-        no_line_lem()
+        no_line()
     }
 }
 
@@ -289,7 +289,7 @@ fn after_two(v: &[u8], h: &[u8], rest: &[u8]) -> Line
 {
     let end = space(rest);
     if rest.len() <= end {
-        no_line_lem()
+        no_line()
     } else {
         after_three(v, h, &rest[..end], &rest[end + 1..])
     }
@@ -312,7 +312,7 @@ pub fn read_line(line: &[u8]) -> Line
 {
     let end = space(line);
     if line.len() <= end {
-        no_line_lem()
+        no_line()
     } else {
         after_one(&line[..end], &line[end + 1..])
     }

@@ -1,7 +1,8 @@
 // libcuelink: the end, foyer displays and lens windows for hosts in C and Rust, as plain numbers and byte buffers. Each function here is one line
-// over a function of lent_calls, lent_looks, lent_display or lent_lens and has its contract. The C header is cuelink/cuelink.h at the repository's
-// root. A buffer comes from C as a pointer and a length; a state is 31,136 bytes and a display 25, which the host lends to each call. The
-// functions ask nothing of their caller but buffers of the lengths that it says. Answers are numbers: the crate lent_answer, specs/Number.antt.
+// over a function of lent_calls, lent_looks, lent_display or lent_lens and has its contract. The crate cuelink_c exports them; the C header is
+// cuelink/cuelink.h at the repository's root. A buffer comes from C as a pointer and a length; a state is 31,136 bytes and a display 25, which the
+// host lends to each call. The functions ask nothing of their caller but buffers of the lengths that it says. Answers are numbers: the crate
+// lent_answer, specs/Number.antt.
 #![tactic(auto)]
 
 ghost use Rattle.std.specs.Prelude.{◌≡◌, length};
@@ -23,30 +24,21 @@ use end::{Draw, Event, Move};
 // ---- the state
 
 // How many bytes a state has.
-#[unsafe(no_mangle)]
-pub extern "C" fn cuelink_size() -> u64
+pub fn cuelink_size() -> u64
     ensures { result ≡ state_width }
 {
     31136
 }
 
 // Opens an end: 0, or 3 where the state has another length, 12, 13 or 14.
-#[unsafe(no_mangle)]
-pub extern "C" fn cuelink_open(host: u64, params: &[u64], state: &mut [u8]) -> u64
+pub fn cuelink_open(host: u64, params: &[u64], state: &mut [u8]) -> u64
     ensures { OpensAs (open_of host params.now) state.old state.new result }
 {
     lent_calls::open(host, params, state)
 }
 
 // Opens an end again after a restart: 0, or 3 where the state has another length, 12, 13, 14, 4 or 7.
-#[unsafe(no_mangle)]
-pub extern "C" fn cuelink_reopen(
-    host: u64,
-    params: &[u64],
-    clock: u64,
-    next: u64,
-    state: &mut [u8],
-) -> u64
+pub fn cuelink_reopen(host: u64, params: &[u64], clock: u64, next: u64, state: &mut [u8]) -> u64
     ensures { OpensAs (reopen_of host params.now clock next) state.old state.new result }
 {
     lent_calls::reopen(host, params, clock, next, state)
@@ -55,8 +47,7 @@ pub extern "C" fn cuelink_reopen(
 // ---- the eleven events
 
 // Idle to joining.
-#[unsafe(no_mangle)]
-pub extern "C" fn cuelink_join(state: &mut [u8], clock: u64, draws: &[Draw], out: &mut [u8]) -> u64
+pub fn cuelink_join(state: &mut [u8], clock: u64, draws: &[Draw], out: &mut [u8]) -> u64
     ensures { CallIs (Moves Join) clock draws.now out.old out.new state.old state.new result }
 {
     lent_calls::event(
@@ -71,13 +62,7 @@ pub extern "C" fn cuelink_join(state: &mut [u8], clock: u64, draws: &[Draw], out
 }
 
 // Joining to member.
-#[unsafe(no_mangle)]
-pub extern "C" fn cuelink_joined(
-    state: &mut [u8],
-    clock: u64,
-    draws: &[Draw],
-    out: &mut [u8],
-) -> u64
+pub fn cuelink_joined(state: &mut [u8], clock: u64, draws: &[Draw], out: &mut [u8]) -> u64
     ensures { CallIs (Moves Joined) clock draws.now out.old out.new state.old state.new result }
 {
     lent_calls::event(
@@ -92,8 +77,7 @@ pub extern "C" fn cuelink_joined(
 }
 
 // Joining or member to leaving.
-#[unsafe(no_mangle)]
-pub extern "C" fn cuelink_leave(state: &mut [u8], clock: u64, draws: &[Draw], out: &mut [u8]) -> u64
+pub fn cuelink_leave(state: &mut [u8], clock: u64, draws: &[Draw], out: &mut [u8]) -> u64
     ensures { CallIs (Moves Leave) clock draws.now out.old out.new state.old state.new result }
 {
     lent_calls::event(
@@ -108,8 +92,7 @@ pub extern "C" fn cuelink_leave(state: &mut [u8], clock: u64, draws: &[Draw], ou
 }
 
 // Leaving to idle.
-#[unsafe(no_mangle)]
-pub extern "C" fn cuelink_left(state: &mut [u8], clock: u64, draws: &[Draw], out: &mut [u8]) -> u64
+pub fn cuelink_left(state: &mut [u8], clock: u64, draws: &[Draw], out: &mut [u8]) -> u64
     ensures { CallIs (Moves Left) clock draws.now out.old out.new state.old state.new result }
 {
     lent_calls::event(
@@ -124,8 +107,7 @@ pub extern "C" fn cuelink_left(state: &mut [u8], clock: u64, draws: &[Draw], out
 }
 
 // To crashed, for good.
-#[unsafe(no_mangle)]
-pub extern "C" fn cuelink_crash(state: &mut [u8], clock: u64, draws: &[Draw], out: &mut [u8]) -> u64
+pub fn cuelink_crash(state: &mut [u8], clock: u64, draws: &[Draw], out: &mut [u8]) -> u64
     ensures { CallIs (Moves Crash) clock draws.now out.old out.new state.old state.new result }
 {
     lent_calls::event(
@@ -140,22 +122,14 @@ pub extern "C" fn cuelink_crash(state: &mut [u8], clock: u64, draws: &[Draw], ou
 }
 
 // A member's cue goes out under its next number. A cue that is not of 24 bytes is refused as 6, in 6's place.
-#[unsafe(no_mangle)]
-pub extern "C" fn cuelink_send(
-    state: &mut [u8],
-    clock: u64,
-    draws: &[Draw],
-    cue: &[u8],
-    out: &mut [u8],
-) -> u64
+pub fn cuelink_send(state: &mut [u8], clock: u64, draws: &[Draw], cue: &[u8], out: &mut [u8]) -> u64
     ensures { CallIs (Send (cue_of cue.now)) clock draws.now out.old out.new state.old state.new result }
 {
     lent_calls::send(state, clock, draws, cue, out)
 }
 
 // A message, or a probe where there are no bytes.
-#[unsafe(no_mangle)]
-pub extern "C" fn cuelink_arrival(
+pub fn cuelink_arrival(
     state: &mut [u8],
     clock: u64,
     draws: &[Draw],
@@ -168,29 +142,21 @@ pub extern "C" fn cuelink_arrival(
 }
 
 // The earliest wait that is due goes out.
-#[unsafe(no_mangle)]
-pub extern "C" fn cuelink_fire(state: &mut [u8], clock: u64, draws: &[Draw], out: &mut [u8]) -> u64
+pub fn cuelink_fire(state: &mut [u8], clock: u64, draws: &[Draw], out: &mut [u8]) -> u64
     ensures { CallIs (Else Fire) clock draws.now out.old out.new state.old state.new result }
 {
     lent_calls::event(state, clock, draws, Event::Fire, [0; 24], &[0; 0], out)
 }
 
 // A session message goes out.
-#[unsafe(no_mangle)]
-pub extern "C" fn cuelink_report(
-    state: &mut [u8],
-    clock: u64,
-    draws: &[Draw],
-    out: &mut [u8],
-) -> u64
+pub fn cuelink_report(state: &mut [u8], clock: u64, draws: &[Draw], out: &mut [u8]) -> u64
     ensures { CallIs (Else Report) clock draws.now out.old out.new state.old state.new result }
 {
     lent_calls::event(state, clock, draws, Event::Report, [0; 24], &[0; 0], out)
 }
 
 // A cue from before the first original is asked for. A source or number that there is not is ignored.
-#[unsafe(no_mangle)]
-pub extern "C" fn cuelink_fetch(
+pub fn cuelink_fetch(
     state: &mut [u8],
     clock: u64,
     draws: &[Draw],
@@ -204,21 +170,14 @@ pub extern "C" fn cuelink_fetch(
 }
 
 // The own first and last go out, for displays.
-#[unsafe(no_mangle)]
-pub extern "C" fn cuelink_announce(
-    state: &mut [u8],
-    clock: u64,
-    draws: &[Draw],
-    out: &mut [u8],
-) -> u64
+pub fn cuelink_announce(state: &mut [u8], clock: u64, draws: &[Draw], out: &mut [u8]) -> u64
     ensures { CallIs (Else Announce) clock draws.now out.old out.new state.old state.new result }
 {
     lent_calls::event(state, clock, draws, Event::Announce, [0; 24], &[0; 0], out)
 }
 
 // Why an event would be ignored, or the number that would refuse it. `event` is 0 to 10 in the order of the functions above.
-#[unsafe(no_mangle)]
-pub extern "C" fn cuelink_reason(
+pub fn cuelink_reason(
     state: &[u8],
     clock: u64,
     event: u64,
@@ -234,78 +193,68 @@ pub extern "C" fn cuelink_reason(
 // ---- looks: 2^64−1 where there is nothing to tell, or the bytes are no state
 
 // The least due time of all waits: before it a Fire has nothing to put out.
-#[unsafe(no_mangle)]
-pub extern "C" fn cuelink_due(state: &[u8]) -> u64
+pub fn cuelink_due(state: &[u8]) -> u64
     ensures { result ≡ look due_in state.now }
 {
     lent_looks::due(state)
 }
 
-#[unsafe(no_mangle)]
-pub extern "C" fn cuelink_host(state: &[u8]) -> u64
+pub fn cuelink_host(state: &[u8]) -> u64
     ensures { result ≡ look host_in state.now }
 {
     lent_looks::host(state)
 }
 
-#[unsafe(no_mangle)]
-pub extern "C" fn cuelink_clock(state: &[u8]) -> u64
+pub fn cuelink_clock(state: &[u8]) -> u64
     ensures { result ≡ look clock_in state.now }
 {
     lent_looks::clock(state)
 }
 
 // 0 idle, 1 joining, 2 member, 3 leaving, 4 crashed.
-#[unsafe(no_mangle)]
-pub extern "C" fn cuelink_status(state: &[u8]) -> u64
+pub fn cuelink_status(state: &[u8]) -> u64
     ensures { result ≡ look status_in state.now }
 {
     lent_looks::status(state)
 }
 
 // The next own cue number.
-#[unsafe(no_mangle)]
-pub extern "C" fn cuelink_next(state: &[u8]) -> u64
+pub fn cuelink_next(state: &[u8]) -> u64
     ensures { result ≡ look next_in state.now }
 {
     lent_looks::next(state)
 }
 
 // The first number that is kept of a source.
-#[unsafe(no_mangle)]
-pub extern "C" fn cuelink_first(state: &[u8], source: u64) -> u64
+pub fn cuelink_first(state: &[u8], source: u64) -> u64
     ensures { result ≡ look_at first_in source state.now }
 {
     lent_looks::first(state, source)
 }
 
 // The last.
-#[unsafe(no_mangle)]
-pub extern "C" fn cuelink_last(state: &[u8], source: u64) -> u64
+pub fn cuelink_last(state: &[u8], source: u64) -> u64
     ensures { result ≡ look_at last_in source state.now }
 {
     lent_looks::last(state, source)
 }
 
 // How many numbers were retired without a cue since joining.
-#[unsafe(no_mangle)]
-pub extern "C" fn cuelink_missed(state: &[u8], source: u64) -> u64
+pub fn cuelink_missed(state: &[u8], source: u64) -> u64
     ensures { result ≡ look_at missed_in source state.now }
 {
     lent_looks::missed(state, source)
 }
 
 // The first original's number since joining: the 64 just below it may be fetched.
-#[unsafe(no_mangle)]
-pub extern "C" fn cuelink_origin(state: &[u8], source: u64) -> u64
+pub fn cuelink_origin(state: &[u8], source: u64) -> u64
     ensures { result ≡ look_at origin_in source state.now }
 {
     lent_looks::origin(state, source)
 }
 
 // The distance to a host, in milliseconds.
-#[unsafe(no_mangle)]
-pub extern "C" fn cuelink_distance(state: &[u8], host: u64) -> u64
+pub fn cuelink_distance(state: &[u8], host: u64) -> u64
     ensures { result ≡ look_at distance_in host state.now }
 {
     lent_looks::distance(state, host)
@@ -314,24 +263,21 @@ pub extern "C" fn cuelink_distance(state: &[u8], host: u64) -> u64
 // ---- foyer displays
 
 // How many bytes a display has.
-#[unsafe(no_mangle)]
-pub extern "C" fn cuelink_display_size() -> u64
+pub fn cuelink_display_size() -> u64
     ensures { result ≡ display_width }
 {
     25
 }
 
 // Opens a display that follows a sender: 0, or 3 where it has another length, or 12.
-#[unsafe(no_mangle)]
-pub extern "C" fn cuelink_display_open(own: u64, sender: u64, display: &mut [u8]) -> u64
+pub fn cuelink_display_open(own: u64, sender: u64, display: &mut [u8]) -> u64
     ensures { OpenIs own sender display.old display.new result }
 {
     lent_display::open(own, sender, display)
 }
 
 // A display takes a message. `lost` has room for four numbers: from which the set counts, the set, first and last of those lost above the old lead.
-#[unsafe(no_mangle)]
-pub extern "C" fn cuelink_display_hear(
+pub fn cuelink_display_hear(
     display: &mut [u8],
     clock: u64,
     bytes: &[u8],
@@ -345,43 +291,37 @@ pub extern "C" fn cuelink_display_hear(
 }
 
 // The request of the lowest missing number goes out.
-#[unsafe(no_mangle)]
-pub extern "C" fn cuelink_display_step(display: &mut [u8], clock: u64, out: &mut [u8]) -> u64
+pub fn cuelink_display_step(display: &mut [u8], clock: u64, out: &mut [u8]) -> u64
     ensures { DisplayCallIs Step clock (length out.old) display.old display.new out.old out.new result }
 {
     lent_display::step(display, clock, out)
 }
 
-#[unsafe(no_mangle)]
-pub extern "C" fn cuelink_display_own(display: &[u8]) -> u64
+pub fn cuelink_display_own(display: &[u8]) -> u64
     ensures { result ≡ displayLook (λ d. d.own.0) display.now }
 {
     lent_display::own(display)
 }
 
-#[unsafe(no_mangle)]
-pub extern "C" fn cuelink_display_sender(display: &[u8]) -> u64
+pub fn cuelink_display_sender(display: &[u8]) -> u64
     ensures { result ≡ displayLook (λ d. d.sender.0) display.now }
 {
     lent_display::sender(display)
 }
 
-#[unsafe(no_mangle)]
-pub extern "C" fn cuelink_display_clock(display: &[u8]) -> u64
+pub fn cuelink_display_clock(display: &[u8]) -> u64
     ensures { result ≡ displayLook (λ d. d.clock) display.now }
 {
     lent_display::clock(display)
 }
 
-#[unsafe(no_mangle)]
-pub extern "C" fn cuelink_display_trail(display: &[u8]) -> u64
+pub fn cuelink_display_trail(display: &[u8]) -> u64
     ensures { result ≡ displayLook (λ d. trail_of d.window) display.now }
 {
     lent_display::trail(display)
 }
 
-#[unsafe(no_mangle)]
-pub extern "C" fn cuelink_display_lead(display: &[u8]) -> u64
+pub fn cuelink_display_lead(display: &[u8]) -> u64
     ensures { result ≡ displayLook (λ d. lead_of d.window) display.now }
 {
     lent_display::lead(display)
@@ -390,22 +330,14 @@ pub extern "C" fn cuelink_display_lead(display: &[u8]) -> u64
 // ---- lens windows
 
 // The earliest minute, not before the given one, that lies in a window of the list, of eight numbers each.
-#[unsafe(no_mangle)]
-pub extern "C" fn cuelink_windows_find(
-    windows: &[u64],
-    year: u64,
-    month: u64,
-    day: u64,
-    minute: u64,
-) -> u64
+pub fn cuelink_windows_find(windows: &[u64], year: u64, month: u64, day: u64, minute: u64) -> u64
     ensures { result ≡ find_number windows.now year month day minute }
 {
     lent_lens::find(windows, year, month, day, minute)
 }
 
 // The day after.
-#[unsafe(no_mangle)]
-pub extern "C" fn cuelink_date_roll(year: u64, month: u64, day: u64) -> u64
+pub fn cuelink_date_roll(year: u64, month: u64, day: u64) -> u64
     ensures { result ≡ roll_number year month day }
 {
     lent_lens::roll(year, month, day)

@@ -1,5 +1,5 @@
 // The calls of a panel's software in C: the reader's verdict, the writer for DATA and the cue test, as plain numbers and byte buffers.
-// The C header is panel/panel.h at the repository's root. A buffer comes from C as a pointer and a length.
+// The crate panel_c exports them; the C header is panel/panel.h at the repository's root. A buffer comes from C as a pointer and a length.
 // What they promise is in specs/Answers.antt. They ask nothing of their caller but buffers of the lengths that it says.
 #![tactic(auto)]
 
@@ -85,8 +85,7 @@ fn write_data(sender: Host, number: CueNumber, stamp: u64, cue: &[u8], out: &mut
 }
 
 // The reader's verdict on a datagram: 0 where it is accepted or is a probe, else 8 to 11.
-#[unsafe(no_mangle)]
-pub extern "C" fn panel_verdict(bytes: &[u8]) -> u32
+pub fn panel_verdict(bytes: &[u8]) -> u32
     ensures { result ≡ verdict_of bytes.now }
 {
     let reading = reader::read(bytes);
@@ -95,8 +94,7 @@ pub extern "C" fn panel_verdict(bytes: &[u8]) -> u32
 }
 
 // The cue test: 0 where the cue is in range, else 6.
-#[unsafe(no_mangle)]
-pub extern "C" fn panel_cue_test(cue: &[u8]) -> u32
+pub fn panel_cue_test(cue: &[u8]) -> u32
     ensures { result ≡ cue_test_of cue.now }
 {
     if cue.len() != CUE_WIDTH {
@@ -108,14 +106,7 @@ pub extern "C" fn panel_cue_test(cue: &[u8]) -> u32
 
 // Writes a sender's DATA of its cue with a number into the first bytes of `out`: 40, its length, or 1 or 10. The numbers are 64 bits
 // wide, so that a host or a cue number that is too large is refused and not cut.
-#[unsafe(no_mangle)]
-pub extern "C" fn panel_write_data(
-    sender: u64,
-    number: u64,
-    stamp: u64,
-    cue: &[u8],
-    out: &mut [u8],
-) -> u32
+pub fn panel_write_data(sender: u64, number: u64, stamp: u64, cue: &[u8], out: &mut [u8]) -> u32
     ensures value { result ≡ data_answer sender number stamp cue.now out.old }
     ensures out_after { out.new ≡ data_output sender number stamp cue.now out.old }
 {

@@ -1,11 +1,10 @@
 -- Both laws of a record's bytes, and of a source's 64: what is written reads back, and what passes the test is written as it was.
 use mathlib.Core.Path.{◌≡◌, refl, sym, ◌∙◌}
-use Prim.Native.Nat.{ℕ, zero, suc, ◌+◌, ◌*◌, ◌<◌}
+use Prim.Native.Nat.{ℕ, zero, suc, ◌<◌}
 use native.Mathlib.Omega.{arith}
-use mathlib.Core.Bool.{Bool, true, ◌&&◌, and-true}
+use mathlib.Core.Bool.{true, ◌&&◌, and-true}
 use mathlib.Core.List.{List}
-use lib.ListN.{length}
-use lib.Dec.{eqb, leb}
+use lib.Dec.{eqb}
 use borrow.Author.Tests.{eqb-true, ne_eqb, lt-leb}
 use Rattle.message.proofs.QuestionLaws.{and_both}
 use Rattle.message.specs.Section.{flat}

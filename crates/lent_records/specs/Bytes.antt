@@ -5,10 +5,9 @@
 --   tag 3  a request waits: small is its round, a its due time, b its quiet-until
 --   tag 4  the same, and an express wait beside it: c its due time
 -- What a tag has not is 0 and no tag is above 4, so that every record has one form, whatever bytes stand in the cue of one that is not held.
-use Rattle.std.specs.Prelude.{◌≡◌, ℕ, zero, suc, ◌+◌, ◌*◌, Bool, true, false, cond, ◌&&◌, List, [], ◌∷◌, ◌++◌, length, replicate, eqb, leb}
+use Rattle.std.specs.Prelude.{◌≡◌, ℕ, ◌+◌, Bool, cond, ◌&&◌, List, ◌++◌, length, replicate, eqb, leb}
 use Rattle.numbers.specs.Number.{digits}
 use Rattle.message.specs.Entry.{as_host}
-use Rattle.message.specs.Section.{flat}
 use Rattle.message.proofs.SectionLaws.{All}
 use Rattle.end.specs.declared.Slot.{Slot}
 use Rattle.end.specs.declared.Slot.TheVariants.{Empty, Held, Waiting}

@@ -1,0 +1,12 @@
+use borrow.Author.Rules.{rules}
+use Rattle.earliest.proofs.Offers.{earlier_new, earlier_old}
+use Rattle.earliest.proofs.earlier_of.Goals as goal
+
+pub returns-in-NoWait : goal.returns-in-NoWait
+returns-in-NoWait c = rw c.in-NoWait.is
+
+pub returns-then-is_before : goal.returns-then-is_before
+returns-then-is_before c = search earlier_new
+
+pub returns-else-is_before : goal.returns-else-is_before
+returns-else-is_before c = search earlier_old

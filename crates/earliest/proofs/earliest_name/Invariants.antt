@@ -1,0 +1,15 @@
+use mathlib.Core.Path.{◌≡◌, refl}
+use Prim.Native.Nat.{◌-◌, ◌≤◌, ◌<◌}
+use native.Mathlib.Omega.{arith}
+use Rattle.end.specs.Records.{width}
+use Rattle.end.specs.Fire.{fold_up, earliest_name}
+use Rattle.end.proofs.FireLaws.{fold_more}
+use Rattle.earliest.proofs.Numbers.{read}
+use Rattle.earliest.proofs.earliest_name.Given as goal
+
+-- `earliest::earliest_name` meets its contract: after i turns the earliest of the first i numbers is found.
+abbrev pub invariant-loop-i : goal.invariant-loop-i
+invariant-loop-i l = (l.i ≤ l.count) × (l.out ≡ earliest_name l.h l.clock l.s l.initial.out l.i)
+
+abbrev pub decreases-loop-i : goal.decreases-loop-i
+decreases-loop-i l = l.count - l.i

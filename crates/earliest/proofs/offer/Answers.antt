@@ -1,0 +1,9 @@
+use borrow.Author.Rules.{rules}
+use Rattle.earliest.proofs.Offers.{offered-request, offered_reply}
+use Rattle.earliest.proofs.offer.Goals as goal
+
+pub returns-in-Waiting : goal.returns-in-Waiting
+returns-in-Waiting c = search offered-request
+
+pub returns-in-Due : goal.returns-in-Due
+returns-in-Due c = search offered_reply

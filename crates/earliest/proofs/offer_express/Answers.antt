@@ -1,0 +1,6 @@
+use borrow.Author.Rules.{rules}
+use Rattle.earliest.proofs.Offers.{offered-express}
+use Rattle.earliest.proofs.offer_express.Goals as goal
+
+pub returns-in-Soon : goal.returns-in-Soon
+returns-in-Soon c = search offered-express

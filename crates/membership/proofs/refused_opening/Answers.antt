@@ -1,0 +1,6 @@
+use Rattle.message.specs.declared.Verdict.TheVariants.{Refused}
+use borrow.Author.Rules.{rules}
+use Rattle.membership.proofs.refused_opening.Goals as goal
+
+pub returns : goal.returns
+returns c = (λ i. record { verdict = Refused c.args.number; end = c.fresh_end-end.ensures i })

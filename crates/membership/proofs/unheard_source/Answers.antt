@@ -1,0 +1,5 @@
+use borrow.Author.Rules.{rules}
+use Rattle.membership.proofs.unheard_source.Goals as goal
+
+pub returns : goal.returns
+returns c = rw c.no_attempt-untried.ensures

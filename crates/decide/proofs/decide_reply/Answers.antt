@@ -1,0 +1,7 @@
+use Rattle.end.specs.Decide.{decide_reply}
+use borrow.Author.Rules.{rules}
+use Rattle.decide.proofs.decide_reply.Goals as goal
+
+pub returns : goal.returns
+unfolding decide_reply
+returns c = rw (c.unless.ensures, c.is_no.ensures, c.unless-free.ensures)

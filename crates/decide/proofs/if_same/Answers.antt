@@ -1,0 +1,5 @@
+use borrow.Author.Rules.{rules}
+use Rattle.decide.proofs.if_same.Goals as goal
+
+pub returns : goal.returns
+returns c = rw (c.choose.ensures, c.same_cue.ensures)

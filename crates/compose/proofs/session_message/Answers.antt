@@ -1,4 +1,3 @@
--- `compose::session_message` meets its contract: the entries stand in the first places, as many as the counts say.
 use mathlib.Core.Path.{ap, ◌∙◌}
 use mathlib.Core.List.{[]}
 use Prim.Native.Nat.{◌-◌, ◌≤◌}
@@ -10,24 +9,17 @@ use Rattle.end.specs.Messages.{reports_below, echoes_below}
 use Rattle.compose.specs.declared.Entries.{Entries}
 use Rattle.compose.proofs.EntryLaws.{reports-most, echoes_fit}
 use borrow.Author.Rules.{rules}
-use Rattle.compose.proofs.session_message.Statement.{statement}
-use Rattle.compose.proofs.session_message.Tie as tie
+use Rattle.compose.proofs.session_message.Goals as goal
 
-all-entries-requires : tie.Need-all-entries-requires
-all-entries-requires c κs = search rules
-
-returns : tie.Need-returns
+pub returns : goal.returns
 returns c =
-    let places = c.before.before.before in
-    let after = places.before.before.before in
-    let said = after.all-entries in
-    let start = after.before in
-    let e = start.args.e in
+    let said = c.all_entries-entries in
+    let e = c.args.e in
     let rs = reports_below e 8 in
     let xs = echoes_below e 8 in
     let rm : said.result.reports.count ≤ 8 = omega (arith, ap (λ (y : Entries). y.reports.count) said.ensures, reports-most e 8) in
-    let xm : said.result.echoes.count ≤ 7 = omega (arith, ap (λ (y : Entries). y.echoes.count) said.ensures, echoes_fit e start.requires 8 (omega arith)) in (
-      λ i. record {
+    let xm : said.result.echoes.count ≤ 7 = omega (arith, ap (λ (y : Entries). y.echoes.count) said.ensures, echoes_fit e c.requires 8 (omega arith)) in record {
+      result_value = λ i. record {
         kind = 20;
         sender = e.host;
         stamp = e.clock;
@@ -35,9 +27,6 @@ returns c =
         cues = [];
         reports = (ap (λ (y : Entries). take y.reports.count y.reports.places) said.ensures ∙ take-append_seam rs (replicate (8 - length rs) blank_report)) i;
         echoes = (ap (λ (y : Entries). take y.echoes.count y.echoes.places) said.ensures ∙ take-append_seam xs (replicate (7 - length xs) blank_echo)) i;
-      },
-      record { names = omega arith; cues = omega arith; reports = rm; echoes = xm; size = omega (arith, rm, xm) },
-    )
-
-pub session-message-spec : {M : Type 1} → statement M
-session-message-spec = tie.close (tie.spec all-entries-requires (λ c κs. search rules) returns)
+      };
+      small = record { names = omega arith; cues = omega arith; reports = rm; echoes = xm; size = omega (arith, rm, xm) };
+    }

@@ -1,0 +1,9 @@
+use Rattle.message.specs.Message.{meaning_of, bytes_of}
+use Rattle.compose.proofs.PutLaws.{puts}
+use borrow.Author.Rules.{rules}
+use Rattle.compose.proofs.put.Goals as goal
+
+pub returns : goal.returns
+returns c =
+    let a = c.args in let it = puts (bytes_of (meaning_of a.m)) c.put_message-len.result a.out.now c.put_message-len.new.out c.put_message-len.ensures.value c.put_message-len.ensures.out_after in
+    record { value = it.0; out_after = it.1 }

@@ -1,0 +1,5 @@
+use borrow.Author.Rules.{rules}
+use Rattle.compose.proofs.with_report.Goals as goal
+
+pub returns-in-Open : goal.returns-in-Open
+returns-in-Open c = rw c.in-Open.is

@@ -1,0 +1,4 @@
+use Rattle.display.proofs.refusal.Goals as goal
+
+pub returns : goal.returns
+returns c = rw (c.asked.ensures, c.asked-three.ensures, c.sound.ensures, c.asked-four.ensures, c.asked-five.ensures)

@@ -1,0 +1,6 @@
+use Rattle.end.specs.Answer.{answer_of}
+use Rattle.display.proofs.refused.Goals as goal
+
+pub returns : goal.returns
+unfolding answer_of
+returns c = rw c.none_lost-lost.ensures

@@ -1,12 +1,10 @@
-use mathlib.Core.Path.{◌≡◌, refl, sym, ap, ◌∙◌}
-use Prim.Native.Nat.{◌+◌, ◌-◌, ◌≤◌}
+use mathlib.Core.Path.{refl, sym, ap, ◌∙◌}
+use Prim.Native.Nat.{◌+◌}
 use native.Mathlib.Omega.{arith}
-use lib.ListN.{length, drop}
+use lib.ListN.{drop}
 use Rattle.decimal.specs.declared.Unsigned.{Unsigned}
-use Rattle.decimal.specs.declared.Unsigned.TheVariants.{Number}
 use Rattle.decimal.specs.Steps.{digits_after}
 use Rattle.decimal.proofs.WordLaws.{digits_step, digits-end}
-use borrow.Author.Rules.{rules}
 use Rattle.decimal.proofs.digits_in.Goals as goal
 
 pub loop-i-init : goal.loop-i-init

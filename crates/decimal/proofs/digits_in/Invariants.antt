@@ -1,12 +1,8 @@
-use mathlib.Core.Path.{◌≡◌, refl, sym, ap, ◌∙◌}
-use Prim.Native.Nat.{◌+◌, ◌-◌, ◌≤◌}
-use native.Mathlib.Omega.{arith}
+use mathlib.Core.Path.{◌≡◌}
+use Prim.Native.Nat.{◌-◌, ◌≤◌}
 use lib.ListN.{length, drop}
-use Rattle.decimal.specs.declared.Unsigned.{Unsigned}
 use Rattle.decimal.specs.declared.Unsigned.TheVariants.{Number}
 use Rattle.decimal.specs.Steps.{digits_after}
-use Rattle.decimal.proofs.WordLaws.{digits_step, digits-end}
-use borrow.Author.Rules.{rules}
 use Rattle.decimal.proofs.digits_in.Given as goal
 
 -- `decimal::digits_in` meets its contract: what is left, read after what was read so far, is the whole.

@@ -1,7 +1,6 @@
 use mathlib.Core.Path.{sym}
 use native.Mathlib.Omega.{arith}
 use lib.ListN.{get_or-eq_default}
-use borrow.Author.Rules.{rules}
 use Rattle.decimal.proofs.first.Goals as goal
 
 -- `decimal::first` meets its contract: past the end of a word there is nothing.

@@ -1,4 +1,3 @@
-use borrow.Author.Rules.{rules}
 use Rattle.decimal.proofs.more.Goals as goal
 
 -- `decimal::more` meets its contract: the number is the one that was matched.

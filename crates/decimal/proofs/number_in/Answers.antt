@@ -1,6 +1,5 @@
 use mathlib.Core.Path.{◌∙◌}
 use Rattle.decimal.proofs.WordLaws.{bad_word, good_word}
-use borrow.Author.Rules.{rules}
 use Rattle.decimal.proofs.number_in.Goals as goal
 
 -- `decimal::number_in` meets its contract: a word that starts rightly means what its digits stand for.

@@ -1,7 +1,6 @@
 use native.Mathlib.Omega.{arith}
 use Rattle.decimal.proofs.DecimalLaws.{low_bits, high_bits}
 use Rattle.decimal.proofs.RoomLaws.{put_same}
-use borrow.Author.Rules.{rules}
 use Rattle.decimal.proofs.put_bits.Goals as goal
 
 -- `decimal::put_bits` meets its contract: the 16 bits tell the sign and the size.

@@ -1,12 +1,8 @@
-use mathlib.Core.Path.{◌≡◌, refl, sym, ap, ◌∙◌}
-use mathlib.Core.List.{◌∷◌, ◌++◌}
-use Prim.Native.Nat.{ℕ, suc, ◌+◌, ◌≤◌, ◌<◌}
-use native.Mathlib.Omega.{arith}
-use lib.ListN.{length, take, drop, length-set}
-use lib.Seq.{take-set-le, set_split}
-use Rattle.numbers.specs.Splice.{splice}
+use mathlib.Core.Path.{◌≡◌}
+use mathlib.Core.List.{◌++◌}
+use Prim.Native.Nat.{◌+◌, ◌≤◌}
+use lib.ListN.{length, take, drop}
 use Rattle.decimal.specs.Decimal.{decimal}
-use Rattle.decimal.proofs.DecimalLaws.{decimal-one, length-one, length_more, length-least, digits_step}
 use Rattle.decimal.proofs.put_digits.Given as goal
 
 -- `decimal::put_digits` meets its contract: what stands before `at` is as it was; with the digits that are left, the rest is what is wanted.

@@ -4,7 +4,6 @@ use Rattle.numbers.specs.Signed.{signed, unsigned}
 use Rattle.decimal.specs.Decimal.{signed_decimal}
 use Rattle.numbers.proofs.SignedLaws.{number_back}
 use Rattle.decimal.proofs.RoomLaws.{put_same}
-use borrow.Author.Rules.{rules}
 use Rattle.decimal.proofs.put_i16.Goals as goal
 
 -- `decimal::put_i16` meets its contract: a number is what its bits stand for.

@@ -2,7 +2,6 @@ use mathlib.Core.Path.{◌∙◌}
 use native.Mathlib.Omega.{arith}
 use lib.ListN.{length-set}
 use Rattle.decimal.proofs.RoomLaws.{signed-written, not_written}
-use borrow.Author.Rules.{rules}
 use Rattle.decimal.proofs.put_negative.Goals as goal
 
 -- `decimal::put_negative` meets its contract: the sign and then the digits are one write.

@@ -1,6 +1,5 @@
 use native.Mathlib.Omega.{arith}
 use Rattle.decimal.proofs.RoomLaws.{written, not_written}
-use borrow.Author.Rules.{rules}
 use Rattle.decimal.proofs.put_u64.Goals as goal
 
 -- `decimal::put_u64` meets its contract: the digits are written where there is room for them.

@@ -1,7 +1,6 @@
 use mathlib.Core.Path.{ap, ◌∙◌}
 use Rattle.decimal.specs.Decimal.{signed_word}
 use Rattle.decimal.proofs.RoomLaws.{part-within}
-use borrow.Author.Rules.{rules}
 use Rattle.decimal.proofs.read_i16.Goals as goal
 
 -- `decimal::read_i16` meets its contract: past the line's end there is nothing to read.

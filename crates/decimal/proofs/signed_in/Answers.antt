@@ -4,7 +4,6 @@ use native.Mathlib.Omega.{arith}
 use lib.ListN.{length}
 use Rattle.decimal.specs.Decimal.{as_positive, as_negative}
 use Rattle.decimal.proofs.WordLaws.{minus_word, plain_word}
-use borrow.Author.Rules.{rules}
 use Rattle.decimal.proofs.signed_in.Goals as goal
 use Rattle.decimal.proofs.signed_in.Goals.{Then-first-eq45}
 

@@ -1,15 +1,13 @@
--- `panel::own_data` meets its contract: the blank message with one name and the cue.
 use lib.ListN.{set}
 use borrow.Author.Rules.{rules}
 use Rattle.message.specs.Message.{DATA}
-use Rattle.panel.proofs.own_data.Statement.{statement}
-use Rattle.panel.proofs.own_data.Tie as tie
+use Rattle.panel.proofs.own_data.Goals as goal
 
-returns : tie.Need-returns
+-- `panel::own_data` meets its contract: the blank message with one name and the cue.
+pub returns : goal.returns
 returns c =
-    let b = c.before.before.before in
-    let a = b.before.args in
-    let e = b.blank.ensures in
+    let a = c.args in
+    let e = c.blank-blank.ensures in
     λ i. record {
       kind = DATA;
       sender = a.sender;
@@ -20,6 +18,3 @@ returns c =
       reports = (e i).reports;
       echoes = (e i).echoes;
     }
-
-pub own-data-spec : {M : Type 1} → statement M
-own-data-spec = tie.close (tie.spec (λ c κs. search rules) (λ c. search rules) returns)

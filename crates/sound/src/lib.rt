@@ -268,7 +268,7 @@ fn non_member_sound(own: bool, s: Source) -> bool
 }
 
 // One source, for the end of host me with this next number and clock.
-fn source_sound_lem(me: Host, next: u32, clock: u64, member: bool, h: Host, s: Source) -> bool
+fn source_sound(me: Host, next: u32, clock: u64, member: bool, h: Host, s: Source) -> bool
     ensures { result ≡ source_sound me next clock member h s }
 {
     let own = h.0 == me.0;
@@ -304,7 +304,7 @@ fn sources_sound(e: End) -> bool
     while h < 8 {
         let at = h as usize;
         let s = sources[at];
-        ok = ok & source_sound_lem(me, next, clock, member, Host(h), s);
+        ok = ok & source_sound(me, next, clock, member, Host(h), s);
         h += 1;
     }
     ok

@@ -1,0 +1,8 @@
+use Rattle.sound.proofs.attempt_sound.Goals as goal
+
+pub returns-then-may : goal.returns-then-may
+returns-then-may c =
+    rw (c.is_tried.ensures, c.if-may.true)
+
+pub returns-else-may : goal.returns-else-may
+returns-else-may c = rw c.if-may.false

@@ -1,0 +1,4 @@
+use Rattle.sound.proofs.express_sound.Goals as goal
+
+pub returns-in-Soon : goal.returns-in-Soon
+returns-in-Soon c = rw (c.in-Soon.is, c.is_no_pair.ensures)

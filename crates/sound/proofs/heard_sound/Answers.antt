@@ -1,0 +1,4 @@
+use Rattle.sound.proofs.heard_sound.Goals as goal
+
+pub returns-in-At : goal.returns-in-At
+returns-in-At c = rw c.in-At.is

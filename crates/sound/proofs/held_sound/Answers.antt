@@ -1,0 +1,4 @@
+use Rattle.sound.proofs.held_sound.Goals as goal
+
+pub returns : goal.returns
+returns c = rw (c.cue_sound.ensures, c.reply_sound.ensures)

@@ -1,0 +1,4 @@
+use Rattle.sound.proofs.outside_sound.Goals as goal
+
+pub returns-in-Empty : goal.returns-in-Empty
+returns-in-Empty c = rw c.in-Empty.is

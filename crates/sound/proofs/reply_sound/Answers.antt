@@ -1,0 +1,5 @@
+use Rattle.sound.proofs.reply_sound.Goals as goal
+
+pub returns-in-Due : goal.returns-in-Due
+returns-in-Due c =
+    rw c.in-Due.is

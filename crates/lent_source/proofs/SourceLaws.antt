@@ -1,12 +1,11 @@
 -- Both laws of a source's bytes, from those of its parts.
-use mathlib.Core.Path.{◌≡◌, refl, sym, ap, ◌∙◌}
-use Prim.Native.Nat.{ℕ, zero, suc, ◌+◌, ◌*◌, ◌≤◌, ◌<◌}
+use mathlib.Core.Path.{◌≡◌, refl, sym}
+use Prim.Native.Nat.{ℕ, zero, suc}
 use native.Mathlib.Omega.{arith}
 use mathlib.Core.Bool.{Bool, true, false, ◌&&◌}
-use mathlib.Core.List.{List, [], ◌∷◌, ◌++◌, append_assoc}
+use mathlib.Core.List.{List}
 use lib.Dec.{eqb, leb}
 use borrow.Author.Tests.{leb-true}
-use Rattle.message.specs.Entry.{as_host, as_number}
 use Rattle.end.specs.declared.Span.{Span}
 use Rattle.end.specs.declared.Span.TheVariants.{Closed, Open}
 use Rattle.end.specs.declared.Pair.{Pair}
@@ -19,7 +18,7 @@ use Rattle.end.specs.declared.Attempt.{Attempt}
 use Rattle.end.specs.declared.Record.{Record}
 use Rattle.end.specs.declared.Source.{Source}
 use Rattle.lent_records.proofs.RecordLaws.{records_codec}
-use Rattle.lent_fields.specs.Fields.{number, many, all_pass, Two, Below, free, two, three, four, is_option}
+use Rattle.lent_fields.specs.Fields.{many, all_pass, Two, two, three, four}
 use Rattle.lent_fields.proofs.Codec.{Codec, number_codec, both_codec, beside, struct_codec, enum_codec, refit, array_codec}
 use Rattle.lent_fields.proofs.Options.{no_option, one-zero, two-zero, three-zero}
 use Rattle.lent_source.specs.Source.{three_bytes, span_to, span_of, is_span, span_from, span_test, span_bytes, SpanFits}
@@ -27,7 +26,7 @@ use Rattle.lent_source.specs.Source.{four_bytes, pair_to, pair_of, is_pair, pair
 use Rattle.lent_source.specs.Source.{times_bytes, heard_to, heard_of, heard_from, heard_test, heard_bytes, HeardFits}
 use Rattle.lent_source.specs.Source.{one_bytes, origin_to, origin_of, is_origin, origin_from, origin_test, origin_bytes, OriginFits}
 use Rattle.lent_source.specs.Source.{bit, attempt_with, attempt_from, attempt_test, attempt_bytes, AttemptFits, attempts_bytes, AttemptsFit}
-use Rattle.lent_source.specs.Source.{front_bytes, FrontFits, source_from, source_test, source_bytes, SourceFits}
+use Rattle.lent_source.specs.Source.{front_bytes, source_from, source_test, source_bytes, SourceFits}
 
 abbrev Three : Type 0
 Three = Two (Two ℕ ℕ) ℕ

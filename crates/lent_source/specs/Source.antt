@@ -8,7 +8,7 @@
 --   43 64 attempts: tried 1, late 1 (0 or 1)                (128)
 --   171 64 records of 58 (the crate lent_records)           (3712)
 -- What a tag has not is 0 and no tag is above 1, so that every source has one form.
-use Rattle.std.specs.Prelude.{◌≡◌, ℕ, zero, suc, ◌+◌, ◌*◌, Bool, true, false, cond, ◌&&◌, List, [], ◌∷◌, ◌++◌, length, eqb, leb}
+use Rattle.std.specs.Prelude.{◌≡◌, ℕ, ◌+◌, Bool, true, false, cond, ◌&&◌, List, ◌++◌, length, eqb, leb}
 use Rattle.numbers.specs.Number.{digits}
 use Rattle.message.specs.Entry.{as_host, as_number}
 use Rattle.message.specs.Section.{flat}
@@ -22,10 +22,9 @@ use Rattle.end.specs.declared.Heard.TheVariants.{Never, At}
 use Rattle.end.specs.declared.Origin.{Origin}
 use Rattle.end.specs.declared.Origin.TheVariants.{NoOrigin, From}
 use Rattle.end.specs.declared.Attempt.{Attempt}
-use Rattle.end.specs.declared.Record.{Record}
 use Rattle.end.specs.declared.Source.{Source}
 use Rattle.lent_records.specs.Bytes.{record_width, record_from, record_test, record_bytes, RecordsFit}
-use Rattle.lent_fields.specs.Fields.{number, many, all_pass, Two, Below, cat_bytes, BothFit, two, three, four, two_at, three_at, four_at, is_option}
+use Rattle.lent_fields.specs.Fields.{number, many, all_pass, Two, Below, cat_bytes, BothFit, two, three, four, two_at, is_option}
 
 -- ---- the span: tag, first, last
 unfoldable pub three_bytes : Two (Two ℕ ℕ) ℕ → List ℕ

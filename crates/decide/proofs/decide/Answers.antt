@@ -1,5 +1,4 @@
 use Rattle.decide.proofs.Ladders.{says_data, says-request, says-repair, says-express}
-use borrow.Author.Rules.{rules}
 use Rattle.decide.proofs.decide.Goals as goal
 
 pub returns-in-Data : goal.returns-in-Data

@@ -1,5 +1,4 @@
 use Rattle.decide.proofs.Ladders.{data_ladder}
-use borrow.Author.Rules.{rules}
 use Rattle.decide.proofs.decide_data.Goals as goal
 
 pub returns : goal.returns

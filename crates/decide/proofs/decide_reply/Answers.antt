@@ -1,5 +1,4 @@
 use Rattle.end.specs.Decide.{decide_reply}
-use borrow.Author.Rules.{rules}
 use Rattle.decide.proofs.decide_reply.Goals as goal
 
 pub returns : goal.returns

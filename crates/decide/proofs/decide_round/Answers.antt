@@ -1,5 +1,4 @@
 use Rattle.end.specs.Decide.{decide_round}
-use borrow.Author.Rules.{rules}
 use Rattle.decide.proofs.decide_round.Goals as goal
 
 pub returns-in-Empty : goal.returns-in-Empty

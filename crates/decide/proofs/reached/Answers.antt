@@ -1,5 +1,4 @@
 use Rattle.decide.proofs.Ladders.{reached_ladder}
-use borrow.Author.Rules.{rules}
 use Rattle.decide.proofs.reached.Goals as goal
 
 pub returns : goal.returns

@@ -1,6 +1,3 @@
-use borrow.Author.Rules.{rules}
-use Rattle.decide.proofs.reason_of.Reads as reads
-use Rattle.decide.proofs.reason_of.Lts as lts
 use Rattle.decide.proofs.reason_of.Goals as goal
 
 pub returns-in-Ignores : goal.returns-in-Ignores

@@ -1,9 +1,8 @@
 use mathlib.Core.Path.{◌≡◌, refl}
-use Prim.Native.Nat.{◌≤◌, ◌-◌}
 use native.Mathlib.Omega.{arith}
 use lib.ListN.{length}
 use borrow.Author.Rules.{rules}
-use Rattle.decide.proofs.CueLaws.{Compared, one_more, all_compared}
+use Rattle.decide.proofs.CueLaws.{one_more, all_compared}
 use Rattle.decide.proofs.same_cue.Goals as goal
 
 pub loop-i-init : goal.loop-i-init

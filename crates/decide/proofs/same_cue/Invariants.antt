@@ -1,9 +1,5 @@
-use mathlib.Core.Path.{◌≡◌, refl}
 use Prim.Native.Nat.{◌≤◌, ◌-◌}
-use native.Mathlib.Omega.{arith}
-use lib.ListN.{length}
-use borrow.Author.Rules.{rules}
-use Rattle.decide.proofs.CueLaws.{Compared, one_more, all_compared}
+use Rattle.decide.proofs.CueLaws.{Compared}
 use Rattle.decide.proofs.same_cue.Given as goal
 
 -- `decide::same_cue` meets its contract: after i turns the first i bytes are compared.

@@ -1,6 +1,5 @@
 use mathlib.Core.Path.{◌∙◌}
 use native.Mathlib.Omega.{arith}
-use borrow.Author.Rules.{rules}
 use Rattle.panel.proofs.AnswerLaws.{all-over}
 use Rattle.panel.proofs.cue_bytes.Goals as goal
 

@@ -1,5 +1,4 @@
 use lib.ListN.{set}
-use borrow.Author.Rules.{rules}
 use Rattle.message.specs.Message.{DATA}
 use Rattle.panel.proofs.own_data.Goals as goal
 

@@ -1,7 +1,6 @@
 use mathlib.Core.Path.{◌≡◌, sym, ap, ◌∙◌}
 use native.Mathlib.Omega.{arith}
 use mathlib.Core.Bool.{true, false}
-use borrow.Author.Rules.{rules}
 use Rattle.message.specs.Cue.{cue_in}
 use Rattle.panel.proofs.AnswerLaws.{cue_not_whole, cue-tested}
 use Rattle.panel.proofs.panel_cue_test.Goals as goal

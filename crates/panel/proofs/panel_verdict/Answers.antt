@@ -1,5 +1,4 @@
 use mathlib.Core.Path.{◌∙◌, ap}
-use borrow.Author.Rules.{rules}
 use Rattle.message.specs.Question.{refusal_of}
 use Rattle.message.specs.declared.Reading.{Reading}
 use Rattle.panel.specs.Answers.{verdict_of}

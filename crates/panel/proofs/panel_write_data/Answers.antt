@@ -1,6 +1,5 @@
 use native.Mathlib.Omega.{arith}
 use lib.ListN.{length}
-use borrow.Author.Rules.{rules}
 use Rattle.panel.proofs.AnswerLaws.{Holds, holds, no_room, out_of_range}
 use Rattle.panel.proofs.panel_write_data.Goals as goal
 

@@ -1,4 +1,3 @@
-use borrow.Author.Rules.{rules}
 use Rattle.earliest.proofs.Offers.{earlier_new, earlier_old}
 use Rattle.earliest.proofs.earlier_of.Goals as goal
 

@@ -1,8 +1,8 @@
 use mathlib.Core.Path.{◌≡◌, refl}
-use Prim.Native.Nat.{◌-◌, ◌≤◌, ◌<◌}
+use Prim.Native.Nat.{◌<◌}
 use native.Mathlib.Omega.{arith}
 use Rattle.end.specs.Records.{width}
-use Rattle.end.specs.Fire.{fold_up, earliest_name}
+use Rattle.end.specs.Fire.{fold_up}
 use Rattle.end.proofs.FireLaws.{fold_more}
 use Rattle.earliest.proofs.Numbers.{read}
 use Rattle.earliest.proofs.earliest_name.Goals as goal

@@ -1,10 +1,6 @@
-use mathlib.Core.Path.{◌≡◌, refl}
-use Prim.Native.Nat.{◌-◌, ◌≤◌, ◌<◌}
-use native.Mathlib.Omega.{arith}
-use Rattle.end.specs.Records.{width}
-use Rattle.end.specs.Fire.{fold_up, earliest_name}
-use Rattle.end.proofs.FireLaws.{fold_more}
-use Rattle.earliest.proofs.Numbers.{read}
+use mathlib.Core.Path.{◌≡◌}
+use Prim.Native.Nat.{◌-◌, ◌≤◌}
+use Rattle.end.specs.Fire.{earliest_name}
 use Rattle.earliest.proofs.earliest_name.Given as goal
 
 -- `earliest::earliest_name` meets its contract: after i turns the earliest of the first i numbers is found.

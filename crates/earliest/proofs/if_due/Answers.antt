@@ -1,5 +1,4 @@
 use borrow.Author.Tests.{le-leb, lt-leb}
-use borrow.Author.Rules.{rules}
 use Rattle.earliest.proofs.if_due.Goals as goal
 
 pub returns-then-due-clock : goal.returns-then-due-clock

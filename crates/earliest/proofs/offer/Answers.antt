@@ -1,4 +1,3 @@
-use borrow.Author.Rules.{rules}
 use Rattle.earliest.proofs.Offers.{offered-request, offered_reply}
 use Rattle.earliest.proofs.offer.Goals as goal
 

@@ -1,4 +1,3 @@
-use borrow.Author.Rules.{rules}
 use Rattle.earliest.proofs.Offers.{offered-express}
 use Rattle.earliest.proofs.offer_express.Goals as goal
 

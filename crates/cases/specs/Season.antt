@@ -2,12 +2,11 @@
 -- to L, numbers below L−63 are retired with their waits, first becomes the greater of itself and L−63, and the freed places serve the new
 -- numbers. Cue number n uses draw n mod 64. Per source the end counts the numbers retired without a cue since joining, those passed over in
 -- one rise included".
-use Rattle.std.specs.Prelude.{ℕ, ◌+◌, ◌-◌, ◌<◌, Bool, true, false, cond, List, [], ◌∷◌, replicate, set, eqb, leb}
+use Rattle.std.specs.Prelude.{ℕ, ◌+◌, ◌-◌, Bool, true, false, cond, List, [], ◌∷◌, replicate, set, eqb}
 use Rattle.std.proofs.Math.Option.{Option, none, some}
 use Rattle.message.specs.Entry.{as_host, as_number, blank_cue}
-use Rattle.message.specs.declared.Report.{Report}
-use Rattle.end.specs.declared.Reply.TheVariants.{No, Due}
-use Rattle.end.specs.declared.Slot.TheVariants.{Empty, Held, Waiting}
+use Rattle.end.specs.declared.Reply.TheVariants.{Due}
+use Rattle.end.specs.declared.Slot.TheVariants.{Held}
 use Rattle.end.specs.declared.Pair.TheVariants.{NoPair}
 use Rattle.end.specs.declared.Record.{Record}
 use Rattle.end.specs.declared.Span.{Span}
@@ -20,7 +19,6 @@ use Rattle.end.specs.declared.Says.{Says}
 use Rattle.end.specs.declared.Says.TheVariants.{Data, Rqst, Repl}
 use Rattle.end.specs.declared.Word.{Word}
 use Rattle.end.specs.declared.Reason.TheVariants.{BelowFirst}
-use Rattle.end.specs.declared.Decision.{Decision}
 use Rattle.end.specs.declared.Decision.TheVariants.{Ignores, Takes, Repairs, Learns, BacksOff}
 use Rattle.end.specs.Records.{record_at}
 use Rattle.end.specs.Round.{request_with}

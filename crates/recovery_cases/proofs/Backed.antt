@@ -1,6 +1,6 @@
 -- The lists of what the statements suppose (specs/Needs.antt), each with a list of tests that computes; and that all of a list suffices for its claim, by
 -- the theorem.
-use Prim.Native.Nat.{ℕ, zero, suc, ◌+◌, ◌<◌}
+use Prim.Native.Nat.{ℕ, zero, suc, ◌<◌}
 use native.Mathlib.Omega.{arith}
 use mathlib.Core.Path.{◌≡◌, refl}
 use mathlib.Core.Bool.{Bool, true, false, not, ◌&&◌}

@@ -1,7 +1,7 @@
 -- `Steady`, `Recovers` and `AfterOutage` on computed lists: lists in which all that they suppose holds; and for each thing that they suppose of their own,
 -- as `LongRound`, `Between` and `Outlasts`, a list in which that alone fails and the bound is missed (but for the lower part of `Between` after an outage,
 -- and that the asker asks at all). That what they suppose of the ends and the network is needed is shown in OneRound.antt.
-use Rattle.std.specs.Prelude.{refl, List, [], ◌∷◌, ◌++◌, ℕ, ◌+◌}
+use Rattle.std.specs.Prelude.{refl, List, [], ◌∷◌, ◌++◌, ℕ}
 use Rattle.end.specs.declared.Params.{Params}
 use Rattle.end.specs.Opening.{house_params}
 use Rattle.guarantees.specs.Calls.{OneCall}

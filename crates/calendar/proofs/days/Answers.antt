@@ -2,7 +2,6 @@ use native.Mathlib.Omega.{arith}
 use Rattle.calendar.proofs.Tests.{in_february, short_month_lem, long_month}
 use mathlib.Core.Path.{refl, sym, ◌∙◌}
 use mathlib.Core.Bool.{true, false}
-use borrow.Author.Rules.{rules}
 use Rattle.calendar.proofs.days.Goals as goal
 
 pub returns-then-leap : goal.returns-then-leap

@@ -1,6 +1,5 @@
 use native.Mathlib.Omega.{arith}
 use Rattle.calendar.proofs.Tests.{too_early_lem, too_late, no_month, past_december, no_day, by_days}
-use borrow.Author.Rules.{rules}
 use Rattle.calendar.proofs.exists.Goals as goal
 
 -- `calendar::exists` meets its contract: each test that fails is one of the definition's.

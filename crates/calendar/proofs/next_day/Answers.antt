@@ -1,7 +1,6 @@
 use mathlib.Core.Path.{◌∙◌}
 use native.Mathlib.Omega.{arith}
 use Rattle.calendar.proofs.Tests.{next_in_month, next_month, next_year, last-stays}
-use borrow.Author.Rules.{rules}
 use Rattle.calendar.proofs.next_day.Goals as goal
 
 pub returns-then-d-days : goal.returns-then-d-days

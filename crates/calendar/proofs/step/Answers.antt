@@ -1,6 +1,5 @@
 use mathlib.Core.Path.{sym, ◌∙◌}
 use Rattle.calendar.proofs.Tests.{rolls, rolls_not}
-use borrow.Author.Rules.{rules}
 use Rattle.calendar.proofs.step.Goals as goal
 
 pub returns-then-exists : goal.returns-then-exists

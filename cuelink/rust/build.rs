@@ -1,5 +1,5 @@
-//! Links libcuelink.a, which `rt staticlib cuelink` makes in the repository's target/staticlib. CUELINK_LIB_DIR names another folder. A changed
-//! archive is linked anew.
+//! Links libcuelink.a, which `make -C cuelink` makes in the repository's cuelink/build. CUELINK_LIB_DIR names another folder. A changed archive is
+//! linked anew.
 use std::{env, path::PathBuf};
 
 fn main() {
@@ -7,13 +7,13 @@ fn main() {
     let here = PathBuf::from(env::var("CARGO_MANIFEST_DIR").unwrap());
     let folder = match env::var("CUELINK_LIB_DIR") {
         Ok(folder) => PathBuf::from(folder),
-        Err(_) => here.join("../../target/staticlib"),
+        Err(_) => here.join("../build"),
     };
     let archive = folder.join("libcuelink.a");
     println!("cargo:rerun-if-changed={}", archive.display());
     if !archive.exists() {
         println!(
-            "cargo:warning={} is not there: `rt staticlib cuelink` builds it, or CUELINK_LIB_DIR names the folder that has it",
+            "cargo:warning={} is not there: `make -C cuelink` builds it, or CUELINK_LIB_DIR names the folder that has it",
             archive.display()
         );
     }

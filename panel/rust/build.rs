@@ -1,4 +1,4 @@
-//! Links libpanel.a, which `rt staticlib panel` makes in the repository's target/staticlib. PANEL_LIB_DIR names another folder.
+//! Links libpanel.a, which `make -C panel` makes in the repository's panel/build. PANEL_LIB_DIR names another folder.
 use std::{env, path::PathBuf};
 
 fn main() {
@@ -6,7 +6,7 @@ fn main() {
     let here = PathBuf::from(env::var("CARGO_MANIFEST_DIR").unwrap());
     let folder = match env::var("PANEL_LIB_DIR") {
         Ok(folder) => PathBuf::from(folder),
-        Err(_) => here.join("../../target/staticlib"),
+        Err(_) => here.join("../build"),
     };
     println!(
         "cargo:rerun-if-changed={}",

@@ -1,7 +1,6 @@
 use mathlib.Core.Path.{sym, ◌∙◌}
 use Rattle.end.specs.declared.Answer.TheVariants as answer
 use Rattle.membership.proofs.MoveLaws.{move-done, move-ignored}
-use borrow.Author.Rules.{rules}
 use Rattle.membership.proofs.moved.Goals as goal
 
 pub returns-then-may_move : goal.returns-then-may_move

@@ -3,7 +3,6 @@ use Prim.Native.Nat.{◌<◌}
 use Rattle.end.specs.declared.End.{End}
 use Rattle.end.specs.State.{with_status}
 use Rattle.end.specs.Event.{moves_to, moved_end}
-use borrow.Author.Rules.{rules}
 use Rattle.membership.proofs.moved_end.Goals as goal
 
 pub without_heard-requires : goal.without_heard-requires

@@ -1,5 +1,4 @@
 use Rattle.membership.proofs.MoveLaws.{open_idle, open_14, open_13, open_12}
-use borrow.Author.Rules.{rules}
 use Rattle.membership.proofs.opening.Goals as goal
 
 pub returns-then-soon : goal.returns-then-soon

@@ -1,6 +1,5 @@
 use native.Mathlib.Omega.{arith}
 use Rattle.membership.proofs.MoveLaws.{small}
-use borrow.Author.Rules.{rules}
 use Rattle.membership.proofs.params_constrained.Goals as goal
 
 -- `membership::params_constrained` meets its contract: no sum or product of parameters up to 32 leaves 64 bits.

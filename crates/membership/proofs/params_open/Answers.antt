@@ -2,7 +2,6 @@ use mathlib.Core.Path.{ap, sym, ◌∙◌}
 use mathlib.Core.Bool.{Bool, ◌&&◌}
 use Rattle.end.specs.Sound.{all_of}
 use Rattle.end.specs.Opening.{constrained_tests}
-use borrow.Author.Rules.{rules}
 use Rattle.membership.proofs.params_open.Goals as goal
 
 pub params_constrained-requires : goal.params_constrained-requires

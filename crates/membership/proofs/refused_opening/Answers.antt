@@ -1,5 +1,4 @@
 use Rattle.message.specs.declared.Verdict.TheVariants.{Refused}
-use borrow.Author.Rules.{rules}
 use Rattle.membership.proofs.refused_opening.Goals as goal
 
 pub returns : goal.returns

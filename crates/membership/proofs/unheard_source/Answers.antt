@@ -1,4 +1,3 @@
-use borrow.Author.Rules.{rules}
 use Rattle.membership.proofs.unheard_source.Goals as goal
 
 pub returns : goal.returns

@@ -2,7 +2,6 @@ use mathlib.Core.Path.{ap, ◌∙◌}
 use lib.ListN.{set, replicate}
 use Rattle.end.specs.declared.Source.{Source}
 use Rattle.end.specs.State.{unheard, first_distance}
-use borrow.Author.Rules.{rules}
 use Rattle.membership.proofs.unheard_sources.Goals as goal
 
 pub returns : goal.returns

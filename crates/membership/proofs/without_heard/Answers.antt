@@ -2,7 +2,6 @@ use mathlib.Core.Path.{ap}
 use mathlib.Core.List.{List}
 use Rattle.end.specs.declared.Source.{Source}
 use Rattle.end.specs.State.{with_sources}
-use borrow.Author.Rules.{rules}
 use Rattle.membership.proofs.without_heard.Goals as goal
 
 pub returns : goal.returns

@@ -1,0 +1,16 @@
+use mathlib.Core.Path.{refl}
+use native.Mathlib.Omega.{arith}
+use borrow.Author.Rules.{rules}
+use Rattle.earliest.proofs.Numbers.{in_order_lem, open_width}
+use Rattle.end_due.proofs.width_of.Goals as goal
+
+pub overflow_sub-result : goal.overflow_sub-result
+overflow_sub-result c = search in_order_lem
+
+pub returns-in-Closed : goal.returns-in-Closed
+returns-in-Closed c = rw c.in-Closed.is (record { value = refl; result_bound = omega arith })
+
+pub returns-in-Open : goal.returns-in-Open
+returns-in-Open c =
+    let it = open_width c.requires c.in-Open.is in
+    record { value = it.0; result_bound = it.1 }

@@ -1,15 +1,14 @@
 -- Both laws of an end's bytes, from those of its parts.
 use mathlib.Core.Path.{◌≡◌, refl, sym, ap, ◌∙◌}
-use Prim.Native.Nat.{ℕ, zero, suc, ◌+◌, ◌*◌, ◌≤◌, ◌<◌}
+use Prim.Native.Nat.{ℕ, zero, suc, ◌+◌, ◌<◌}
 use native.Mathlib.Omega.{arith}
 use mathlib.Core.Bool.{Bool, true, false, ◌&&◌, and-true}
 use mathlib.Core.List.{List, [], ◌∷◌, ◌++◌, append-nil}
-use lib.ListN.{length, take, drop}
+use lib.ListN.{length, drop}
 use lib.Seq.{take_all}
 use lib.Dec.{eqb, leb}
 use borrow.Author.Tests.{eqb-true, eq-eqb, ne_eqb, leb-true}
-use Rattle.numbers.specs.Number.{value, digits, Bytes}
-use Rattle.message.specs.declared.Host.{Host}
+use Rattle.numbers.specs.Number.{digits, Bytes}
 use Rattle.message.specs.Entry.{as_host}
 use Rattle.message.specs.Section.{flat}
 use Rattle.message.proofs.QuestionLaws.{and_both}
@@ -23,9 +22,9 @@ use Rattle.end.specs.declared.End.{End}
 use Rattle.lent_fields.specs.Fields.{number, many, all_pass, Two, Below, free}
 use Rattle.lent_fields.proofs.ByteLaws.{all-over}
 use Rattle.lent_fields.proofs.Codec.{Codec, number_codec, both_codec, beside, retest, struct_codec, enum_codec, refit, array_codec}
-use Rattle.lent_source.specs.Source.{source_from, source_test, source_bytes, SourceFits}
+use Rattle.lent_source.specs.Source.{source_from, source_test, source_bytes}
 use Rattle.lent_source.proofs.SourceLaws.{source_codec}
-use Rattle.lent_end.specs.State.{params_bytes, params_from, ParamsFit, status_of, status_number, SourcesFit, state_width, mark, head_bytes, HeadFits, end_bytes, EndFits, end_from, is_state, Holds}
+use Rattle.lent_end.specs.State.{params_bytes, params_from, ParamsFit, status_of, status_number, SourcesFit, mark, head_bytes, HeadFits, end_bytes, EndFits, end_from, is_state, Holds}
 
 -- ---- the parameters
 abbrev Seven : Type 0

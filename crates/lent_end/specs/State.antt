@@ -7,9 +7,8 @@
 --   68 next 4
 --   72 eight sources of 3,883 (the crate lent_source)
 -- Numbers have the width of their types, so that every value of type End has bytes and reads back, and it has exactly one form.
-use Rattle.std.specs.Prelude.{◌≡◌, ℕ, zero, suc, ◌+◌, ◌*◌, Bool, true, cond, ◌&&◌, List, [], ◌∷◌, ◌++◌, length, take, drop, eqb, leb}
-use Rattle.numbers.specs.Number.{value, digits}
-use Rattle.message.specs.declared.Host.{Host}
+use Rattle.std.specs.Prelude.{◌≡◌, ℕ, ◌+◌, Bool, true, cond, ◌&&◌, List, ◌++◌, length, eqb, leb}
+use Rattle.numbers.specs.Number.{digits}
 use Rattle.message.specs.Entry.{as_host}
 use Rattle.message.specs.Section.{flat}
 use Rattle.message.proofs.SectionLaws.{All}

@@ -1,0 +1,4 @@
+use Rattle.candidates.proofs.may_answer.Goals as goal
+
+pub returns : goal.returns
+returns c = rw (c.is_held.ensures, c.record_at-known.ensures)

@@ -1,0 +1,4 @@
+use Rattle.candidates.proofs.may_hand.Goals as goal
+
+pub returns : goal.returns
+returns c = rw (c.has_host.ensures, c.attempt_at-was.ensures)

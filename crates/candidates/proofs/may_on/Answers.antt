@@ -1,0 +1,4 @@
+use Rattle.candidates.proofs.may_on.Goals as goal
+
+pub returns : goal.returns
+returns c = rw (c.fetchable-below.ensures, c.attempt_at-done.ensures)

@@ -1,0 +1,4 @@
+use Rattle.candidates.proofs.reported_by.Goals as goal
+
+pub returns-in-At : goal.returns-in-At
+returns-in-At c = rw c.in-At.is c.has_host.ensures

@@ -1,4 +1,3 @@
--- `transmit::announce` meets its contract: what the own span has goes out, and the end stays.
 use mathlib.Core.Path.{◌≡◌, refl, subst}
 use mathlib.Core.List.{List}
 use Prim.Native.Nat.{ℕ}
@@ -14,9 +13,9 @@ use Rattle.compose.proofs.PutLaws.{Answers}
 use Rattle.transmit.specs.Announced.{announced_effect}
 use Rattle.compose.proofs.GiveLaws.{Gives, gives}
 use borrow.Author.Rules.{rules}
-use Rattle.transmit.proofs.announce.Statement.{statement}
-use Rattle.transmit.proofs.announce.Tie as tie
+use Rattle.transmit.proofs.announce.Goals as goal
 
+-- `transmit::announce` meets its contract: what the own span has goes out, and the end stays.
 by_span : (t : Moment) (x : Span) (e : End) → give (announced_effect t x) e ≡ announced t x e
 by_span t Closed e = refl
 by_span t (Open first last) e = refl
@@ -29,42 +28,12 @@ announces e t r out last p w =
     subst (λ (step : Step). Gives step (record { answer = r; end = e }) out last) (by_span (moment_of e) span e)
     (gives (announced_effect (moment_of e) span) e r e out last own refl)
 
-moment-of-requires : tie.Need-moment-of-requires
-moment-of-requires c κs = search rules
+pub bounds-e-at : goal.bounds-e-at
+bounds-e-at c =
+    rw c.moment_of-t.ensures c.requires.settled.host
 
-cast-at : tie.Need-overflow-cast-at
-cast-at c = search rules
-
-mul-s : tie.Need-overflow-mul-s
-mul-s c = search rules
-
-element-copy-out-s : tie.Need-element-copy-out-s
-element-copy-out-s c =
-    let t = c.before in
-    rw t.moment-of.ensures t.before.before.requires.settled.host
-
-announced-answer-requires : tie.Need-announced-answer-requires
-announced-answer-requires c κs = search rules
-
-same_length : tie.Need-same-length
-same_length c = search rules
-
-returns : tie.Need-returns
+pub returns : goal.returns
 returns c =
-    let w = c.before.before in
-    let t = w.before.before.before.before in
-    let a = t.before.before.args in
-    announces a.t1 t.moment-of.result w.announced-answer.result a.out.now w.announced-answer.new.1.1.0 t.moment-of.ensures
-    w.announced-answer.ensures
-
-pub announce-spec : {M : Type 1} → statement M
-announce-spec =
-    tie.close
-    (tie.spec
-    moment-of-requires
-    cast-at
-    mul-s
-    element-copy-out-s
-    announced-answer-requires
-    same_length
-    returns)
+    let a = c.args in let it = announces a.e c.moment_of-t.result c.announced_answer-answer.result a.out.now c.announced_answer-answer.new.out c.moment_of-t.ensures
+    (c.announced_answer-answer.ensures.value, c.announced_answer-answer.ensures.out_after) in
+    record { value = it.0; out_after = it.1 }

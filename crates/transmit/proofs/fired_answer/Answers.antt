@@ -1,0 +1,18 @@
+use mathlib.Core.Path.{refl}
+use Rattle.end.specs.Answer.{answer_of, buffer_of}
+use borrow.Author.Rules.{rules}
+use Rattle.transmit.proofs.fired_answer.Goals as goal
+
+pub returns-in-Empty : goal.returns-in-Empty
+unfolding answer_of buffer_of
+returns-in-Empty c = rw c.in-Empty.is (record { value = refl; out_after = refl })
+
+pub returns-in-Waiting : goal.returns-in-Waiting
+returns-in-Waiting c = rw c.in-Waiting.is (record { value = c.put_request.ensures.value; out_after = c.put_request.ensures.out_after })
+
+pub returns-in-No : goal.returns-in-No
+unfolding answer_of buffer_of
+returns-in-No c = rw c.in-Held.is ((rw c.in-No.is (record { value = refl; out_after = refl })))
+
+pub returns-in-Due : goal.returns-in-Due
+returns-in-Due c = rw c.in-Held.is ((rw c.in-Due.is (record { value = c.put_name.ensures.value; out_after = c.put_name.ensures.out_after })))

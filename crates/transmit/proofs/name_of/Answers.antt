@@ -1,0 +1,5 @@
+use borrow.Author.Rules.{rules}
+use Rattle.transmit.proofs.name_of.Goals as goal
+
+pub returns-in-NoWait : goal.returns-in-NoWait
+returns-in-NoWait c = rw c.in-NoWait.is

@@ -1,0 +1,5 @@
+use borrow.Author.Rules.{rules}
+use Rattle.transmit.proofs.rank_of.Goals as goal
+
+pub returns-in-NoWait : goal.returns-in-NoWait
+returns-in-NoWait c = rw c.in-NoWait.is

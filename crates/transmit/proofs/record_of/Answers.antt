@@ -1,0 +1,5 @@
+use borrow.Author.Rules.{rules}
+use Rattle.transmit.proofs.record_of.Goals as goal
+
+pub returns-in-First : goal.returns-in-First
+returns-in-First c = rw c.in-First.is c.record_at.ensures

@@ -1,6 +1,5 @@
 use mathlib.Core.Path.{ap, ◌∙◌}
 use Rattle.end.specs.declared.Opened.{Opened}
-use borrow.Author.Rules.{rules}
 use Rattle.end_reopen.proofs.ReopeningLaws.{no_host}
 use Rattle.end_reopen.proofs.refused_end.Goals as goal
 

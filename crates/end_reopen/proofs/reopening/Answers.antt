@@ -1,5 +1,4 @@
 use native.Mathlib.Omega.{arith}
-use borrow.Author.Rules.{rules}
 use Rattle.end_reopen.proofs.ReopeningLaws.{next_fits, accepted, refused}
 use Rattle.end_reopen.proofs.reopening.Goals as goal
 

@@ -1,0 +1,5 @@
+use borrow.Author.Rules.{rules}
+use Rattle.fetch.proofs.mark_late.Goals as goal
+
+pub returns : goal.returns
+returns c = rw (c.with_attempt.ensures, c.attempt_at-was.ensures)

@@ -1,0 +1,5 @@
+use Rattle.questions.proofs.send_refusal.Goals as goal
+
+pub returns : goal.returns
+returns c =
+    rw (c.asked.ensures, c.cue_in.ensures, c.asked-seven.ensures, c.is_member.ensures)

@@ -1,24 +1,22 @@
 -- The book permits the record of every run of the service also with the lines of moves that did not move.
 use mathlib.Core.Path.{◌≡◌, refl, sym, ap, ◌∙◌, subst}
-use mathlib.Core.Bool.{Bool, true, false, cond, ◌&&◌, ◌||◌}
+use mathlib.Core.Bool.{Bool, true, false, ◌&&◌}
 use mathlib.Core.List.{List, [], ◌∷◌, ◌++◌, append_assoc}
-use Prim.Native.Nat.{ℕ, zero, suc, ◌<◌, ◌≤◌}
-use lib.ListN.{length}
+use Prim.Native.Nat.{ℕ, suc, ◌<◌}
 use Rattle.end.specs.declared.Move.{Move}
 use Rattle.end.specs.Answer.{Effect, Out, Got, Done, Ignored, Nothing, Clash, Late, Exhausted, Outcome, Refused, Did}
 use Rattle.end.specs.Event.{Action, Moves, Send, Arrival, Else, moves}
-use Rattle.end.specs.Book.{Book, empty_book, Entry, RunFrom, Answered, Meets, due, after, book_after}
-use Rattle.end.specs.Run.{World, Call, seen, Allowed, Fresh}
+use Rattle.end.specs.Book.{Book, empty_book, Entry, RunFrom, Answered, due, after, book_after}
+use Rattle.end.specs.Run.{seen}
 use Rattle.end.proofs.Tools.{by_test, by_cond, clash, and_right}
 use Rattle.end.proofs.Service.Ends.{service}
 use Rattle.record.specs.declared.Line.{Line}
 use Rattle.record.specs.Line.{moved}
-use Rattle.record.specs.Text.{record_text}
 use Rattle.record.specs.Kept.{lines_of}
 use Rattle.ledger.specs.declared.Judgement.TheVariants as judged
-use Rattle.ledger.specs.Judgement.{anywhere, permits_said, permits, written_said, written, permits_run, most_lines, judgement_of}
-use Rattle.judgement.specs.Record.{lines_from, printed, record_prints}
-use Rattle.fairness.specs.Honest.{tried_line, tried_for, tried_by, record_with, AllCueBytes, TriedPermitted, TriedNeverAccused}
+use Rattle.ledger.specs.Judgement.{anywhere, permits_said, permits, written_said, written, permits_run, judgement_of}
+use Rattle.judgement.specs.Record.{printed, record_prints}
+use Rattle.fairness.specs.Honest.{tried_line, tried_for, tried_by, record_with, TriedPermitted, TriedNeverAccused}
 use Rattle.fairness.proofs.Follows.{Follows, follows_itself}
 use Rattle.fairness.proofs.Judged.{judged_only_so}
 use Rattle.fairness.proofs.Honest.{Continues, noted, one_line, no_lines}

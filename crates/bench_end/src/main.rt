@@ -7,6 +7,8 @@ ghost use Rattle.std.specs.Prelude.{◌≤◌, length};
 
 use end::{Draw, End, Params};
 use message::{CueNumber, Host, Name};
+use std::env::Env;
+use std::io;
 
 fn opened(host: u8) -> End {
     let params = Params {
@@ -224,11 +226,16 @@ fn run(kind: u8, n: u64) -> u64 {
     }
 }
 
-fn main() {
-    let mut kind = [0u8; 2];
-    let mut power = [0u8; 2];
-    let k = os::arg(1, &mut kind);
-    let p = os::arg(2, &mut power);
-    let last = run(kind[0], times(power[0]));
-    io::print_decimal(1, last);
+// The first byte of an argument, or 0 where there is none.
+fn letter(rt: &impl Env, i: usize) -> u8 {
+    let mut word = [0u8; 2];
+    let _ = rt.arg(i, &mut word);
+    word[0]
+}
+
+fn main(rt: HostRuntime) -> io::Result<()> {
+    let kind = letter(&rt, 1);
+    let power = letter(&rt, 2);
+    let last = run(kind, times(power));
+    print!(rt; "{last}")
 }

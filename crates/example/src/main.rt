@@ -6,8 +6,8 @@
 use display::Display;
 use display_window::{Above, Lost};
 use end::{Answer, Draw, End, Params, Stepped};
-use libc::STDOUT_FILENO;
 use message::{CueNumber, Host, Name, Verdict};
+use std::io;
 
 // The draws of a call. A controller takes 64 new random numbers of 16 bits for each call; here they are 0, so that the output is always
 // the same.
@@ -15,33 +15,34 @@ fn draws() -> [Draw; 64] {
     [0; 64]
 }
 
-fn print(text: &[u8]) {
-    io::write_all(STDOUT_FILENO, text);
+fn print(rt: &impl Print, text: &[u8]) -> io::Result<()> {
+    rt.write_all(text)
 }
 
 // Prints what a call answered, and gives the end that it left.
-fn said(call: &[u8], s: Stepped) -> End {
-    print(call);
+fn said(rt: &impl Print, call: &[u8], s: Stepped) -> io::Result<End> {
+    print(rt, call)?;
     let answer = s.answer;
     match answer {
-        Answer::Refused(_) => print(b": refused\n"),
-        Answer::Out(_) => print(b": out\n"),
-        Answer::Got(_) => print(b": got\n"),
-        Answer::Done => print(b": done\n"),
-        Answer::Ignored => print(b": ignored\n"),
-        Answer::Nothing => print(b": nothing\n"),
-        Answer::Clash(_) => print(b": clash\n"),
-        Answer::Late(_) => print(b": late\n"),
-        Answer::Exhausted => print(b": exhausted\n"),
+        Answer::Refused(_) => print(rt, b": refused\n")?,
+        Answer::Out(_) => print(rt, b": out\n")?,
+        Answer::Got(_) => print(rt, b": got\n")?,
+        Answer::Done => print(rt, b": done\n")?,
+        Answer::Ignored => print(rt, b": ignored\n")?,
+        Answer::Nothing => print(rt, b": nothing\n")?,
+        Answer::Clash(_) => print(rt, b": clash\n")?,
+        Answer::Late(_) => print(rt, b": late\n")?,
+        Answer::Exhausted => print(rt, b": exhausted\n")?,
     }
-    s.end
+    Ok(s.end)
 }
 
-fn said_open(verdict: Verdict) {
+fn said_open(rt: &impl Print, verdict: Verdict) -> io::Result<()> {
     match verdict {
-        Verdict::Accepted => print(b"open: accepted\n"),
-        _ => print(b"open: refused\n"),
+        Verdict::Accepted => print(rt, b"open: accepted\n")?,
+        _ => print(rt, b"open: refused\n")?,
     }
+    Ok(())
 }
 
 fn params() -> Params {
@@ -57,13 +58,13 @@ fn params() -> Params {
 }
 
 // Opens the end of a host and makes it a member at clock 0. Where the opening is refused the end is a crashed one, which ignores all.
-fn member(host: Host) -> End {
+fn member(rt: &impl Print, host: Host) -> io::Result<End> {
     let mut out = [0u8; 128];
     let opened = link::open(host, params());
     let verdict = opened.verdict;
-    said_open(verdict);
-    let end = said(b"join", link::join(opened.end, 0, &draws(), &mut out));
-    said(b"joined", link::joined(end, 0, &draws(), &mut out))
+    said_open(rt, verdict)?;
+    let end = said(rt, b"join", link::join(opened.end, 0, &draws(), &mut out))?;
+    said(rt, b"joined", link::joined(end, 0, &draws(), &mut out))
 }
 
 // The first 24 output bytes: the cue of an answer Got or Late.
@@ -77,61 +78,63 @@ fn cue_in(out: &[u8; 128]) -> [u8; 24] {
     cue
 }
 
-fn print_first(text: &[u8], len: usize) {
+fn print_first(rt: &impl Print, text: &[u8], len: usize) -> io::Result<()> {
     if len <= text.len() {
-        print(&text[0..len]);
+        print(rt, &text[0..len])?;
     }
+    Ok(())
 }
 
-fn print_focus(cue: [u8; 24]) {
+fn print_focus(rt: &impl Print, cue: [u8; 24]) -> io::Result<()> {
     let fields = message::fields(&cue);
     let mut text = [b' '; 8];
     let len = decimal::put_i16(&mut text, 0, fields.focus);
-    print(b"focus ");
-    print_first(&text, len);
-    print(b"\n");
+    print(rt, b"focus ")?;
+    print_first(rt, &text, len)?;
+    print(rt, b"\n")?;
+    Ok(())
 }
 
 // An end takes the first `len` bytes that came over the network, and prints the focus of a cue that it handed out.
-fn hear(end: End, clock: u64, came: &[u8], len: usize) -> End {
+fn hear(rt: &impl Print, end: End, clock: u64, came: &[u8], len: usize) -> io::Result<End> {
     if came.len() < len {
-        return end;
+        return Ok(end);
     }
     let mut out = [0u8; 128];
     let s = link::arrival(end, clock, &draws(), &came[0..len], &mut out);
     let answer = s.answer;
-    let end = said(b"arrival", s);
+    let end = said(rt, b"arrival", s)?;
     match answer {
-        Answer::Got(_) | Answer::Late(_) => print_focus(cue_in(&out)),
+        Answer::Got(_) | Answer::Late(_) => print_focus(rt, cue_in(&out))?,
         _ => {}
     }
-    end
+    Ok(end)
 }
 
 // What a call put out goes to another end, as the network would bring it.
-fn carry(answer: Answer, out: &[u8], end: End, clock: u64) -> End {
+fn carry(rt: &impl Print, answer: Answer, out: &[u8], end: End, clock: u64) -> io::Result<End> {
     match answer {
-        Answer::Out(len) => hear(end, clock, out, len),
-        _ => end,
+        Answer::Out(len) => hear(rt, end, clock, out, len),
+        _ => Ok(end),
     }
 }
 
 // At each tick: fires until nothing goes out. At one clock at most 1024 messages do.
-fn fire_all(end: End, clock: u64) -> End {
+fn fire_all(rt: &impl Print, end: End, clock: u64) -> io::Result<End> {
     let mut end = end;
     let mut outs: u64 = 0;
     while outs < 1024 {
         let mut out = [0u8; 128];
         let s = link::fire(end, clock, &draws(), &mut out);
         let answer = s.answer;
-        end = said(b"fire", s);
+        end = said(rt, b"fire", s)?;
         let Answer::Out(_) = answer else {
             break;
         };
         // here the first bytes of `out`, as many as Out says, go to the network
         outs += 1;
     }
-    end
+    Ok(end)
 }
 
 // The end of a controller that was switched off: opened, with the clock and the next own number that it had stored. It is the end
@@ -152,83 +155,90 @@ struct Both {
 }
 
 // The holder takes the first `len` bytes, which ask for a cue, and what it answers goes back to the one that asked.
-fn answered(both: Both, clock: u64, came: &[u8], len: usize) -> Both {
+fn answered(rt: &impl Print, both: Both, clock: u64, came: &[u8], len: usize) -> io::Result<Both> {
     if came.len() < len {
-        return both;
+        return Ok(both);
     }
     let mut out = [0u8; 128];
     let late = both.late;
     let s = link::arrival(both.holder, clock, &draws(), &came[0..len], &mut out);
     let answer = s.answer;
-    let holder = said(b"arrival", s);
-    let late = carry(answer, &out, late, clock);
-    Both { late, holder }
+    let holder = said(rt, b"arrival", s)?;
+    let late = carry(rt, answer, &out, late, clock)?;
+    Ok(Both { late, holder })
 }
 
 // Fetches a cue that went out before the controller joined. Each call tries the nearest host that was not tried yet; once the cue has
 // come it is Ignored.
-fn fetched(both: Both, clock: u64, name: Name) -> Both {
+fn fetched(rt: &impl Print, both: Both, clock: u64, name: Name) -> io::Result<Both> {
     let mut out = [0u8; 128];
     let holder = both.holder;
     let s = link::fetch(both.late, clock, &draws(), name, &mut out);
     let answer = s.answer;
-    let late = said(b"fetch", s);
+    let late = said(rt, b"fetch", s)?;
     let both = Both { late, holder };
     match answer {
-        Answer::Out(len) => answered(both, clock, &out, len),
-        _ => both,
+        Answer::Out(len) => answered(rt, both, clock, &out, len),
+        _ => Ok(both),
     }
 }
 
 // A third controller joins when the sender's first cue has gone out already. It gets the next one, hears which sources the sender
 // reports, and then fetches the cue before. Gives the sender's end.
-fn joins_late(sender: End) -> End {
-    let late = member(Host(2));
+fn joins_late(rt: &impl Print, sender: End) -> io::Result<End> {
+    let late = member(rt, Host(2))?;
     let mut out = [0u8; 128];
     let cue = message::cue_with(3, 0, 0, 0, 500);
     let s = link::send(sender, 24, &draws(), cue, &mut out);
     let answer = s.answer;
-    let sender = said(b"send", s);
-    let late = carry(answer, &out, late, 24);
+    let sender = said(rt, b"send", s)?;
+    let late = carry(rt, answer, &out, late, 24)?;
     let s = link::report(sender, 25, &draws(), &mut out);
     let answer = s.answer;
-    let holder = said(b"report", s);
-    let late = carry(answer, &out, late, 25);
+    let holder = said(rt, b"report", s)?;
+    let late = carry(rt, answer, &out, late, 25)?;
 
     let first = Name {
         source: Host(0),
         number: CueNumber(0),
     };
-    let both = fetched(Both { late, holder }, 26, first);
-    let both = fetched(both, 27, first);
-    both.holder
+    let both = fetched(rt, Both { late, holder }, 26, first)?;
+    let both = fetched(rt, both, 27, first)?;
+    Ok(both.holder)
 }
 
 // ---- a foyer display
 
 // Opens a display that follows a sender.
-fn screen_of(own: Host, sender: Host) -> Display {
+fn screen_of(rt: &impl Print, own: Host, sender: Host) -> io::Result<Display> {
     let opened = display::open(own, sender);
     let verdict = opened.verdict;
-    said_open(verdict);
-    opened.display
+    said_open(rt, verdict)?;
+    Ok(opened.display)
 }
 
 // Cues that will never be handed out: those of the set, bit i for number `lost.trail` + i, and those of a span above them.
-fn said_lost(lost: Lost) {
+fn said_lost(rt: &impl Print, lost: Lost) -> io::Result<()> {
     let above = lost.above;
     if lost.set != 0 {
-        print(b"lost: of the set\n");
+        print(rt, b"lost: of the set\n")?;
     }
     if let Above::Between(_, _) = above {
-        print(b"lost: of the span\n");
+        print(rt, b"lost: of the span\n")?;
     }
+    Ok(())
 }
 
 // A display takes the first `len` bytes that came over the network, and shows the focus of a cue that it handed out.
-fn watch(screen: Display, clock: u64, came: &[u8], len: usize) -> Display {
+fn watch(
+    rt: &impl Print,
+    screen: Display,
+    clock: u64,
+    came: &[u8],
+    len: usize,
+) -> io::Result<Display> {
     if came.len() < len {
-        return screen;
+        return Ok(screen);
     }
     let mut out = [0u8; 128];
     let s = display::hear(screen, clock, &came[0..len], &mut out);
@@ -236,77 +246,84 @@ fn watch(screen: Display, clock: u64, came: &[u8], len: usize) -> Display {
     let lost = s.lost;
     match answer {
         Answer::Got(_) => {
-            print(b"display got: ");
-            print_focus(cue_in(&out));
+            print(rt, b"display got: ")?;
+            print_focus(rt, cue_in(&out))?;
         }
-        Answer::Done => print(b"display: done\n"),
+        Answer::Done => print(rt, b"display: done\n")?,
         _ => {}
     }
-    said_lost(lost);
-    s.display
+    said_lost(rt, lost)?;
+    Ok(s.display)
 }
 
-fn carry_to(answer: Answer, out: &[u8], screen: Display, clock: u64) -> Display {
+fn carry_to(
+    rt: &impl Print,
+    answer: Answer,
+    out: &[u8],
+    screen: Display,
+    clock: u64,
+) -> io::Result<Display> {
     match answer {
-        Answer::Out(len) => watch(screen, clock, out, len),
-        _ => screen,
+        Answer::Out(len) => watch(rt, screen, clock, out, len),
+        _ => Ok(screen),
     }
 }
 
 // At a pace of the display's own: asks for the lowest number that it lacks.
-fn ask(screen: Display, clock: u64) -> Display {
+fn ask(rt: &impl Print, screen: Display, clock: u64) -> io::Result<Display> {
     let mut out = [0u8; 128];
     let s = display::step(screen, clock, &mut out);
     let answer = s.answer;
     match answer {
         // here the first bytes of `out`, as many as Out says, go to the network
-        Answer::Out(_) => print(b"display asks\n"),
-        Answer::Nothing => print(b"display lacks nothing\n"),
-        _ => print(b"display: refused\n"),
+        Answer::Out(_) => print(rt, b"display asks\n")?,
+        Answer::Nothing => print(rt, b"display lacks nothing\n")?,
+        _ => print(rt, b"display: refused\n")?,
     }
-    s.display
+    Ok(s.display)
 }
 
 // A display of host 3 that follows host 0 and hears its first cue.
-fn follows(answer: Answer, out: &[u8]) -> Display {
-    let screen = screen_of(Host(3), Host(0));
-    let screen = carry_to(answer, out, screen, 12);
-    ask(screen, 20)
+fn follows(rt: &impl Print, answer: Answer, out: &[u8]) -> io::Result<Display> {
+    let screen = screen_of(rt, Host(3), Host(0))?;
+    let screen = carry_to(rt, answer, out, screen, 12)?;
+    ask(rt, screen, 20)
 }
 
 // The sender tells displays which of its cues can still be had, and the display asks for the one that it lacks.
-fn announces(sender: End, screen: Display) -> End {
+fn announces(rt: &impl Print, sender: End, screen: Display) -> io::Result<End> {
     let mut out = [0u8; 128];
     let s = link::announce(sender, 28, &draws(), &mut out);
     let answer = s.answer;
-    let sender = said(b"announce", s);
-    let screen = carry_to(answer, &out, screen, 28);
-    ask(screen, 29);
-    sender
+    let sender = said(rt, b"announce", s)?;
+    let screen = carry_to(rt, answer, &out, screen, 28)?;
+    ask(rt, screen, 29)?;
+    Ok(sender)
 }
 
-fn main() {
-    let sender = member(Host(0));
-    let listener = member(Host(1));
+fn main(rt: HostRuntime) -> io::Result<()> {
+    let sender = member(&rt, Host(0))?;
+    let listener = member(&rt, Host(1))?;
     let mut out = [0u8; 128];
 
     let cue = message::cue_with(-2, 0, 0, 0, 500);
     let s = link::send(sender, 10, &draws(), cue, &mut out);
     let answer = s.answer;
-    let sender = said(b"send", s);
-    let listener = carry(answer, &out, listener, 12);
-    let listener = fire_all(listener, 20);
-    let screen = follows(answer, &out);
+    let sender = said(&rt, b"send", s)?;
+    let listener = carry(&rt, answer, &out, listener, 12)?;
+    let listener = fire_all(&rt, listener, 20)?;
+    let screen = follows(&rt, answer, &out)?;
     let s = link::report(listener, 20, &draws(), &mut out);
     let answer = s.answer;
-    let listener = said(b"report", s);
-    let sender = carry(answer, &out, sender, 22);
-    let sender = joins_late(sender);
-    let sender = announces(sender, screen);
+    let listener = said(&rt, b"report", s)?;
+    let sender = carry(&rt, answer, &out, sender, 22)?;
+    let sender = joins_late(&rt, sender)?;
+    let sender = announces(&rt, sender, screen)?;
 
-    let sender = said(b"leave", link::leave(sender, 30, &draws(), &mut out));
-    let sender = said(b"left", link::left(sender, 40, &draws(), &mut out));
+    let sender = said(&rt, b"leave", link::leave(sender, 30, &draws(), &mut out))?;
+    let sender = said(&rt, b"left", link::left(sender, 40, &draws(), &mut out))?;
     let sender = restarted(Host(0), sender.clock, sender.next);
-    said(b"join", link::join(sender, 50, &draws(), &mut out));
-    said(b"crash", link::crash(listener, 50, &draws(), &mut out));
+    said(&rt, b"join", link::join(sender, 50, &draws(), &mut out))?;
+    said(&rt, b"crash", link::crash(listener, 50, &draws(), &mut out))?;
+    Ok(())
 }

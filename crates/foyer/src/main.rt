@@ -1,6 +1,8 @@
 // Plays a script from standard input on two ends and a display, and prints what they answer: docs/DISPLAYS.md.
 #![tactic(auto)]
 
-fn main() {
-    viewing::run();
+use std::io;
+
+fn main(rt: HostRuntime) -> io::Result<()> {
+    viewing::run(&rt)
 }

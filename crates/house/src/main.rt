@@ -2,12 +2,13 @@
 // behind the program's name it prints the record of the run instead (document 02, P13): a script is a trace, and is played as one.
 #![tactic(auto)]
 
+use std::io;
 use trace::words;
 
-fn main() {
-    let word = arguments::first();
+fn main(rt: HostRuntime) -> io::Result<()> {
+    let word = arguments::first(&rt);
     match word {
-        words::RECORD => playback::run(desk::RECORD),
-        _ => console::play(interpreter::opened()),
+        words::RECORD => playback::run(&rt, desk::RECORD),
+        _ => console::play(&rt, interpreter::opened()),
     }
 }

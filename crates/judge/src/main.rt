@@ -4,7 +4,8 @@
 #![tactic(auto)]
 
 use judgement::Kept;
-use libc::{STDIN_FILENO, STDOUT_FILENO};
+use std::io;
+use std::io::Read;
 
 // What is kept after a piece, and whether another is to be read.
 #[derive(Clone, Copy)]
@@ -14,23 +15,21 @@ struct Next {
 }
 
 // Reads the next piece and takes it; there is no more at the end of the input, and where there are too many lines already.
-fn take_next(from: Kept) -> Next {
+fn take_next(input: &mut impl Read, from: Kept) -> io::Result<Next> {
     let mut piece = [0u8; 4096];
-    let got = libc::read(STDIN_FILENO, &mut piece);
-    let n = io::count(got, &piece);
+    let n = input.read(&mut piece)?;
     let kept = judgement::feed(from, &piece[..n]);
     let over = judgement::too_many(kept);
     let more = (0 < n) & !over;
-    Next { kept, more }
+    Ok(Next { kept, more })
 }
 
-// A proved loop has to end, and nothing says that the input does, so the pieces are counted, from a number that no run uses up.
-fn main() {
+// A proved loop has to end, and nothing says that the input does, so the pieces are counted, up to a number that no run uses up.
+fn main(rt: HostRuntime) -> io::Result<()> {
+    let mut input = rt.reader();
     let mut kept = judgement::opened();
-    let mut pieces = u64::MAX;
-    while 0 < pieces {
-        pieces -= 1;
-        let next = take_next(kept);
+    for _ in 0..u64::MAX {
+        let next = take_next(&mut input, kept)?;
         kept = next.kept;
         if !next.more {
             break;
@@ -38,5 +37,5 @@ fn main() {
     }
     let mut out = [0u8; 32];
     let n = judgement::finish(kept, &mut out);
-    io::write_all(STDOUT_FILENO, &out[..n]);
+    rt.write_all(&out[..n])
 }

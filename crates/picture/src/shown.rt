@@ -4,6 +4,7 @@ ghost use Rattle.std.specs.Prelude.{◌≤◌};
 use crate::flat::{Flat, Head, Held, Marks};
 use crate::{flat, text};
 use end::{Attempt, End, Params, Record, Source, Status};
+use std::io;
 use trace::words;
 
 // The six parameters and E, each but the first behind a space.
@@ -128,42 +129,70 @@ fn record_start(out: &mut [u8; 65536], n: &mut [usize; 20], source: u64, number:
     text::put(out, n, b' ');
 }
 
-fn record_line(out: &mut [u8; 65536], n: &mut [usize; 20], source: u64, number: u64, r: Record) {
+fn record_line(
+    rt: &impl Print,
+    out: &mut [u8; 65536],
+    n: &mut [usize; 20],
+    source: u64,
+    number: u64,
+    r: Record,
+) -> io::Result<()> {
     record_start(out, n, source, number);
     record(out, n, r);
     text::put(out, n, b'\n');
-    text::flush_much(out, n);
+    text::flush_much(rt, out, n)
 }
 
 // The records that are not as an opened end has them.
-fn names(out: &mut [u8; 65536], n: &mut [usize; 20], source: u64, records: [Record; 64]) {
+fn names(
+    rt: &impl Print,
+    out: &mut [u8; 65536],
+    n: &mut [usize; 20],
+    source: u64,
+    records: [Record; 64],
+) -> io::Result<()> {
     let mut i: usize = 0;
     while i < 64 {
         let r = records[i];
         if !flat::is_blank(flat::record_of(r)) {
-            record_line(out, n, source, i as u64, r);
+            record_line(rt, out, n, source, i as u64, r)?;
         }
         i += 1;
     }
+    Ok(())
 }
 
-fn attempt_line(out: &mut [u8; 65536], n: &mut [usize; 20], source: u64, place: u64, m: Marks) {
+fn attempt_line(
+    rt: &impl Print,
+    out: &mut [u8; 65536],
+    n: &mut [usize; 20],
+    source: u64,
+    place: u64,
+    m: Marks,
+) -> io::Result<()> {
     let all = [source, place, m.tried, m.late, 0, 0];
     line(out, n, words::ATTEMPT, all, 4);
-    text::flush_much(out, n);
+    text::flush_much(rt, out, n)
 }
 
 // The places at which something was done.
-fn attempts(out: &mut [u8; 65536], n: &mut [usize; 20], source: u64, all: [Attempt; 64]) {
+fn attempts(
+    rt: &impl Print,
+    out: &mut [u8; 65536],
+    n: &mut [usize; 20],
+    source: u64,
+    all: [Attempt; 64],
+) -> io::Result<()> {
     let mut i: usize = 0;
     while i < 64 {
         let a = all[i];
         let m = flat::marks_of(a);
         if !flat::is_unmarked(m) {
-            attempt_line(out, n, source, i as u64, m);
+            attempt_line(rt, out, n, source, i as u64, m)?;
         }
         i += 1;
     }
+    Ok(())
 }
 
 fn span_part(out: &mut [u8; 65536], n: &mut [usize; 20], h: Head) {
@@ -212,17 +241,23 @@ fn head_line(out: &mut [u8; 65536], n: &mut [usize; 20], source: u64, h: Head) {
     text::put(out, n, b'\n');
 }
 
-fn sources(out: &mut [u8; 65536], n: &mut [usize; 20], all: [Source; 8]) {
+fn sources(
+    rt: &impl Print,
+    out: &mut [u8; 65536],
+    n: &mut [usize; 20],
+    all: [Source; 8],
+) -> io::Result<()> {
     let mut i: usize = 0;
     while i < 8 {
         let s = all[i];
         let records = s.names;
         let tries = s.attempts;
         head_line(out, n, i as u64, flat::head_of(s));
-        names(out, n, i as u64, records);
-        attempts(out, n, i as u64, tries);
+        names(rt, out, n, i as u64, records)?;
+        attempts(rt, out, n, i as u64, tries)?;
         i += 1;
     }
+    Ok(())
 }
 
 fn status_line(out: &mut [u8; 65536], n: &mut [usize; 20], s: Status) {
@@ -232,8 +267,8 @@ fn status_line(out: &mut [u8; 65536], n: &mut [usize; 20], s: Status) {
     text::put(out, n, b'\n');
 }
 
-// The whole state.
-pub fn end(out: &mut [u8; 65536], n: &mut [usize; 20], e: End) {
+// The whole state. It is written out where it is much; an error is one of writing.
+pub fn end(rt: &impl Print, out: &mut [u8; 65536], n: &mut [usize; 20], e: End) -> io::Result<()> {
     let p = e.params;
     let s = e.status;
     let all = e.sources;
@@ -246,5 +281,5 @@ pub fn end(out: &mut [u8; 65536], n: &mut [usize; 20], e: End) {
     field(out, n, words::CLOCK, e.clock);
     status_line(out, n, s);
     field(out, n, words::NEXT, e.next as u64);
-    sources(out, n, all);
+    sources(rt, out, n, all)
 }

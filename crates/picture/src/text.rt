@@ -2,7 +2,7 @@
 // USED. The other numbers are not touched here.
 ghost use Rattle.std.specs.Prelude.{◌≤◌};
 
-use libc::STDOUT_FILENO;
+use std::io;
 
 pub const USED: usize = 0;
 
@@ -127,21 +127,24 @@ pub fn sign(text: &mut [u8; 65536], n: &mut [usize; 20], b: u8) {
     put(text, n, b' ');
 }
 
-fn write(buffer: &[u8], used: usize) {
+fn write(rt: &impl Print, buffer: &[u8], used: usize) -> io::Result<()> {
     if used <= buffer.len() {
-        io::write_all(STDOUT_FILENO, &buffer[..used]);
+        rt.write_all(&buffer[..used])?;
     }
+    Ok(())
 }
 
-// Writes out what is there.
-pub fn flush(text: &mut [u8; 65536], n: &mut [usize; 20]) {
-    write(text, n[USED]);
+// Writes out what is there; where that failed, all of it is still there.
+pub fn flush(rt: &impl Print, text: &mut [u8; 65536], n: &mut [usize; 20]) -> io::Result<()> {
+    write(rt, text, n[USED])?;
     n[USED] = 0;
+    Ok(())
 }
 
 // Writes out what is there, once it is much.
-pub fn flush_much(text: &mut [u8; 65536], n: &mut [usize; 20]) {
+pub fn flush_much(rt: &impl Print, text: &mut [u8; 65536], n: &mut [usize; 20]) -> io::Result<()> {
     if MUCH < n[USED] {
-        flush(text, n);
+        flush(rt, text, n)?;
     }
+    Ok(())
 }

@@ -9,6 +9,7 @@ mod turn;
 use end::{Draw, End, Params};
 use message::Host;
 use picture::text;
+use std::io;
 
 // A host's end, freshly opened.
 fn fresh(host: u8) -> End {
@@ -39,8 +40,9 @@ fn opened() -> [End; 10] {
     ends
 }
 
-// Plays standard input in a mode: desk::PLAIN, ROWS, WORDS or RECORD.
-pub fn run(mode: usize) {
+// Plays standard input in a mode: desk::PLAIN, ROWS, WORDS or RECORD. An error is one of reading or writing.
+pub fn run(rt: &(impl Input + Print), mode: usize) -> io::Result<()> {
+    let mut input = rt.reader();
     let mut buffer = [0u8; 65536];
     let mut line = [0u8; 1000];
     let mut draws: [Draw; 66] = [0; 66];
@@ -50,10 +52,10 @@ pub fn run(mode: usize) {
     let mut n = [0usize; 20];
     n[desk::MODE] = mode;
     let mut ends = opened();
-    let mut turns = u64::MAX;
-    while 0 < turns {
-        turns -= 1;
+    for _ in 0..u64::MAX {
         let t = turn::next(
+            rt,
+            &mut input,
             &mut buffer,
             &mut line,
             &mut n,
@@ -61,7 +63,7 @@ pub fn run(mode: usize) {
             &mut out,
             &mut store,
             &mut text,
-        );
+        )?;
         let who = t.who;
         let other = t.other;
         if who < 10 {
@@ -69,8 +71,8 @@ pub fn run(mode: usize) {
                 let e = ends[who];
                 let f = ends[other];
                 let left = turn::on_end(
-                    e, f, t, &line, &mut n, &draws, &mut out, &mut store, &mut text,
-                );
+                    rt, e, f, t, &line, &mut n, &draws, &mut out, &mut store, &mut text,
+                )?;
                 ends[who] = left;
             }
         } else if who == turn::STARTS {
@@ -80,5 +82,5 @@ pub fn run(mode: usize) {
             break;
         }
     }
-    text::flush(&mut text, &mut n);
+    text::flush(rt, &mut text, &mut n)
 }

@@ -1,5 +1,6 @@
 // What stands around a line: its number before, what was expected of its answer, the headings, and the last line.
 use picture::text;
+use std::io;
 use trace::cut::Parts;
 use trace::words;
 
@@ -98,7 +99,14 @@ fn answered(text: &mut [u8; 65536], n: &mut [usize; 20], wrong: bool) {
 }
 
 // After a line was played, of which `at` bytes were read: whether it was well written, and what of it is printed.
-pub fn end(line: &[u8; 1000], p: Parts, at: usize, text: &mut [u8; 65536], n: &mut [usize; 20]) {
+pub fn end(
+    rt: &impl Print,
+    line: &[u8; 1000],
+    p: Parts,
+    at: usize,
+    text: &mut [u8; 65536],
+    n: &mut [usize; 20],
+) -> io::Result<()> {
     let silent = n[desk::TO] == 0;
     let unfit = p.expects & (silent | (p.to <= p.from));
     if unfit | !trace::whole(p.end, at) {
@@ -111,7 +119,7 @@ pub fn end(line: &[u8; 1000], p: Parts, at: usize, text: &mut [u8; 65536], n: &m
         let wrong = is_wrong(line, p, text, n);
         answered(text, n, wrong);
     }
-    text::flush_much(text, n);
+    text::flush_much(rt, text, n)
 }
 
 // ---- headings
@@ -161,12 +169,13 @@ fn heading_length(len: usize, from: usize) -> usize {
 
 // A heading starts: the line without its `#` and one space behind it.
 pub fn head(
+    rt: &impl Print,
     line: &[u8; 1000],
     len: usize,
     store: &mut [u8; 17408],
     text: &mut [u8; 65536],
     n: &mut [usize; 20],
-) {
+) -> io::Result<()> {
     if n[desk::MODE] == desk::ROWS {
         close(store, text, n);
         let from: usize = if trace::byte_at(line, len, 1) == b' ' {
@@ -176,8 +185,9 @@ pub fn head(
         };
         keep(line, from, store);
         n[desk::HEADING] = heading_length(len, from);
-        text::flush_much(text, n);
+        text::flush_much(rt, text, n)?;
     }
+    Ok(())
 }
 
 // ---- the end

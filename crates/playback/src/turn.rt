@@ -2,6 +2,8 @@
 use crate::play;
 use end::{Draw, End};
 use picture::{shown, text};
+use std::io;
+use std::io::Read;
 use trace::cut::Parts;
 use trace::words;
 
@@ -70,19 +72,20 @@ fn nobody(p: Parts, who: usize) -> Turn {
 
 // A line without an end is played here.
 fn on_none(
+    rt: &impl Print,
     line: &[u8; 1000],
     p: Parts,
     n: &mut [usize; 20],
     draws: &mut [Draw; 66],
     out: &mut [u8; 200],
     text: &mut [u8; 65536],
-) -> Turn {
+) -> io::Result<Turn> {
     let mut at: usize = 0;
     let starts = trace::peek(line, p.end, 0) == words::START;
     play::begin(text, n);
     without_end(line, p.end, &mut at, n, draws, out, text);
-    play::end(line, p, at, text, n);
-    nobody(p, if starts { STARTS } else { NOTHING })
+    play::end(rt, line, p, at, text, n)?;
+    Ok(nobody(p, if starts { STARTS } else { NOTHING }))
 }
 
 // ---- whom a line is about
@@ -112,25 +115,26 @@ fn place(line: &[u8; 1000], p: Parts) -> usize {
 
 // A line of the input that is no heading.
 fn about(
+    rt: &impl Print,
     line: &[u8; 1000],
     p: Parts,
     n: &mut [usize; 20],
     draws: &mut [Draw; 66],
     out: &mut [u8; 200],
     text: &mut [u8; 65536],
-) -> Turn {
+) -> io::Result<Turn> {
     if p.to == 0 {
-        return nobody(p, NOTHING);
+        return Ok(nobody(p, NOTHING));
     }
     let who = place(line, p);
     if who < 10 {
-        return Turn {
+        return Ok(Turn {
             who,
             other: other(line, p, who),
             parts: p,
-        };
+        });
     }
-    on_none(line, p, n, draws, out, text)
+    on_none(rt, line, p, n, draws, out, text)
 }
 
 // The end of the input, or a line that is too long or has no line feed.
@@ -154,6 +158,8 @@ fn over(
 
 // The next line of the input. Where it is about no end it is played at once.
 pub fn next(
+    rt: &impl Print,
+    input: &mut impl Read,
     buffer: &mut [u8; 65536],
     line: &mut [u8; 1000],
     n: &mut [usize; 20],
@@ -161,21 +167,21 @@ pub fn next(
     out: &mut [u8; 200],
     store: &mut [u8; 17408],
     text: &mut [u8; 65536],
-) -> Turn {
+) -> io::Result<Turn> {
     if n[desk::LINES] == 0 {
         desk::start(n, draws);
     }
-    let got = intake::next(buffer, n, line);
+    let got = intake::next(input, buffer, n, line)?;
     let p = trace::cut::cut(line, got);
     if trace::LONGEST < got {
-        return over(p, got, n, store, text);
+        return Ok(over(p, got, n, store, text));
     }
     desk::count(n, desk::LINES);
     if trace::byte_at(line, got, 0) == b'#' {
-        play::head(line, got, store, text, n);
-        return nobody(p, NOTHING);
+        play::head(rt, line, got, store, text, n)?;
+        return Ok(nobody(p, NOTHING));
     }
-    about(line, p, n, draws, out, text)
+    about(rt, line, p, n, draws, out, text)
 }
 
 // ---- lines on an end
@@ -218,15 +224,17 @@ fn played(
 }
 
 // The state behind a line that shows it.
-fn show(e: End, text: &mut [u8; 65536], n: &mut [usize; 20]) {
+fn show(rt: &impl Print, e: End, text: &mut [u8; 65536], n: &mut [usize; 20]) -> io::Result<()> {
     let mode = n[desk::MODE];
     if (n[desk::AFTER] == desk::SHOWS) & ((mode == desk::PLAIN) | (mode == desk::WORDS)) {
-        shown::end(text, n, e);
+        shown::end(rt, text, n, e)?;
     }
+    Ok(())
 }
 
 // Plays a line on an end.
 pub fn on_end(
+    rt: &impl Print,
     e: End,
     other: End,
     t: Turn,
@@ -236,7 +244,7 @@ pub fn on_end(
     out: &mut [u8; 200],
     store: &mut [u8; 17408],
     text: &mut [u8; 65536],
-) -> End {
+) -> io::Result<End> {
     let p = t.parts;
     let mut at: usize = 1;
     play::begin(text, n);
@@ -244,7 +252,7 @@ pub fn on_end(
     if (n[desk::MODE] == desk::RECORD) & (SPARE <= t.who) {
         n[desk::FROM] = n[desk::START];
     }
-    play::end(line, p, at, text, n);
-    show(left, text, n);
-    left
+    play::end(rt, line, p, at, text, n)?;
+    show(rt, left, text, n)?;
+    Ok(left)
 }

@@ -5,8 +5,8 @@
 #![tactic(auto)]
 
 use end::{Answer, Draw, End, Params, Source, Span, Stepped};
-use libc::STDOUT_FILENO;
 use message::{CueNumber, Host};
+use std::io;
 
 // So many cues are sent, and the reader hears one message in so many.
 const SENDS: u64 = 65536;
@@ -144,36 +144,37 @@ fn reported(s: Season, clock: u64) -> Season {
 
 // ---- the rows
 
-fn print(text: &[u8]) {
-    io::write_all(STDOUT_FILENO, text);
+fn print(rt: &impl Print, text: &[u8]) -> io::Result<()> {
+    rt.write_all(text)
 }
 
 // The seven bytes before a place: a number that ends there, behind blanks.
-fn print_before(text: &[u8], end: usize) {
+fn print_before(rt: &impl Print, text: &[u8], end: usize) -> io::Result<()> {
     if end <= text.len() {
         if 7 <= end {
-            print(&text[end - 7..end]);
+            print(rt, &text[end - 7..end])?;
         }
     }
+    Ok(())
 }
 
-fn cell(v: u64) {
+fn cell(rt: &impl Print, v: u64) -> io::Result<()> {
     let mut text = [b' '; 27];
     let end = decimal::put_u64(&mut text, 7, v);
-    print_before(&text, end);
+    print_before(rt, &text, end)
 }
 
-fn bounds(first: CueNumber, last: CueNumber) {
-    cell(first.0 as u64);
-    cell(last.0 as u64);
+fn bounds(rt: &impl Print, first: CueNumber, last: CueNumber) -> io::Result<()> {
+    cell(rt, first.0 as u64)?;
+    cell(rt, last.0 as u64)
 }
 
 // First and last of a source.
-fn span(s: Source) {
+fn span(rt: &impl Print, s: Source) -> io::Result<()> {
     let span = s.span;
     match span {
-        Span::Closed => print(b" closed       "),
-        Span::Open(first, last) => bounds(first, last),
+        Span::Closed => print(rt, b" closed       "),
+        Span::Open(first, last) => bounds(rt, first, last),
     }
 }
 
@@ -183,17 +184,17 @@ fn source(e: End) -> Source {
     all[0]
 }
 
-fn row(sends: u64, s: Season) {
+fn row(rt: &impl Print, sends: u64, s: Season) -> io::Result<()> {
     let sender = s.sender;
     let reader = s.reader;
     let of = source(reader);
-    cell(sends);
-    cell(sender.next as u64);
-    span(source(sender));
-    cell(s.counts.gots);
-    span(of);
-    cell(of.missed as u64);
-    print(b"\n");
+    cell(rt, sends)?;
+    cell(rt, sender.next as u64)?;
+    span(rt, source(sender))?;
+    cell(rt, s.counts.gots)?;
+    span(rt, of)?;
+    cell(rt, of.missed as u64)?;
+    print(rt, b"\n")
 }
 
 // After which sends a row is printed: about the first retired number, about some of those that the reader hears, and at the end.
@@ -204,39 +205,42 @@ fn has_row(sends: u64) -> bool {
     }
 }
 
-fn total(name: &[u8], v: u64) {
-    cell(v);
-    print(name);
+fn total(rt: &impl Print, name: &[u8], v: u64) -> io::Result<()> {
+    cell(rt, v)?;
+    print(rt, name)
 }
 
-fn totals(c: Counts) {
-    total(b" out\n", c.outs);
-    total(b" got\n", c.gots);
-    total(b" refused 7\n", c.sevens);
-    total(b" other\n", c.others);
+fn totals(rt: &impl Print, c: Counts) -> io::Result<()> {
+    total(rt, b" out\n", c.outs)?;
+    total(rt, b" got\n", c.gots)?;
+    total(rt, b" refused 7\n", c.sevens)?;
+    total(rt, b" other\n", c.others)
 }
 
 // ---- the season
 
-fn play(s: Season) -> Season {
+fn play(rt: &impl Print, s: Season) -> io::Result<Season> {
     let mut t = s;
     let mut number: u64 = 0;
     while number < SENDS {
         t = sent(t, number);
         number += 1;
         if has_row(number) {
-            row(number, t);
+            row(rt, number, t)?;
         }
     }
-    t
+    Ok(t)
 }
 
-fn main() {
-    print(b"  sends   next  first   last    got  first   last missed\n");
-    let season = play(opened());
+fn main(rt: HostRuntime) -> io::Result<()> {
+    print(
+        &rt,
+        b"  sends   next  first   last    got  first   last missed\n",
+    )?;
+    let season = play(&rt, opened())?;
     let refused = sent(season, SENDS);
-    print(b"and one send more: the answers\n");
-    totals(refused.counts);
-    print(b"after a report that the reader hears\n");
-    row(SENDS, reported(refused, SENDS));
+    print(&rt, b"and one send more: the answers\n")?;
+    totals(&rt, refused.counts)?;
+    print(&rt, b"after a report that the reader hears\n")?;
+    row(&rt, SENDS, reported(refused, SENDS))
 }

@@ -3,24 +3,26 @@
 #![tactic(auto)]
 
 use calendar::Date;
-use libc::STDOUT_FILENO;
+use std::io;
 
 // A date and the day after it, in a line, where a month or the calendar ends there.
-fn show(d: Date, next: Date) {
+fn show(rt: &impl Print, d: Date, next: Date) -> io::Result<()> {
     if (next.day == 1) | (next.day == d.day) {
         let mut out = [0u8; 22];
         let n = entries::put_days(&mut out, d, next);
-        io::write_all(STDOUT_FILENO, &out[..n]);
+        rt.write_all(&out[..n])?;
     }
+    Ok(())
 }
 
-fn main() {
+fn main(rt: HostRuntime) -> io::Result<()> {
     let mut d = Date::FIRST;
     let mut left: usize = 36525;
     while 0 < left {
         left -= 1;
         let next = calendar::day_after(d);
-        show(d, next);
+        show(&rt, d, next)?;
         d = next;
     }
+    Ok(())
 }

@@ -3,10 +3,11 @@
 // is printed must be the same. The input, and what one script prints, has at most 16384 bytes. What the scripts of the stored run are for is in SCRIPTS.md.
 #![tactic(auto)]
 
-ghost use Rattle.std.specs.Prelude.{◌≡◌, ◌≤◌, ◌<◌, length};
+ghost use Rattle.std.specs.Prelude.{◌≡◌, ◌≤◌, ◌<◌, length, IfOk};
 
 use interpreter::Playing;
-use libc::{STDIN_FILENO, STDOUT_FILENO};
+use std::io;
+use std::io::Read;
 
 // Where a script stands after a piece: how much of it is taken, and how much is printed.
 #[derive(Clone, Copy)]
@@ -147,14 +148,15 @@ fn same(a: &[u8], b: &[u8], n: usize) -> bool {
     true
 }
 
-fn show(bytes: &[u8], n: usize) {
+fn show(rt: &impl Print, bytes: &[u8], n: usize) -> io::Result<()> {
     if n <= bytes.len() {
-        io::write_all(STDOUT_FILENO, &bytes[..n]);
+        rt.write_all(&bytes[..n])?;
     }
+    Ok(())
 }
 
 // Plays one script, and prints what it gives in pieces of every size.
-fn play_script(script: &[u8]) {
+fn play_script(rt: &impl Print, script: &[u8]) -> io::Result<()> {
     let mut single = [0u8; 16384];
     let mut seven = [0u8; 16384];
     let mut whole = [0u8; 16384];
@@ -164,26 +166,42 @@ fn play_script(script: &[u8]) {
     let first = same(&single, &whole, c);
     let second = same(&seven, &whole, c);
     if (a == c) & (b == c) & first & second {
-        show(&whole, c);
+        show(rt, &whole, c)
     } else {
-        io::write_all(STDOUT_FILENO, b"pieces differ\n");
+        rt.write_all(b"pieces differ\n")
     }
 }
 
 // Plays each script after the line before it.
-fn play_all(text: &[u8]) {
+fn play_all(rt: &impl Print, text: &[u8]) -> io::Result<()> {
     let mut at: usize = 0;
     while at < text.len() {
         let first = line_end(text, at);
         let last = script_end(text, first);
-        io::write_all(STDOUT_FILENO, &text[at..first]);
-        play_script(&text[first..last]);
+        rt.write_all(&text[at..first])?;
+        play_script(rt, &text[first..last])?;
         at = last;
     }
+    Ok(())
 }
 
-fn main() {
+// Reads until the buffer is full or the input ends, and answers how many bytes came.
+fn read_full(input: &mut impl Read, buffer: &mut [u8]) -> io::Result<usize>
+    ensures { IfOk result (λ n. n ≤ length buffer.new) }
+{
+    let mut done: usize = 0;
+    while done < buffer.len() {
+        let n = input.read(&mut buffer[done..])?;
+        if n == 0 {
+            break;
+        }
+        done += n;
+    }
+    Ok(done)
+}
+
+fn main(rt: HostRuntime) -> io::Result<()> {
     let mut text = [0u8; 16384];
-    let len = io::read_full(STDIN_FILENO, &mut text);
-    play_all(&text[..len])
+    let len = read_full(&mut rt.reader(), &mut text)?;
+    play_all(&rt, &text[..len])
 }

@@ -3,9 +3,10 @@
 // input has at most 65536 bytes. What the records of the stored run are for is in RECORDS.md.
 #![tactic(auto)]
 
-ghost use Rattle.std.specs.Prelude.{◌≤◌, ◌<◌, length};
+ghost use Rattle.std.specs.Prelude.{◌≤◌, ◌<◌, length, IfOk};
 
-use libc::{STDIN_FILENO, STDOUT_FILENO};
+use std::io;
+use std::io::Read;
 
 // What is printed for a record: the first `len` bytes.
 #[derive(Clone, Copy)]
@@ -96,42 +97,59 @@ fn same(one: Printed, other: Printed) -> bool {
     ok
 }
 
-fn show(printed: Printed) {
+fn show(rt: &impl Print, printed: Printed) -> io::Result<()> {
     let out = printed.out;
     let len = printed.len;
     if len <= 32 {
-        io::write_all(STDOUT_FILENO, &out[..len]);
+        rt.write_all(&out[..len])?;
     }
+    Ok(())
 }
 
 // Judges one record in pieces of every size.
-fn judge_record(bytes: &[u8]) {
+fn judge_record(rt: &impl Print, bytes: &[u8]) -> io::Result<()> {
     let single = judge_in(bytes, 1);
     let seven = judge_in(bytes, 7);
     let whole = judge_in(bytes, 65536);
     let first = same(single, whole);
     let second = same(seven, whole);
     if first & second {
-        show(whole);
+        show(rt, whole)
     } else {
-        io::write_all(STDOUT_FILENO, b"pieces differ\n");
+        rt.write_all(b"pieces differ\n")
     }
 }
 
 // Judges each record after the line before it.
-fn judge_all(text: &[u8]) {
+fn judge_all(rt: &impl Print, text: &[u8]) -> io::Result<()> {
     let mut at: usize = 0;
     while at < text.len() {
         let first = line_end(text, at);
         let last = record_end(text, first);
-        io::write_all(STDOUT_FILENO, &text[at..first]);
-        judge_record(&text[first..last]);
+        rt.write_all(&text[at..first])?;
+        judge_record(rt, &text[first..last])?;
         at = last;
     }
+    Ok(())
 }
 
-fn main() {
+// Reads until the buffer is full or the input ends, and answers how many bytes came.
+fn read_full(input: &mut impl Read, buffer: &mut [u8]) -> io::Result<usize>
+    ensures { IfOk result (λ n. n ≤ length buffer.new) }
+{
+    let mut done: usize = 0;
+    while done < buffer.len() {
+        let n = input.read(&mut buffer[done..])?;
+        if n == 0 {
+            break;
+        }
+        done += n;
+    }
+    Ok(done)
+}
+
+fn main(rt: HostRuntime) -> io::Result<()> {
     let mut text = [0u8; 65536];
-    let len = io::read_full(STDIN_FILENO, &mut text);
-    judge_all(&text[..len])
+    let len = read_full(&mut rt.reader(), &mut text)?;
+    judge_all(&rt, &text[..len])
 }

@@ -13,6 +13,7 @@ use display::Display;
 use end::{End, Params};
 use message::Host;
 use picture::text;
+use std::io;
 
 // Numbers with a place each, beside those of picture::text and intake: how many bytes the display's output has, how many messages were put
 // out, how many bytes of the output the display's last answer accounts for, and whether (0 or 1) the script is over.
@@ -91,9 +92,10 @@ fn aside(first: u8, line: &[u8; 1000], end: usize, n: &mut [usize; 20], text: &m
     }
 }
 
-// Plays standard input. A proved loop has to end, and nothing says that the input does, so the lines are counted, from a number that no run
-// uses up.
-pub fn run() {
+// Plays standard input. A proved loop has to end, and nothing says that the input does, so the lines are counted, up to a number that no run
+// uses up. An error is one of reading or writing.
+pub fn run(rt: &(impl Input + Print)) -> io::Result<()> {
+    let mut input = rt.reader();
     let mut buffer = [0u8; 65536];
     let mut line = [0u8; 1000];
     let mut out = [FILLING; 200];
@@ -105,10 +107,8 @@ pub fn run() {
     let mut zero = fresh(0);
     let mut one = fresh(1);
     let mut seen = fresh_display();
-    let mut turns = u64::MAX;
-    while 0 < turns {
-        turns -= 1;
-        let len = intake::next(&mut buffer, &mut n, &mut line);
+    for _ in 0..u64::MAX {
+        let len = intake::next(&mut input, &mut buffer, &mut n, &mut line)?;
         let first = about(&line, len);
         match first {
             b'0' => {
@@ -147,10 +147,10 @@ pub fn run() {
             }
             _ => aside(first, &line, len, &mut n, &mut text),
         }
-        text::flush_much(&mut text, &mut n);
+        text::flush_much(rt, &mut text, &mut n)?;
         if n[OVER] == 1 {
             break;
         }
     }
-    text::flush(&mut text, &mut n);
+    text::flush(rt, &mut text, &mut n)
 }

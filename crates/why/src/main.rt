@@ -1,6 +1,8 @@
 // Plays a script of house, and prints house's lines with the reason's words after each "ignored": document 02, P3.
 #![tactic(auto)]
 
-fn main() {
-    console::play(interpreter::opened_explaining())
+use std::io;
+
+fn main(rt: HostRuntime) -> io::Result<()> {
+    console::play(&rt, interpreter::opened_explaining())
 }

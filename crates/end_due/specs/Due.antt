@@ -1,5 +1,5 @@
 -- When the earliest wait of an end is due, with no regard to its clock.
-use Rattle.std.specs.Prelude.{ℕ, zero, suc, ◌+◌, Bool, true, false, cond, List, get_or, ltb}
+use Rattle.std.specs.Prelude.{ℕ, ◌+◌, cond, List, get_or, ltb}
 use Rattle.end.specs.declared.Slot.{Slot}
 use Rattle.end.specs.declared.Slot.TheVariants.{Empty, Held, Waiting}
 use Rattle.end.specs.declared.Express.{Express}

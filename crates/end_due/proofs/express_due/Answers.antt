@@ -1,4 +1,3 @@
-use borrow.Author.Rules.{rules}
 use Rattle.end_due.proofs.express_due.Goals as goal
 
 -- `end_due::express_due` meets its contract.

@@ -1,10 +1,9 @@
 use mathlib.Core.Path.{◌≡◌, refl}
-use Prim.Native.Nat.{◌-◌, ◌≤◌, ◌<◌}
+use Prim.Native.Nat.{◌<◌}
 use Rattle.end.specs.Records.{width}
 use Rattle.end.specs.Fire.{fold_up}
 use Rattle.end.proofs.FireLaws.{fold_more}
 use Rattle.earliest.proofs.Numbers.{read}
-use Rattle.end_due.specs.Due.{names_due}
 use native.Mathlib.Omega.{arith}
 use Rattle.end_due.proofs.names_due.Goals as goal
 

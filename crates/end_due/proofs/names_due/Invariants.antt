@@ -1,11 +1,6 @@
-use mathlib.Core.Path.{◌≡◌, refl}
-use Prim.Native.Nat.{◌-◌, ◌≤◌, ◌<◌}
-use Rattle.end.specs.Records.{width}
-use Rattle.end.specs.Fire.{fold_up}
-use Rattle.end.proofs.FireLaws.{fold_more}
-use Rattle.earliest.proofs.Numbers.{read}
+use mathlib.Core.Path.{◌≡◌}
+use Prim.Native.Nat.{◌-◌, ◌≤◌}
 use Rattle.end_due.specs.Due.{names_due}
-use native.Mathlib.Omega.{arith}
 use Rattle.end_due.proofs.names_due.Given as goal
 
 -- `end_due::names_due` meets its contract: after i turns the least of the first i numbers is found.

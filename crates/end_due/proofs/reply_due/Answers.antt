@@ -1,4 +1,3 @@
-use borrow.Author.Rules.{rules}
 use Rattle.end_due.proofs.reply_due.Goals as goal
 
 -- `end_due::reply_due` meets its contract.

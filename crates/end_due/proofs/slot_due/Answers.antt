@@ -1,4 +1,3 @@
-use borrow.Author.Rules.{rules}
 use Rattle.end_due.proofs.slot_due.Goals as goal
 
 -- `end_due::slot_due` meets its contract.

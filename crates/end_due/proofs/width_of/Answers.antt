@@ -1,6 +1,5 @@
 use mathlib.Core.Path.{refl}
 use native.Mathlib.Omega.{arith}
-use borrow.Author.Rules.{rules}
 use Rattle.earliest.proofs.Numbers.{in_order_lem, open_width}
 use Rattle.end_due.proofs.width_of.Goals as goal
 

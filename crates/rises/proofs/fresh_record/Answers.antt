@@ -1,0 +1,5 @@
+use borrow.Author.Rules.{rules}
+use Rattle.rises.proofs.fresh_record.Goals as goal
+
+pub returns : goal.returns
+returns c = rw c.request_for-q.ensures

@@ -1,0 +1,4 @@
+use Rattle.script.proofs.hear_of.Goals as goal
+
+pub returns-in-Number : goal.returns-in-Number
+returns-in-Number c = rw c.in-Number.is

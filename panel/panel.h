@@ -16,7 +16,8 @@
  * refused and not cut.
  *
  * Threads. The library has no state: no variable, no heap, no lock, no file, no errno. Any number of threads may call it at the same
- * time, each with buffers as above, and so may a signal handler. A call needs less than 2 KiB of stack. Of the C library only memcpy is used.
+ * time, each with buffers as above, and so may a signal handler. A call needs less than 2 KiB of stack. Of the C library only memcpy and
+ * memset are used.
  */
 #ifndef PANEL_H
 #define PANEL_H

@@ -1,0 +1,8 @@
+use borrow.Author.Rules.{rules}
+use Rattle.session.proofs.report.Goals as goal
+
+pub returns-then-above : goal.returns-then-above
+returns-then-above c = rw (← c.is_above.ensures, c.if-above.true) c.rise_to.ensures
+
+pub returns-else-above : goal.returns-else-above
+returns-else-above c = rw (← c.is_above.ensures, c.if-above.false)

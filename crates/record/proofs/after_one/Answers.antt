@@ -1,0 +1,21 @@
+use mathlib.Core.Path.{sym}
+use mathlib.Core.List.{List, ◌∷◌}
+use Prim.Native.Nat.{ℕ}
+use lib.Seq.{length-take-le}
+use Rattle.record.specs.Line.{line_in}
+use Rattle.record.proofs.LineLaws.{moved-last, rest-next}
+use native.Mathlib.Omega.{arith}
+use Rattle.record.proofs.after_one.Goals as goal
+
+-- `record::after_one` meets its contract: the rest is the second word, or has more.
+pub slice_bounds-after_two-end : goal.slice_bounds-after_two-end
+slice_bounds-after_two-end c = sym (length-take-le _ _ (omega arith))
+
+pub returns-then-rest-end : goal.returns-then-rest-end
+returns-then-rest-end c =
+    moved-last _ _ c.space-end.ensures c.if-rest-end.true c.moved_in.ensures
+
+pub returns-else-rest-end : goal.returns-else-rest-end
+returns-else-rest-end c =
+    let a = c.args in
+    rest-next (λ (ws : List (List ℕ)). line_in (a.v.now ∷ ws)) _ c.space-end.ensures c.if-rest-end.false c.after_two.ensures

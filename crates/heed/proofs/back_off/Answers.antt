@@ -1,0 +1,5 @@
+use borrow.Author.Rules.{rules}
+use Rattle.heed.proofs.back_off.Goals as goal
+
+pub returns : goal.returns
+returns c = rw (c.set_round.ensures, c.next_round-next.ensures)

@@ -1,0 +1,5 @@
+use borrow.Author.Rules.{rules}
+use Rattle.heed.proofs.hush.Goals as goal
+
+pub returns : goal.returns
+returns c = rw (c.keep_pair.ensures, c.quiet_reply-quieted.ensures)

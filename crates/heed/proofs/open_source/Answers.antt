@@ -1,0 +1,5 @@
+use borrow.Author.Rules.{rules}
+use Rattle.heed.proofs.open_source.Goals as goal
+
+pub returns : goal.returns
+returns c = rw (c.hold_cue.ensures, c.open_at-open.ensures)

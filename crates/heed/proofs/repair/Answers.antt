@@ -1,0 +1,7 @@
+use Rattle.end.specs.Decide.{apply}
+use borrow.Author.Rules.{rules}
+use Rattle.heed.proofs.repair.Goals as goal
+
+pub returns : goal.returns
+unfolding apply
+returns c = rw (c.hush.ensures, c.hold_cue-held.ensures, c.rise_to-higher.ensures)

@@ -1,0 +1,5 @@
+use borrow.Author.Rules.{rules}
+use Rattle.heed.proofs.take_cue.Goals as goal
+
+pub returns : goal.returns
+returns c = rw (c.hold_cue.ensures, c.rise_by_data-higher.ensures)

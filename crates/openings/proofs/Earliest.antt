@@ -1,23 +1,23 @@
 -- The minute that `find_of` gives is the earliest: of one window, of two answers, of the whole list.
 use mathlib.Core.Path.{◌≡◌, refl, sym, ap, ◌∙◌, subst}
-use Prim.Native.Nat.{ℕ, ◌+◌, ◌*◌, ◌≤◌, ◌<◌, max}
+use Prim.Native.Nat.{ℕ, ◌+◌, ◌≤◌, ◌<◌, max}
 use native.Mathlib.Nat.{le_antisymm}
 use native.Mathlib.Omega.{arith}
-use mathlib.Core.Bool.{Bool, true, false, cond, not, ◌&&◌, ◌||◌}
+use mathlib.Core.Bool.{Bool, true, false, cond, ◌&&◌, ◌||◌}
 use mathlib.Core.List.{List, [], ◌∷◌}
-use lib.Dec.{ltb, leb}
+use lib.Dec.{leb}
 use lib.ListN.{length}
 use borrow.Author.Tests.{ltb-true, ltb-false}
 use Rattle.calendar.specs.declared.Date.{Date}
-use Rattle.calendar.specs.Calendar.{last_day, exists_of, not_after_lem, next_day, roll_date, day_number}
+use Rattle.calendar.specs.Calendar.{exists_of, not_after_lem, next_day, roll_date, day_number}
 use Rattle.calendar.proofs.Count.{next_is_later, last_is_36524}
 use Rattle.calendar.proofs.Order.{next-exists, within}
 use Rattle.openings.specs.declared.Window.{Window}
 use Rattle.openings.specs.declared.Moment.{Moment}
 use Rattle.openings.specs.declared.Opening.{Opening}
 use Rattle.openings.specs.declared.Opening.TheVariants.{At, None, Refused}
-use Rattle.openings.specs.Windows.{moment, minute_exists, window_exists, all_exist, before, minute_number, lies_in, is_open}
-use Rattle.openings.specs.Find.{lasts_on, candidate_of, first_of, earlier_of, earliest_of, in_order, find_of, opening_number, opening_values}
+use Rattle.openings.specs.Windows.{moment, minute_exists, all_exist, before, minute_number, lies_in, is_open}
+use Rattle.openings.specs.Find.{lasts_on, candidate_of, earlier_of, earliest_of, in_order, find_of, opening_number, opening_values}
 use Rattle.openings.specs.Promise.{Earliest, NoneLeft, FindHolds}
 use Rattle.openings.proofs.Tests.{not-begun, today, over, tomorrow, dates-over, by_minute}
 use Rattle.openings.proofs.Numbers.{both, either, or_left, or_right, day_le, day_gt, le_day}

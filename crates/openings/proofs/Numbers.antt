@@ -1,10 +1,10 @@
 -- Windows and minutes as numbers: the order of minutes is that of their minute numbers, and a minute lies in a window where its day
 -- number and its minute lie in the window's spans.
 use mathlib.Core.Path.{◌≡◌, refl, sym, ap, ◌∙◌}
-use Prim.Native.Nat.{ℕ, ◌+◌, ◌*◌, ◌≤◌, ◌<◌}
+use Prim.Native.Nat.{◌≤◌, ◌<◌}
 use native.Mathlib.Omega.{arith}
-use mathlib.Core.Bool.{Bool, true, false, cond, ◌&&◌, ◌||◌}
-use lib.Dec.{ltb, leb}
+use mathlib.Core.Bool.{Bool, true, false, ◌&&◌, ◌||◌}
+use lib.Dec.{ltb}
 use borrow.Author.Tests.{ltb-true, ltb-false, leb-true, leb-false, lt-ltb, le-ltb, le-leb}
 use Rattle.calendar.specs.declared.Date.{Date}
 use Rattle.calendar.specs.Calendar.{exists_of, not_after_lem, day_number}

@@ -1,6 +1,6 @@
 -- The one pass over the windows gives what `find_of` says: the windows are asked and searched in the same turns, and once one is refused
 -- the answer stays so.
-use mathlib.Core.Path.{◌≡◌, refl, sym, ap, ◌∙◌}
+use mathlib.Core.Path.{◌≡◌, refl, ap, ◌∙◌}
 use mathlib.Core.Bool.{Bool, true, false, cond, ◌&&◌}
 use mathlib.Core.List.{List, [], ◌∷◌}
 use lib.Dec.{leb}

@@ -1,0 +1,8 @@
+use Rattle.lent_lens.proofs.LensLaws.{window-there}
+use Rattle.lent_lens.proofs.window_at.Goals as goal
+
+-- `lent_lens::window_at` meets its contract.
+pub returns : goal.returns
+returns c =
+    let a = c.args in
+    window-there a.s.now a.at _ _ _ _ c.date_of-first.ensures c.date_of-last.ensures c.narrow16-start.ensures c.narrow16-end.ensures

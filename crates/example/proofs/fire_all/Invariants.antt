@@ -1,0 +1,9 @@
+use Prim.Native.Nat.{◌-◌}
+use Rattle.example.proofs.fire_all.Given as goal
+
+-- The measure is the messages that may still go out.
+abbrev pub invariant-loop-outs : goal.invariant-loop-outs
+invariant-loop-outs g l = Unit {0}
+
+abbrev pub decreases-loop-outs : goal.decreases-loop-outs
+decreases-loop-outs g l = 1024 - l.outs

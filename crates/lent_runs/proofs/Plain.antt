@@ -6,7 +6,7 @@ use mathlib.Core.Logic.{◌⊎◌, inl, inr}
 use Prim.Native.Nat.{ℕ, min, ◌≤◌, ◌<◌}
 use native.Mathlib.Omega.{arith}
 use lib.ListN.{length, replicate}
-use lib.Dec.{ltb, leb, eqb}
+use lib.Dec.{leb, eqb}
 use borrow.Author.Tests.{ltb-true, lt-ltb, le-ltb, le-leb, lt-leb, eq-eqb, ne_eqb}
 use Rattle.numbers.specs.Number.{value_after}
 use Rattle.message.specs.declared.Host.{Host}
@@ -16,12 +16,11 @@ use Rattle.message.specs.Limit.{room_needed}
 use Rattle.message.specs.Entry.{as_host, as_number}
 use Rattle.message.specs.Question.{ask, first_no, host_in, ticks_in, refusal_of}
 use Rattle.message.proofs.QuestionLaws.{number_of_verdict, all-passed, and_both}
-use Rattle.end.specs.declared.Params.{Params}
 use Rattle.end.specs.declared.End.{End}
 use Rattle.end.specs.State.{is_crashed, is_member, with_clock}
 use Rattle.end.specs.Round.{draw_count}
 use Rattle.end.specs.Sound.{sound_of}
-use Rattle.end.specs.Answer.{Ignored, Step, Result, Refused, Did, done}
+use Rattle.end.specs.Answer.{Ignored, Step, Refused, Did, done}
 use Rattle.end.specs.Event.{Send, Else, Fetch, any_questions, act_of, step_of, question_of, event_of}
 use Rattle.end.specs.Fetch.{may_fetch, fetch_of}
 use Rattle.end.specs.Opening.{open_refusal, opening_of}

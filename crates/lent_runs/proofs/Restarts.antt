@@ -21,7 +21,7 @@ use Rattle.end.specs.declared.Opened.{Opened}
 use Rattle.end.specs.State.{is_crashed, with_clock, with_status}
 use Rattle.end.specs.Round.{Drawn}
 use Rattle.end.specs.Sound.{all_of, params_tests, delay_in, sound_of}
-use Rattle.end.specs.Answer.{Done, Ignored, Step, done, Outcome, Did, Result, answer_of, buffer_of}
+use Rattle.end.specs.Answer.{Step, done, Outcome, Did, Result, answer_of, buffer_of}
 use Rattle.end.specs.Event.{Moves, moves, moves_to, clears, cleared, moved_end, move_of, act_of, step_of, question_of, event_of, gives, leaves}
 use Rattle.end.specs.Opening.{constrained_tests, open_refusal}
 use Rattle.end.specs.Book.{put, RunFrom, empty_book}

@@ -1,23 +1,20 @@
 -- Whatever bytes arrive: the statements of the crate `guarantees`, Arrivals.
-use Rattle.std.specs.Prelude.{◌≡◌, Bool, true, false, cond, not, ◌&&◌, ◌||◌, List, [], ◌∷◌, ◌⊎◌, ℕ, ◌≤◌, ◌<◌, length, leb, eqb}
+use Rattle.std.specs.Prelude.{◌≡◌, true, false, ◌||◌, List, [], ◌⊎◌, ℕ, ◌<◌, length, eqb}
 use Rattle.message.specs.declared.Name.{Name}
-use Rattle.message.specs.declared.Report.{Report}
 use Rattle.message.specs.Entry.{as_host}
-use Rattle.message.specs.Message.{DATA, RQST, REPL, Meaning, meaning_from}
-use Rattle.end.specs.declared.Span.{Span}
-use Rattle.end.specs.declared.Span.TheVariants.{Closed, Open}
+use Rattle.message.specs.Message.{DATA, REPL, meaning_from}
 use Rattle.end.specs.declared.End.{End}
 use Rattle.end.specs.State.{source_at, distance_to, with_clock}
-use Rattle.end.specs.Records.{is_above, is_held, reply_in}
+use Rattle.end.specs.Records.{is_held, reply_in}
 use Rattle.end.specs.Round.{quiet_after_reply}
-use Rattle.end.specs.Answer.{Clash, Refused, Did, Result, buffer_of}
+use Rattle.end.specs.Answer.{Clash, Refused, Did, buffer_of}
 use Rattle.end.specs.Decide.{same_cue}
 use Rattle.end.specs.Arrival.{message_name, message_host, message_cue}
 use Rattle.end.specs.Event.{Action, Arrival, Else, Report as Reporting, question_of, event_of}
 use Rattle.end.specs.Clashes.{Clashing}
 use Rattle.guarantees.specs.Calls.{moment_at}
 use Rattle.guarantees.specs.Records.{record_of, slot_of, retired, HeardAs, ReplyAs}
-use Rattle.guarantees.specs.Arrivals.{hear, ProbeTaken, SameEnd, is_about, asks, repairs, expresses, express_by, risen, reported_up, has_name, touches, SpanAs, is_data_of, is_session_from}
+use Rattle.guarantees.specs.Arrivals.{hear, ProbeTaken, SameEnd, is_about, asks, repairs, expresses, express_by, has_name, touches, SpanAs, is_data_of, is_session_from}
 use Rattle.guarantees.specs.Clashes.{WasClash}
 
 pub record ArrivalsKept : Type 0 where

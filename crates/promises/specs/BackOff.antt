@@ -1,5 +1,5 @@
 -- How requests back off, with and without an express wait beside them: the statements of the crate `guarantees`, BackOff.
-use Rattle.std.specs.Prelude.{◌≡◌, true, false, List, [], ◌∷◌, ◌⊎◌, ℕ, ◌+◌, ◌-◌, ◌*◌, ◌^◌, ◌≤◌, ◌<◌, min, max, length}
+use Rattle.std.specs.Prelude.{◌≡◌, true, false, List, ◌⊎◌, ℕ, ◌+◌, ◌-◌, ◌*◌, ◌^◌, ◌≤◌, ◌<◌, min, max, length}
 use Rattle.std.proofs.Math.Option.{some}
 use Rattle.message.specs.declared.Host.{Host}
 use Rattle.message.specs.Entry.{as_host}
@@ -10,13 +10,12 @@ use Rattle.end.specs.declared.End.{End}
 use Rattle.end.specs.State.{source_at, distance_to, with_clock}
 use Rattle.end.specs.Records.{is_below, is_held}
 use Rattle.end.specs.Sound.{time_limit, sound_of}
-use Rattle.end.specs.Round.{Drawn, factor, share, request_at, eighth_up, half_trip}
+use Rattle.end.specs.Round.{Drawn, factor, share, eighth_up, half_trip}
 use Rattle.end.specs.Answer.{Out, Ignored, Did}
 use Rattle.end.specs.Arrival.{message_name}
 use Rattle.end.specs.Event.{Action, Arrival, question_of, event_of}
 use Rattle.end.specs.Opening.{opening_of}
-use Rattle.end.specs.Run.{CueArray}
-use Rattle.guarantees.specs.Calls.{moment_at, OneCall, after, after_all}
+use Rattle.guarantees.specs.Calls.{moment_at, OneCall, after_all}
 use Rattle.guarantees.specs.Records.{record_of, slot_of, request_of, clearing, retired, MayBecome}
 use Rattle.guarantees.specs.Arrivals.{hear}
 use Rattle.guarantees.specs.Fires.{fire, FireTaken}

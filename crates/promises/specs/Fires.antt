@@ -1,19 +1,14 @@
 -- Fire sends the earliest wait that is due, says Nothing exactly where none is, and ends: the statements of the crate `guarantees`, Fires.
-use Rattle.std.specs.Prelude.{◌≡◌, true, cond, List, [], ◌∷◌, ℕ, ◌+◌, ◌≤◌, ◌<◌, length}
+use Rattle.std.specs.Prelude.{◌≡◌, List, ℕ, ◌+◌, ◌≤◌, ◌<◌, length}
 use Rattle.message.specs.declared.Host.{Host}
-use Rattle.message.specs.Message.{RQST, REPL, meaning_from}
 use Rattle.end.specs.declared.Params.{Params}
-use Rattle.end.specs.declared.Slot.TheVariants.{Held}
-use Rattle.end.specs.declared.Reply.TheVariants.{Due}
 use Rattle.end.specs.declared.Wait.{Wait}
 use Rattle.end.specs.declared.Earliest.TheVariants.{NoWait, First}
 use Rattle.end.specs.declared.End.{End}
-use Rattle.end.specs.State.{source_at, is_member, with_clock}
-use Rattle.end.specs.Records.{record_at}
-use Rattle.end.specs.Answer.{Out, Nothing, Did, Result}
-use Rattle.end.specs.Arrival.{message_name, message_host}
+use Rattle.end.specs.State.{with_clock}
+use Rattle.end.specs.Answer.{Out, Nothing, Did}
 use Rattle.end.specs.Fire.{earliest}
-use Rattle.end.specs.Event.{Action, Else, Fire, question_of, event_of}
+use Rattle.end.specs.Event.{Action, event_of}
 use Rattle.end.specs.Opening.{opening_of}
 use Rattle.guarantees.specs.Calls.{OneCall, after_all}
 use Rattle.guarantees.specs.Waits.{IsDue, IsEarliest, due_waits}

@@ -1,5 +1,5 @@
 -- The judge of a kept run: document 02, P13. The statements of the crates `fairness`, `judgement` and `record`.
-use Rattle.std.specs.Prelude.{◌≡◌, Bool, true, false, List, [], ℕ, ◌≤◌, ◌<◌, length, take}
+use Rattle.std.specs.Prelude.{◌≡◌, Bool, true, List, [], ℕ, ◌≤◌, ◌<◌, length}
 use Rattle.end.specs.Book.{Entry, RunFrom, empty_book}
 use Rattle.end.specs.Run.{World, Call, Fresh, Allowed, seen}
 use Rattle.record.specs.declared.Line.{Line}

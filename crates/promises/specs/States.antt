@@ -1,24 +1,18 @@
 -- Sound stays sound, clocks never fall, and what goes out is right: the statements of the crate `invariants`.
-use Rattle.std.specs.Prelude.{◌≡◌, true, false, List, [], ◌∷◌, ℕ, ◌<◌, ◌≤◌}
+use Rattle.std.specs.Prelude.{◌≡◌, true, List, ℕ, ◌<◌, ◌≤◌}
 use Rattle.message.specs.declared.Host.{Host}
 use Rattle.end.specs.declared.Params.{Params}
 use Rattle.end.specs.declared.End.{End}
 use Rattle.end.specs.Round.{Drawn}
 use Rattle.end.specs.Sound.{sound_of}
-use Rattle.end.specs.Event.{Action, event_of, Send, own_name}
+use Rattle.end.specs.Event.{Action, event_of}
 use Rattle.end.specs.Opening.{opening_of}
-use Rattle.end.specs.Run.{CueArray, Call, World, result_of, world_after, seen, Fresh}
-use Rattle.end.specs.Answer.{Refused, Out, Did}
-use Rattle.end.specs.Book.{Entry}
+use Rattle.end.specs.Run.{CueArray, Call, World, seen, Fresh}
+use Rattle.end.specs.Answer.{Out, Did}
 use Rattle.invariants.specs.Lists.{through, Declared, NoneAs3}
 use Rattle.end.specs.declared.Heard.TheVariants.{At}
 use Rattle.end.specs.State.{source_at}
-use Rattle.message.specs.declared.Name.{Name}
-use Rattle.message.specs.Message.{DATA, RQST, REPL, meaning_from}
-use Rattle.end.specs.declared.Record.{Record}
-use Rattle.end.specs.Records.{record_at, is_held}
-use Rattle.end.specs.Arrival.{message_name, message_cue}
-use Rattle.invariants.specs.Outputs.{kept_under, RightOut}
+use Rattle.invariants.specs.Outputs.{RightOut}
 
 pub record StatesKept : Type 0 where
   -- Every opening, refused or not, gives a sound state, whatever host and parameters it is given.

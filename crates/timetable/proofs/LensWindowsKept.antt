@@ -14,16 +14,16 @@ dates : DatesKept
 dates =
     let c : CalendarHolds = calendar_holds in
     record {
-      every_fourth = c.every-fourth;
+      every_fourth = c.every_fourth;
       first-exists = c.first-exists;
       last-exists = c.last-exists;
       first_is_0 = c.first_is_0;
       last_is_36524 = c.last_is_36524;
       within = c.within;
-      one_a_day = c.one-a-day;
+      one_a_day = c.one_a_day;
       by_number = c.by_number;
       next-exists = c.next-exists;
-      next_is_later = c.next-is-later;
+      next_is_later = c.next_is_later;
       last-stays = c.last-stays;
       last_not_refused = c.last_not_refused;
     }
@@ -45,7 +45,7 @@ module _ (ws : List Window) (m : Moment) where
         none_only = s.none_only;
         number = s.number;
         values = λ f h e. s.values f h (was f e);
-        no_values = s.no-values;
+        no_values = s.no_values;
       }
 
 pub lens_windows : LensWindows

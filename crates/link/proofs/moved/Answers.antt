@@ -1,0 +1,11 @@
+use mathlib.Core.List.{[]}
+use borrow.Author.Rules.{rules}
+use Rattle.link.proofs.moved.Goals as goal
+
+pub frame-requires : goal.frame-requires
+frame-requires c = ([], c.unread-reading.ensures)
+
+pub returns : goal.returns
+returns c =
+    let it = c.frame.ensures [] c.unread-reading.ensures in
+    record { value = it.0; out_after = it.1.0; answer_is = it.1.1 }

@@ -1,15 +1,15 @@
 -- Opening into bytes: of another length nothing is written, nor where the opening is refused.
-use mathlib.Core.Path.{◌≡◌, refl, sym, ap, ◌∙◌}
+use mathlib.Core.Path.{◌≡◌, sym, ap, ◌∙◌}
 use Prim.Native.Nat.{ℕ}
 use native.Mathlib.Omega.{arith}
-use mathlib.Core.Bool.{true, false, cond}
+use mathlib.Core.Bool.{true, false}
 use mathlib.Core.List.{List}
 use lib.ListN.{length}
 use lib.Dec.{eqb}
 use borrow.Author.Tests.{eq-eqb, ne_eqb}
 use Rattle.message.specs.Question.{refusal_of}
 use Rattle.end.specs.declared.Opened.{Opened}
-use Rattle.lent_end.specs.State.{end_bytes, Holds}
+use Rattle.lent_end.specs.State.{Holds}
 use Rattle.lent_calls.specs.Open.{opened_number, opened_state, OpensAs}
 
 module _ (o : Opened) (s : List ℕ) where

@@ -1,16 +1,15 @@
 -- The reason call: an event that there is not, bytes that are no state, and what the call on the end says.
-use mathlib.Core.Path.{◌≡◌, sym, ap, ◌∙◌}
+use mathlib.Core.Path.{◌≡◌, sym, ◌∙◌}
 use Prim.Native.Nat.{ℕ, ◌-◌, ◌≤◌, ◌<◌}
 use native.Mathlib.Omega.{arith}
 use mathlib.Core.Bool.{Bool, true, false}
 use mathlib.Core.List.{List, [], ◌∷◌}
 use lib.ListN.{get_or-eq_default}
-use lib.Dec.{leb}
 use borrow.Author.Tests.{le-leb, lt-leb, le-ltb}
 use Rattle.message.specs.declared.Name.{Name}
 use Rattle.end.specs.declared.Move.TheVariants.{Join, Joined, Leave, Left, Crash}
 use Rattle.end.specs.declared.Event.{Event}
-use Rattle.end.specs.declared.Event.TheVariants.{Moves, Send, Arrival, Fire, Report, Fetch, Announce}
+use Rattle.end.specs.declared.Event.TheVariants.{Send, Arrival, Fire, Report, Fetch, Announce}
 use Rattle.end.specs.declared.End.{End}
 use Rattle.end.specs.Event.{action_of}
 use Rattle.end.specs.Why.{why_of}

@@ -2,7 +2,6 @@
 -- before all else.
 use Rattle.std.specs.Prelude.{◌≡◌, ℕ, true, cond, List, length, eqb}
 use Rattle.message.specs.Question.{refusal_of}
-use Rattle.end.specs.declared.End.{End}
 use Rattle.end.specs.declared.Opened.{Opened}
 use Rattle.end.specs.Opening.{opening_of}
 use Rattle.end_reopen.specs.Reopening.{reopening_of}

@@ -1,19 +1,19 @@
 -- From a number read at its place to the look of its definition.
 use mathlib.Core.Path.{◌≡◌, refl, sym, ap, ◌∙◌}
-use Prim.Native.Nat.{ℕ, zero, suc, ◌+◌, ◌*◌, ◌≤◌, ◌<◌}
+use Prim.Native.Nat.{ℕ, zero, suc, ◌+◌, ◌*◌, ◌<◌}
 use native.Mathlib.Nat.{zero-mul, suc-mul}
 use native.Mathlib.Omega.{arith}
 use mathlib.Core.Bool.{Bool, true, false, cond, ◌&&◌}
 use mathlib.Core.List.{List}
 use lib.ListN.{length, get_or}
-use lib.Dec.{ltb, leb}
-use borrow.Author.Tests.{lt-ltb, le-ltb, ltb-true, eqb-true}
+use lib.Dec.{ltb}
+use borrow.Author.Tests.{ltb-true}
 use Rattle.message.proofs.QuestionLaws.{and_both}
 use Rattle.end.specs.declared.Source.{Source}
 use Rattle.end.specs.declared.End.{End}
 use Rattle.end.specs.State.{no_source}
 use Rattle.lent_answer.specs.Number.{NONE}
-use Rattle.lent_fields.specs.Fields.{number, many}
+use Rattle.lent_fields.specs.Fields.{many}
 use Rattle.lent_source.specs.Source.{source_from}
 use Rattle.lent_end.specs.State.{end_from, is_state}
 use Rattle.lent_end.proofs.StateLaws.{state-long}

@@ -1,0 +1,33 @@
+use native.Mathlib.Omega.{arith}
+use Rattle.lent_looks.specs.Looks.{missed_in}
+use Rattle.lent_looks.proofs.LookLaws.{there-host, there-long, seen_at, unseen_at}
+use Rattle.lent_looks.proofs.missed.Goals as goal
+
+-- `lent_looks::missed` meets its contract.
+pub place-at-requires : goal.place-at-requires
+place-at-requires c =
+    let a = c.args in
+    there-host missed_in a.source a.state.now _ c.is_there-ok.ensures c.if-ok.true
+
+pub overflow_add-at : goal.overflow_add-at
+overflow_add-at c =
+    let a = c.args in
+    let below = there-host missed_in a.source a.state.now _ c.is_there-ok.ensures c.if-ok.true in
+    omega (arith, below, c.place-at.ensures)
+
+pub read4-n-requires : goal.read4-n-requires
+read4-n-requires c =
+    let a = c.args in
+    let known = there-long missed_in a.source a.state.now _ c.is_there-ok.ensures c.if-ok.true in
+    let below = there-host missed_in a.source a.state.now _ c.is_there-ok.ensures c.if-ok.true in
+    omega (arith, known, below, c.place-at.ensures)
+
+pub returns-then-ok : goal.returns-then-ok
+returns-then-ok c =
+    let a = c.args in
+    seen_at missed_in a.source a.state.now _ c.is_there-ok.ensures _ _ c.if-ok.true c.place-at.ensures c.read4-n.ensures
+
+pub returns : goal.returns
+returns c =
+    let a = c.args in
+    unseen_at missed_in a.source a.state.now _ c.is_there-ok.ensures c.if-ok.false

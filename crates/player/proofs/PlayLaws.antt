@@ -34,7 +34,7 @@ use Rattle.player.specs.declared.Printed.TheVariants.{Bad, Shows}
 use Rattle.player.specs.declared.Played.{Played}
 use Rattle.player.specs.declared.Told.{Told}
 use Rattle.player.specs.Play.{draws, event_for, heard_number, is_known, Turn, turn_of, result_of, played_of, shows, stops}
-use Rattle.player.specs.Explain.{with_reason, explained, why_for, played_by}
+use Rattle.player.specs.Explain.{with_reason, explained, why_for}
 use Rattle.player.specs.Promise.{Plays, PlaysOn, Tells, printed_for, messages_for, InOutput}
 use Rattle.player.proofs.CueLaws.{Wide, wide}
 

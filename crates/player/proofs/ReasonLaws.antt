@@ -1,6 +1,6 @@
 -- The program why never prints "ignored" without a reason: the reason call names one exactly where an event is Ignored.
 use mathlib.Core.Path.{◌≡◌, refl, sym, ap, ◌∙◌}
-use mathlib.Core.Bool.{Bool, true, false, cond, true≢false}
+use mathlib.Core.Bool.{Bool, true, false, true≢false}
 use mathlib.Core.List.{List, []}
 use Prim.Native.Nat.{ℕ, ◌≤◌}
 use native.Mathlib.Omega.{arith}
@@ -21,7 +21,7 @@ use Rattle.answers.specs.declared.Shown.TheVariants as shown
 use Rattle.store.specs.Store.{most, room}
 use Rattle.player.specs.declared.Printed.{Printed}
 use Rattle.player.specs.declared.Printed.TheVariants.{Bad, Shows}
-use Rattle.player.specs.Play.{draws, event_for, heard_number, is_known, Turn, turn_of, result_of, played_of, shows, stops}
+use Rattle.player.specs.Play.{draws, event_for, heard_number, is_known, Turn, turn_of, result_of, played_of}
 use Rattle.player.specs.Explain.{explained, why_for, IgnoredHasReason}
 
 -- "ignored" without a reason

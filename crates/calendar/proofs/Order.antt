@@ -8,7 +8,7 @@ use mathlib.Core.Bool.{Bool, true, false}
 use lib.Dec.{ltb, leb, eqb}
 use borrow.Author.Tests.{ltb-true, ltb-false, leb-true, leb-false, eqb-true, le-leb, lt-leb, eq-eqb}
 use Rattle.calendar.specs.declared.Date.{Date}
-use Rattle.calendar.specs.Calendar.{date, first_day, last_day, leap_of, days_of, exists_of, not_after_lem, next_day, roll_code, roll_date}
+use Rattle.calendar.specs.Calendar.{date, first_day, last_day, leap_of, days_of, exists_of, not_after, next_day, roll_code, roll_date}
 use Rattle.calendar.specs.Calendar.{before_month, before_year, day_number}
 use Rattle.calendar.specs.Promise.{CalendarHolds}
 use Rattle.calendar.proofs.Tests.{leap_400, leap_4, days_some, by_days, next_in_month, next_month, next_year, last-stays}
@@ -136,7 +136,7 @@ module _ (a b : Date) (x : Exists a) (z : Exists b) where
       g ∙ sym (lt-leb (day_number a) (day_number b) (omega (arith, same_month a b x z e f)))
 
   by_tests : (p q r s : Bool) → ltb a.year b.year ≡ p → ltb b.year a.year ≡ q → ltb a.month b.month ≡ r → ltb b.month a.month ≡ s
-      → not_after_lem a b ≡ leb (day_number a) (day_number b)
+      → not_after a b ≡ leb (day_number a) (day_number b)
   by_tests true q r s e f g h =
       let l : a.year < b.year = ltb-true _ _ e in
       sym (earlier_year a b l) ∙ sym (le-leb (day_number a) (day_number b) (omega (arith, year_first a b x z l)))
@@ -154,7 +154,7 @@ module _ (a b : Date) (x : Exists a) (z : Exists b) where
       sym (by_day a b (ltb-false _ _ e) (ltb-false _ _ f) (ltb-false _ _ g) (ltb-false _ _ h))
       ∙ by_last (le_antisymm (ltb-false _ _ f) (ltb-false _ _ e)) (le_antisymm (ltb-false _ _ h) (ltb-false _ _ g)) _ refl
 
-pub by_number : (a b : Date) → exists_of a ≡ true → exists_of b ≡ true → not_after_lem a b ≡ leb (day_number a) (day_number b)
+pub by_number : (a b : Date) → exists_of a ≡ true → exists_of b ≡ true → not_after a b ≡ leb (day_number a) (day_number b)
 by_number a b e f = by_tests a b (exists-facts a e) (exists-facts b f) _ _ _ _ refl refl refl refl
 
 -- two dates with one number are the same

@@ -7,7 +7,7 @@ use mathlib.Core.Bool.{Bool, true, false, cond}
 use lib.Dec.{leb, eqb}
 use borrow.Author.Tests.{lt-ltb, le-ltb, le-leb, lt-leb, eq-eqb, ne_eqb}
 use Rattle.calendar.specs.declared.Date.{Date}
-use Rattle.calendar.specs.Calendar.{date, last_day, leap_of, short_month, days_of, exists_of, not_after_lem, next_day, roll_code, roll_date}
+use Rattle.calendar.specs.Calendar.{date, last_day, leap_of, short_month, days_of, exists_of, not_after, next_day, roll_code, roll_date}
 
 -- ---- a leap year
 pub leap_400 : (y : ℕ) → y % 400 ≡ 0 → true ≡ leap_of y
@@ -110,22 +110,22 @@ unfolding roll_date roll_code
 rolls_not d e = (simp e, simp e)
 
 -- ---- the order of dates
-pub earlier_year : (a b : Date) → a.year < b.year → true ≡ not_after_lem a b
-unfolding not_after_lem
+pub earlier_year : (a b : Date) → a.year < b.year → true ≡ not_after a b
+unfolding not_after
 earlier_year a b h = simp (lt-ltb _ _ h)
 
-pub later_year : (a b : Date) → b.year < a.year → false ≡ not_after_lem a b
-unfolding not_after_lem
+pub later_year : (a b : Date) → b.year < a.year → false ≡ not_after a b
+unfolding not_after
 later_year a b h = simp (le-ltb a.year b.year (omega arith), lt-ltb _ _ h)
 
-pub earlier_month : (a b : Date) → b.year ≤ a.year → a.year ≤ b.year → a.month < b.month → true ≡ not_after_lem a b
-unfolding not_after_lem
+pub earlier_month : (a b : Date) → b.year ≤ a.year → a.year ≤ b.year → a.month < b.month → true ≡ not_after a b
+unfolding not_after
 earlier_month a b g h k = simp (le-ltb _ _ g, le-ltb _ _ h, lt-ltb _ _ k)
 
-pub later_month : (a b : Date) → b.year ≤ a.year → a.year ≤ b.year → b.month < a.month → false ≡ not_after_lem a b
-unfolding not_after_lem
+pub later_month : (a b : Date) → b.year ≤ a.year → a.year ≤ b.year → b.month < a.month → false ≡ not_after a b
+unfolding not_after
 later_month a b g h k = simp (le-ltb _ _ g, le-ltb _ _ h, le-ltb a.month b.month (omega arith), lt-ltb _ _ k)
 
-pub by_day : (a b : Date) → b.year ≤ a.year → a.year ≤ b.year → b.month ≤ a.month → a.month ≤ b.month → leb a.day b.day ≡ not_after_lem a b
-unfolding not_after_lem
+pub by_day : (a b : Date) → b.year ≤ a.year → a.year ≤ b.year → b.month ≤ a.month → a.month ≤ b.month → leb a.day b.day ≡ not_after a b
+unfolding not_after
 by_day a b g h k l = simp (le-ltb _ _ g, le-ltb _ _ h, le-ltb _ _ k, le-ltb _ _ l)

@@ -31,8 +31,8 @@ exists_of d =
     leb 2000 d.year && (leb d.year 2099 && (leb 1 d.month && (leb d.month 12 && (leb 1 d.day && leb d.day (days_of d.year d.month)))))
 
 -- a is b or before it: by the year, then the month, then the day
-unfoldable pub not_after_lem : Date → Date → Bool
-not_after_lem a b =
+unfoldable pub not_after : Date → Date → Bool
+not_after a b =
     cond (ltb a.year b.year) true
     (cond (ltb b.year a.year) false
     (cond (ltb a.month b.month) true (cond (ltb b.month a.month) false (leb a.day b.day))))

@@ -1,7 +1,7 @@
 -- What is proved of the calendar, over all its dates. The proofs are in proofs/Count.antt and proofs/Order.antt.
 use Rattle.std.specs.Prelude.{◌≡◌, ℕ, ◌+◌, ◌%◌, ◌≤◌, true, eqb, leb}
 use Rattle.calendar.specs.declared.Date.{Date}
-use Rattle.calendar.specs.Calendar.{first_day, last_day, leap_of, exists_of, not_after_lem, next_day, roll_code, roll_date, day_number}
+use Rattle.calendar.specs.Calendar.{first_day, last_day, leap_of, exists_of, not_after, next_day, roll_code, roll_date, day_number}
 
 pub record CalendarHolds : Type 0 where
   -- the Gregorian rule in these years: every fourth year has 29 February
@@ -16,7 +16,7 @@ pub record CalendarHolds : Type 0 where
   pub last-stays : roll_date last_day ≡ last_day
   pub last_not_refused : roll_code last_day ≡ 0
   -- dates are ordered as their day numbers are
-  pub by_number : (a b : Date) → exists_of a ≡ true → exists_of b ≡ true → not_after_lem a b ≡ leb (day_number a) (day_number b)
+  pub by_number : (a b : Date) → exists_of a ≡ true → exists_of b ≡ true → not_after a b ≡ leb (day_number a) (day_number b)
   -- the calendar's 36,525 days, each with a number of its own
   pub first_is_0 : day_number first_day ≡ 0
   pub last_is_36524 : day_number last_day ≡ 36524

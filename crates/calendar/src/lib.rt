@@ -3,7 +3,7 @@
 #![tactic(auto)]
 
 ghost use Rattle.std.specs.Prelude.{◌≡◌};
-ghost use Rattle.calendar.specs.Calendar.{date, leap_of, days_of, exists_of, not_after_lem, next_day, roll_code, roll_date};
+ghost use Rattle.calendar.specs.Calendar.{date, leap_of, days_of, exists_of, not_after, next_day, roll_code, roll_date};
 
 #[derive(Clone, Copy)]
 pub struct Date {
@@ -95,7 +95,7 @@ pub fn exists(d: Date) -> bool
 
 // Whether a is b or before it.
 pub fn not_after(a: Date, b: Date) -> bool
-    ensures { result ≡ not_after_lem a b }
+    ensures { result ≡ not_after a b }
 {
     if a.year < b.year {
         return true;

@@ -38,7 +38,7 @@ use Rattle.display.specs.Display.{hosts_apart, opening_of, with_clock, with_wind
 use Rattle.display.specs.Hear.{is_original, is_repair, is_announced, lead_in, Hearing, hearing, passed_over, cue_of, announced_of, heard_in, hear_of}
 use Rattle.display.specs.Request.{request_for, request_if, step_of}
 use Rattle.display.specs.Call.{Event, Hear, Step, question_of, act_of, event_of}
-use Rattle.display_history.specs.History.{Call, after, after_all, told, handed_out_lem, is_missing, none_missing}
+use Rattle.display_history.specs.History.{Call, after, after_all, told, handed_out, is_missing, none_missing}
 use Rattle.display_history.specs.Answers.{is_of, brings_cue, got_if, answered, answered_to, AnswersHeard, edges_of, edges_by, edges_to, EdgesHeard, SetsClock, RefusedStays, OutIsRequest}
 use Rattle.display.proofs.CallLaws.{apart, sound_in, hear-asks, step-asks, Passed, passed}
 use Rattle.display_history.proofs.Moves.{Went, Stays, Starts, Takes, Announces, went}
@@ -176,7 +176,7 @@ answers-heard own sender cs bytes clock room q =
     d = after_all (opening_of own sender).display cs
 
     go : (bytes : List ℕ) → read_refusal bytes ≡ 0
-        → (hear_of (datagram_from bytes) (with_clock d clock)).effect ≡ answered_to (datagram_from bytes) d (handed_out_lem (told (opening_of own sender).display cs))
+        → (hear_of (datagram_from bytes) (with_clock d clock)).effect ≡ answered_to (datagram_from bytes) d (handed_out (told (opening_of own sender).display cs))
     go [] h = refl
     go (b ∷ s) h =
         let m = meaning_from (b ∷ s) in
@@ -184,7 +184,7 @@ answers-heard own sender cs bytes clock room q =
         heard-answer (with_clock d clock) m
         (names-own b s d.sender DATA refl (omega arith) h)
         (names-own b s d.sender ANNC refl (omega arith) h)
-        (handed_out_lem (told (opening_of own sender).display cs) n)
+        (handed_out (told (opening_of own sender).display cs) n)
         d.window
         (new_by_history own sender cs n)
 
@@ -319,15 +319,15 @@ Silent h = (x : List ℕ) → class_of h.effect ≡ PutsOut x → ⊥
 none_out : (x : List ℕ) → Untouched ≡ PutsOut x → ⊥
 none_out x e = let z : ◌≡◌ {A = ℕ} 0 1 = cc in omega arith
 
-handed_out : (name : Name) (cue x : List ℕ) → HandsOut name cue ≡ PutsOut x → ⊥
-handed_out name cue x e = let z : ◌≡◌ {A = ℕ} 0 1 = cc in omega arith
+handed_out_lem : (name : Name) (cue x : List ℕ) → HandsOut name cue ≡ PutsOut x → ⊥
+handed_out_lem name cue x e = let z : ◌≡◌ {A = ℕ} 0 1 = cc in omega arith
 
 heard_silent : (m : Meaning) (d : Display) (w : Window) → Silent (heard_in w m d)
 unfolding heard_in
-heard_silent m d Unstarted = by_cond Silent (is_original d m) (λ _. handed_out (message_name m) (message_cue m)) (λ _. none_out)
+heard_silent m d Unstarted = by_cond Silent (is_original d m) (λ _. handed_out_lem (message_name m) (message_cue m)) (λ _. none_out)
 heard_silent m d (Started trail lead set) =
     by_cond Silent (is_original d m || is_repair d m)
-    (λ _. by_cond Silent (is_new d.window (message_name m).number.0) (λ _. handed_out (message_name m) (message_cue m)) (λ _. none_out))
+    (λ _. by_cond Silent (is_new d.window (message_name m).number.0) (λ _. handed_out_lem (message_name m) (message_cue m)) (λ _. none_out))
     (λ _. by_cond Silent (is_announced d m) (λ _. none_out) (λ _. none_out))
 
 hear_silent : (m : Datagram Meaning) (d : Display) → Silent (hear_of m d)

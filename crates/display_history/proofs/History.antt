@@ -26,7 +26,7 @@ use Rattle.display.specs.declared.Display.{Display}
 use Rattle.display.specs.Display.{opening_of, display_for, open_questions}
 use Rattle.message.specs.Question.{first_no}
 use Rattle.display.specs.Call.{event_of}
-use Rattle.display_history.specs.History.{Call, Told, after, after_all, told, one, handed_in, handed_out_lem, reported_lost, is_missing, start_of, is_covered, is_between, is_received_in, passes, no_lower, EachNumberOnce, StaysSo, NeverLower, NoneForgotten, LostAsPassed, Stands, LossesStand, MissingIs, ReceivedNeverReported}
+use Rattle.display_history.specs.History.{Call, Told, after, after_all, told, one, handed_in, handed_out, reported_lost, is_missing, start_of, is_covered, is_between, is_received_in, passes, no_lower, EachNumberOnce, StaysSo, NeverLower, NoneForgotten, LostAsPassed, Stands, LossesStand, MissingIs, ReceivedNeverReported}
 use Rattle.display_history.proofs.NumberLaws.{span_low}
 use Rattle.display_history.proofs.Moves.{Went, Stays, Starts, Takes, Announces, went}
 use Rattle.display_history.proofs.StepLaws.{lost_in, none-lost, Raised, started_went, Began, Waits, Begins, unstarted_went, start-sound}
@@ -75,12 +75,12 @@ pub record Ran (t l s n : ℕ) (ts : List Told) (v : Window) : Type 0 where
   pub sound : SoundWindow trail lead set
   pub trails : t ≤ trail
   pub leads : l ≤ lead
-  pub once : handed_out_lem ts n + reported_lost ts n + one ((leb trail n && leb n lead) && not (bit set (n - trail)))
+  pub once : handed_out ts n + reported_lost ts n + one ((leb trail n && leb n lead) && not (bit set (n - trail)))
       ≡ one ((leb t n && leb n l) && not (bit s (n - t))) + one (ltb l n && leb n lead)
-  pub held : trail ≤ n → one (bit set (n - trail)) ≡ one (bit s (n - t)) + handed_out_lem ts n
+  pub held : trail ≤ n → one (bit set (n - trail)) ≡ one (bit s (n - t)) + handed_out ts n
 
 ran_none : (t l s n : ℕ) → SoundWindow t l s → Ran t l s n [] (Started (as_number t) (as_number l) s)
-unfolding handed_out_lem reported_lost
+unfolding handed_out reported_lost
 ran_none t l s n w =
     let more : one (ltb l n && leb n l) ≡ 0 = by_flag (ltb l n) (λ x. rw (x, lt-leb n l (ltb-true l n x))) (λ x. rw x) in
     record {
@@ -98,7 +98,7 @@ ran_none t l s n w =
 -- one call, and those after it
 ran_more : (t l s n : ℕ) (o : Told) (ts : List Told) (v x : Window)
     → (r : Raised t l s n (handed_in (class_in o.outcome)) o.lost x) → Ran r.trail r.lead r.set n ts v → Ran t l s n (o ∷ ts) v
-unfolding handed_out_lem reported_lost
+unfolding handed_out reported_lost
 ran_more t l s n o ts v x r q =
     let joined = spans l r.lead q.lead n r.leads q.leads in
     record {
@@ -129,20 +129,20 @@ is_from Unstarted n = false
 is_from (Started trail lead set) n = leb trail.0 n
 
 pub record Story (n : ℕ) (ts : List Told) (v : Window) : Type 0 where
-  pub once : handed_out_lem ts n + reported_lost ts n + one (is_missing v n) ≡ one (is_covered (start_of ts) v n)
-  pub missing : is_missing v n ≡ (is_between v n && eqb (handed_out_lem ts n) 0)
-  pub new : is_new v n ≡ (is_from v n && eqb (handed_out_lem ts n) 0)
+  pub once : handed_out ts n + reported_lost ts n + one (is_missing v n) ≡ one (is_covered (start_of ts) v n)
+  pub missing : is_missing v n ≡ (is_between v n && eqb (handed_out ts n) 0)
+  pub new : is_new v n ≡ (is_from v n && eqb (handed_out ts n) 0)
 
 story_none : (n : ℕ) → Story n [] Unstarted
-unfolding handed_out_lem reported_lost start_of is_new
+unfolding handed_out reported_lost start_of is_new
 story_none n = record { once = refl; missing = refl; new = refl }
 
 -- a call that hands out and loses nothing
 story_waits : (n : ℕ) (o : Told) (ts : List Told) (v : Window) → handed_in (class_in o.outcome) ≡ none → o.lost ≡ none_lost → Story n ts v → Story n (o ∷ ts) v
-unfolding handed_out_lem reported_lost start_of
+unfolding handed_out reported_lost start_of
 story_waits n o ts v p q w =
     let no-loss : lost_in o.lost n ≡ 0 = ap (λ (l : Lost). lost_in l n) q ∙ none-lost n in
-    let out : handed_out_lem (o ∷ ts) n ≡ handed_out_lem ts n = rw p (omega arith) in
+    let out : handed_out (o ∷ ts) n ≡ handed_out ts n = rw p (omega arith) in
     record {
       once = rw p (omega (arith, w.once, no-loss));
       missing = w.missing ∙ ap (λ (k : ℕ). is_between v n && eqb k 0) (sym out);
@@ -186,32 +186,32 @@ missing-by a false k e = rw (← e)
 
 -- from trail on the set has what was handed out
 begun-held : (k n : ℕ) (ts : List Told) (v : Window) (r : Ran k k 1 n ts v) → r.trail ≤ n
-    → one (bit r.set (n - r.trail)) ≡ one (eqb k n) + handed_out_lem ts n
+    → one (bit r.set (n - r.trail)) ≡ one (eqb k n) + handed_out ts n
 begun-held k n ts v r a = omega (arith, r.held a, start-held k n (omega (arith, r.trails)))
 
-begun-missing : (k n : ℕ) (ts : List Told) (v : Window) → Ran k k 1 n ts v → is_missing v n ≡ (is_between v n && eqb (one (eqb k n) + handed_out_lem ts n) 0)
+begun-missing : (k n : ℕ) (ts : List Told) (v : Window) → Ran k k 1 n ts v → is_missing v n ≡ (is_between v n && eqb (one (eqb k n) + handed_out ts n) 0)
 begun-missing k n ts v r =
     rw r.is
     (by_order n r.trail
     (λ a. rw (lt-leb r.trail n a))
-    (λ a. missing-by (leb r.trail n && leb n r.lead) (bit r.set (n - r.trail)) (one (eqb k n) + handed_out_lem ts n) (begun-held k n ts v r a)))
+    (λ a. missing-by (leb r.trail n && leb n r.lead) (bit r.set (n - r.trail)) (one (eqb k n) + handed_out ts n) (begun-held k n ts v r a)))
 
-begun_new : (k n : ℕ) (ts : List Told) (v : Window) → Ran k k 1 n ts v → is_new v n ≡ (is_from v n && eqb (one (eqb k n) + handed_out_lem ts n) 0)
+begun_new : (k n : ℕ) (ts : List Told) (v : Window) → Ran k k 1 n ts v → is_new v n ≡ (is_from v n && eqb (one (eqb k n) + handed_out ts n) 0)
 unfolding is_new
 begun_new k n ts v r =
     rw r.is
     (by_order n r.trail
     (λ a. rw (lt-leb r.trail n a))
-    (λ a. missing-by (leb r.trail n) (bit r.set (n - r.trail)) (one (eqb k n) + handed_out_lem ts n) (begun-held k n ts v r a)))
+    (λ a. missing-by (leb r.trail n) (bit r.set (n - r.trail)) (one (eqb k n) + handed_out ts n) (begun-held k n ts v r a)))
 
 story_begins : (k n : ℕ) (o : Told) (ts : List Told) (v : Window) → handed_in (class_in o.outcome) ≡ some k → o.lost ≡ none_lost
     → Ran k k 1 n ts v → Story n (o ∷ ts) v
-unfolding handed_out_lem reported_lost start_of
+unfolding handed_out reported_lost start_of
 story_begins k n o ts v p q r =
     let no-loss : lost_in o.lost n ≡ 0 = ap (λ (l : Lost). lost_in l n) q ∙ none-lost n in
     let all = covered k r.lead n r.leads in
     let none = none_yet k n in
-    let out : handed_out_lem (o ∷ ts) n ≡ one (eqb k n) + handed_out_lem ts n = rw p in
+    let out : handed_out (o ∷ ts) n ≡ one (eqb k n) + handed_out ts n = rw p in
     record {
       once = rw (p, r.is) (omega (arith, r.once, no-loss, all, none));
       missing = begun-missing k n ts v r ∙ ap (λ (x : ℕ). is_between v n && eqb x 0) (sym out);
@@ -253,7 +253,7 @@ missing-is own sender cs n = (story n (opening_of own sender).display (opened ow
 -- a cue is new where its number was not handed out
 pub new_by_history : (own sender : Host) (cs : List Call) (n : ℕ) → let d = (opening_of own sender).display in
     let w = (after_all d cs).window in
-    is_new w n ≡ (is_from w n && eqb (handed_out_lem (told d cs) n) 0)
+    is_new w n ≡ (is_from w n && eqb (handed_out (told d cs) n) 0)
 new_by_history own sender cs n = (story n (opening_of own sender).display (opened own sender) cs).new
 
 -- calls after calls
@@ -269,8 +269,8 @@ told_more d (c ∷ cs) more =
     ap (λ (ts : List Told). record { outcome = (event_of d c.event c.clock c.room).outcome; lost = losses d c } ∷ ts) (told_more (after d c) cs more)
 
 handed-more : (d : Display) (cs more : List Call) (n : ℕ)
-    → handed_out_lem (told d (cs ++ more)) n ≡ handed_out_lem (told d cs) n + handed_out_lem (told (after_all d cs) more) n
-unfolding told after_all handed_out_lem
+    → handed_out (told d (cs ++ more)) n ≡ handed_out (told d cs) n + handed_out (told (after_all d cs) more) n
+unfolding told after_all handed_out
 handed-more d [] more n = omega arith
 handed-more d (c ∷ cs) more n = omega (arith, handed-more (after d c) cs more n)
 

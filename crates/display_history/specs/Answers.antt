@@ -18,7 +18,7 @@ use Rattle.display.specs.Display.{opening_of, with_clock}
 use Rattle.display.specs.Hear.{lead_in}
 use Rattle.display.specs.Request.{request_for}
 use Rattle.display.specs.Call.{Hear, Step, question_of, event_of}
-use Rattle.display_history.specs.History.{Call, after, after_all, told, handed_out_lem, is_missing, none_missing}
+use Rattle.display_history.specs.History.{Call, after, after_all, told, handed_out, is_missing, none_missing}
 
 -- ---- what is heard
 
@@ -51,7 +51,7 @@ abbrev pub AnswersHeard : Type 0
 AnswersHeard = (own sender : Host) (cs : List Call) (bytes : List ℕ) (clock room : ℕ) → let o = (opening_of own sender).display in
     let d = after_all o cs in
     question_of d (Hear bytes) clock room ≡ 0
-    → (event_of d (Hear bytes) clock room).outcome ≡ Did (answered_to (datagram_from bytes) d (handed_out_lem (told o cs)))
+    → (event_of d (Hear bytes) clock room).outcome ≡ Did (answered_to (datagram_from bytes) d (handed_out (told o cs)))
 
 -- ---- trail and lead: each is the greatest that was heard, since "values lower than it has heard .. it passes over"; kind 24 says both
 

@@ -59,9 +59,9 @@ is_the none n = false
 is_the (some k) n = eqb k n
 
 -- how often a number was handed out
-unfoldable pub handed_out_lem : List Told → ℕ → ℕ
-handed_out_lem [] n = 0
-handed_out_lem (c ∷ cs) n = one (is_the (handed_in (class_in c.outcome)) n) + handed_out_lem cs n
+unfoldable pub handed_out : List Told → ℕ → ℕ
+handed_out [] n = 0
+handed_out (c ∷ cs) n = one (is_the (handed_in (class_in c.outcome)) n) + handed_out cs n
 
 -- the numbers that a call reports as lost
 abbrev pub in_set : Lost → ℕ → Bool
@@ -102,13 +102,13 @@ is_covered (some start) (Started trail lead set) n = leb start n && leb n lead.0
 abbrev pub EachNumberOnce : Type 0
 EachNumberOnce = (own sender : Host) (cs : List Call) (n : ℕ) → let d = (opening_of own sender).display in
     let w = (after_all d cs).window in
-    handed_out_lem (told d cs) n + reported_lost (told d cs) n + one (is_missing w n) ≡ one (is_covered (start_of (told d cs)) w n)
+    handed_out (told d cs) n + reported_lost (told d cs) n + one (is_missing w n) ≡ one (is_covered (start_of (told d cs)) w n)
 
 -- "and it stays so": what was handed out or reported lost is so after more calls too, once; with EachNumberOnce of the longer list, it is then
 -- neither missing nor the other of the two
 abbrev pub StaysSo : Type 0
 StaysSo = (own sender : Host) (cs more : List Call) (n : ℕ) → let d = (opening_of own sender).display in
-    (handed_out_lem (told d cs) n ≡ 1 → handed_out_lem (told d (cs ++ more)) n ≡ 1) × (reported_lost (told d cs) n ≡ 1 → reported_lost (told d (cs ++ more)) n ≡ 1)
+    (handed_out (told d cs) n ≡ 1 → handed_out (told d (cs ++ more)) n ≡ 1) × (reported_lost (told d cs) n ≡ 1 → reported_lost (told d (cs ++ more)) n ≡ 1)
 
 -- "Values lower than it has heard .. it passes over": neither trail nor lead ever falls, and once started a display stays so. What a higher value
 -- does is said by `EdgesHeard` (Answers.antt).
@@ -167,7 +167,7 @@ LossesStand = (d : Display) (c : Call) (n : ℕ) → Stands d.window (event_of d
 abbrev pub MissingIs : Type 0
 MissingIs = (own sender : Host) (cs : List Call) (n : ℕ) → let d = (opening_of own sender).display in
     let w = (after_all d cs).window in
-    is_missing w n ≡ (is_between w n && eqb (handed_out_lem (told d cs) n) 0)
+    is_missing w n ≡ (is_between w n && eqb (handed_out (told d cs) n) 0)
 
 -- "A step puts out RQST of the lowest missing number, or gives Nothing": one that is not refused does the first where a number is missing, and
 -- gives Nothing where none is; either way it sets the clock and changes nothing else. Of any display.
@@ -188,7 +188,7 @@ StepAsksLowest = (d : Display) (clock room : ℕ) → question_of d Step clock r
 -- A number that was handed out is never reported lost, before or after.
 abbrev pub ReceivedNeverReported : Type 0
 ReceivedNeverReported = (own sender : Host) (cs more : List Call) (n : ℕ) → let d = (opening_of own sender).display in
-    1 ≤ handed_out_lem (told d cs) n → reported_lost (told d (cs ++ more)) n ≡ 0
+    1 ≤ handed_out (told d cs) n → reported_lost (told d (cs ++ more)) n ≡ 0
 
 -- ---- sound stays sound
 

@@ -20,7 +20,7 @@ use Rattle.end.proofs.Tools.{by_test, by_cond, clash, and_left, and_right}
 use Rattle.end.proofs.Clashes.{same_cue_is_same_bytes}
 use Rattle.end.proofs.Service.Ends.{service}
 use Rattle.record.specs.declared.Line.{Line}
-use Rattle.record.specs.Line.{moved, sent, handed_out_lem}
+use Rattle.record.specs.Line.{moved, sent, handed_out}
 use Rattle.ledger.specs.Judgement.{anywhere, permits_said, permits, written_said, written, permits_run}
 use Rattle.ledger.proofs.ViewLaws.{as_out_lem}
 use Rattle.record.specs.Kept.{lines_for, lines_of}
@@ -103,13 +103,13 @@ module _ {j b : Book} (f : Follows j b) (h s n : ℕ) where
       let once = ap (λ (l : List ℕ). not (among n l)) (f.handed h s) ∙ and_right (kept (b.highest h s) n) _ p4 in
       λ i. member i && (other i && (filed i && (first i && (keeps i && once i))))
 
-  got_permitted : limits b h s n ≡ true → permits j (handed_out_lem h s n (get_or (b.filed s) n [])) ≡ true
+  got_permitted : limits b h s n ≡ true → permits j (handed_out h s n (get_or (b.filed s) n [])) ≡ true
   unfolding permits_said
   got_permitted p =
       let same = (same_cue_is_same_bytes (get_or (j.filed s) n []) (get_or (b.filed s) n [])).1 (ap (λ (l : List (List ℕ)). get_or l n []) (f.filed s)) in
       λ i. limits_follow p i && same i
 
-  got_follows : (cue : List ℕ) → Follows (written j (handed_out_lem h s n cue)) (hand b h s n)
+  got_follows : (cue : List ℕ) → Follows (written j (handed_out h s n cue)) (hand b h s n)
   unfolding written_said
   got_follows cue = hand_follows f h s n
 
@@ -140,12 +140,12 @@ else_lines h o (Clash name) q = refl
 else_lines h o (Late name cue) q = refl
 else_lines h o Exhausted q = refl
 
-pub got-line : (h : ℕ) (x : List ℕ) (m : Meaning) (cue : List ℕ) → lines_for h (Arrival x) (Got (message_name m) cue) ≡ handed_out_lem h (source m) (number m) cue ∷ []
+pub got-line : (h : ℕ) (x : List ℕ) (m : Meaning) (cue : List ℕ) → lines_for h (Arrival x) (Got (message_name m) cue) ≡ handed_out h (source m) (number m) cue ∷ []
 unfolding lines_for
 got-line h x m cue = refl
 
 module _ {j b : Book} (f : Follows j b) (h : ℕ) (x : List ℕ) where
-  taken_follows : (m : Meaning) → gets b h m ≡ true → (cue : List ℕ) → Follows (written j (handed_out_lem h (source m) (number m) cue)) (after_message b h (some m))
+  taken_follows : (m : Meaning) → gets b h m ≡ true → (cue : List ℕ) → Follows (written j (handed_out h (source m) (number m) cue)) (after_message b h (some m))
   unfolding after_message
   taken_follows m t cue = rw t (got_follows f h (source m) (number m) cue)
 
@@ -160,7 +160,7 @@ module _ {j b : Book} (f : Follows j b) (h : ℕ) (x : List ℕ) where
       by_test (gets b h m)
       (λ t.
       let e : a ≡ Got (message_name m) (get_or (b.filed (source m)) (number m) []) = rw t at p in
-      let l = handed_out_lem h (source m) (number m) (get_or (b.filed (source m)) (number m) []) in
+      let l = handed_out h (source m) (number m) (get_or (b.filed (source m)) (number m) []) in
       let lines : lines_for h (Arrival x) a ≡ l ∷ [] = ap (lines_for h (Arrival x)) e ∙ got-line h x m (get_or (b.filed (source m)) (number m) []) in
       rw lines (one_line j l (got_permitted f h (source m) (number m) (within-limits b h m t)) (taken_follows m t (get_or (b.filed (source m)) (number m) []))))
       (λ t. let q : is_got a ≡ false = rw t at p in rw (quiet-lines h x a q) (no_lines (passed_follows m t)))

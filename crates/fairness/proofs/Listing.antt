@@ -3,7 +3,7 @@ use mathlib.Core.Path.{◌≡◌, refl}
 use mathlib.Core.List.{[], ◌∷◌}
 use Rattle.end.specs.declared.Move.TheVariants.{Join, Joined}
 use Rattle.end.specs.Run.{seen}
-use Rattle.record.specs.Line.{moved, sent, handed_out_lem}
+use Rattle.record.specs.Line.{moved, sent, handed_out}
 use Rattle.cases.specs.Listing.{house, script, minus_two}
 use Rattle.cases.proofs.Opened.{opened}
 use Rattle.record.specs.Kept.{lines_for}
@@ -15,11 +15,11 @@ listing_record : record_of (seen house script)
     ∷ moved Join 1
     ∷ moved Joined 1
     ∷ sent 0 0 minus_two
-    ∷ handed_out_lem 1 0 0 minus_two
+    ∷ handed_out 1 0 0 minus_two
     ∷ sent 0 1 minus_two
     ∷ sent 0 2 minus_two
-    ∷ handed_out_lem 1 0 2 minus_two
-    ∷ handed_out_lem 1 0 1 minus_two
+    ∷ handed_out 1 0 2 minus_two
+    ∷ handed_out 1 0 1 minus_two
     ∷ []
 unfolding record_of lines_for opened
 listing_record = refl

@@ -28,7 +28,7 @@ use Rattle.end.proofs.Tools.{by_test, by_cond, put_all, get_elem_get_d, and_left
 use Rattle.end.proofs.Readings.{read_is, in_range_lem}
 use Rattle.end.proofs.Service.Ends.{service}
 use Rattle.record.specs.declared.Line.{Line}
-use Rattle.record.specs.Line.{line_of, handed_out_lem}
+use Rattle.record.specs.Line.{line_of, handed_out}
 use Rattle.record.specs.Text.{text_of, record_text, ProperCue, Proper}
 use Rattle.record.proofs.LinesBack.{Unbroken, lines_back, text_unbroken}
 use Rattle.ledger.specs.declared.Judgement.TheVariants as judged
@@ -134,7 +134,7 @@ module _ (b : Book) (f : Filed b) (h : ℕ) (small : h < 8) where
 
   -- a message is handed out, or passes
   got-steps : (m : Meaning) (cue : List ℕ) → source m < 8 → number m < 65536 → limits b h (source m) (number m) ≡ true
-      → cue ≡ get_or (b.filed (source m)) (number m) [] → AllProper (handed_out_lem h (source m) (number m) cue ∷ [])
+      → cue ≡ get_or (b.filed (source m)) (number m) [] → AllProper (handed_out h (source m) (number m) cue ∷ [])
   unfolding limits is_some
   got-steps m cue s n t e =
       let there = and_left (is_some (get_elem? (b.filed (source m)) (number m))) _

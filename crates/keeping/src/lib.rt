@@ -9,7 +9,7 @@ ghost use Rattle.end.specs.Event.{action_of, Send};
 ghost use Rattle.end.specs.Book.{read_as};
 ghost use Rattle.answers.specs.Put.{Put};
 ghost use Rattle.record.specs.Text.{hex_digit, hex_text, move_text, record_text};
-ghost use Rattle.record.specs.Line.{malformed, sent, handed_out_lem};
+ghost use Rattle.record.specs.Line.{malformed, sent, handed_out};
 ghost use Rattle.record.specs.Kept.{moved_line, sent_line, lines_for};
 ghost use Rattle.keeping.specs.Kept.{kept, kept_of, widest};
 ghost use Rattle.keeping.specs.Promise.{moved_text, numbered_text, named_text, sent_text, got_text, PutInRoom};
@@ -99,7 +99,7 @@ fn out_line(host: Host, what: Event, cue: [u8; 24], bytes: &[u8]) -> Line
 // The line of a cue that was handed out, in the first 24 output bytes.
 fn got_line(host: Host, name: Name, out: &[u8]) -> Line
     requires { 24 ≤ length out.now }
-    ensures { result ≡ handed_out_lem host.0 name.source.0 name.number.0 (take 24 out.now) }
+    ensures { result ≡ handed_out host.0 name.source.0 name.number.0 (take 24 out.now) }
 {
     let mut cue = [0u8; 24];
     numbers::put_bytes(&mut cue, 0, &out[..24]);

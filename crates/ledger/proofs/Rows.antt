@@ -8,7 +8,7 @@ use Rattle.end.specs.declared.Move.TheVariants.{Join, Joined, Leave, Left, Crash
 use Rattle.end.specs.Decide.{same_cue}
 use Rattle.end.specs.Book.{put, among, first_of, not_below, is_some, kept, limits, due, cleared_by, moved_book, file, higher, hand, after}
 use Rattle.record.specs.declared.Line.{Line}
-use Rattle.record.specs.Line.{malformed, moved, sent, handed_out_lem}
+use Rattle.record.specs.Line.{malformed, moved, sent, handed_out}
 use Rattle.ledger.specs.declared.Judgement.{Judgement}
 use Rattle.ledger.specs.declared.Judgement.TheVariants.{Allowed, BrokenAt, Refused}
 use Rattle.ledger.specs.Judgement.{permits_said, written_said, judged_from, any_malformed, judgement_of}
@@ -78,44 +78,44 @@ unfolding after_opening
 number-restarted = refl
 
 -- "the reader is a member and not the source; the name is filed"
-handed_out : after_opening (handed_out_lem 1 0 0 one ∷ []) ≡ Allowed
+handed_out_lem : after_opening (handed_out 1 0 0 one ∷ []) ≡ Allowed
 unfolding after_opening
-handed_out = refl
+handed_out_lem = refl
 
-no_member : after_opening (handed_out_lem 2 0 0 one ∷ []) ≡ BrokenAt 6
+no_member : after_opening (handed_out 2 0 0 one ∷ []) ≡ BrokenAt 6
 unfolding after_opening
 no_member = refl
 
-left-member : after_opening (moved Leave 1 ∷ handed_out_lem 1 0 0 one ∷ []) ≡ BrokenAt 7
+left-member : after_opening (moved Leave 1 ∷ handed_out 1 0 0 one ∷ []) ≡ BrokenAt 7
 unfolding after_opening
 left-member = refl
 
-own-cue : after_opening (handed_out_lem 0 0 0 one ∷ []) ≡ BrokenAt 6
+own-cue : after_opening (handed_out 0 0 0 one ∷ []) ≡ BrokenAt 6
 unfolding after_opening
 own-cue = refl
 
-not-filed : after_opening (handed_out_lem 1 0 1 one ∷ []) ≡ BrokenAt 6
+not-filed : after_opening (handed_out 1 0 1 one ∷ []) ≡ BrokenAt 6
 unfolding after_opening
 not-filed = refl
 
 -- "its number is not below the first one handed out from that source since joining, if any, and not handed out since joining"
-below-first : after_opening (sent 0 1 one ∷ handed_out_lem 1 0 1 one ∷ handed_out_lem 1 0 0 one ∷ []) ≡ BrokenAt 8
+below-first : after_opening (sent 0 1 one ∷ handed_out 1 0 1 one ∷ handed_out 1 0 0 one ∷ []) ≡ BrokenAt 8
 unfolding after_opening
 below-first = refl
 
-handed_out_twice : after_opening (handed_out_lem 1 0 0 one ∷ handed_out_lem 1 0 0 one ∷ []) ≡ BrokenAt 7
+handed_out_twice : after_opening (handed_out 1 0 0 one ∷ handed_out 1 0 0 one ∷ []) ≡ BrokenAt 7
 unfolding after_opening
 handed_out_twice = refl
 
 -- since joining: a new member starts anew
 joined_anew : after_opening
-    (sent 0 1 one ∷ handed_out_lem 1 0 1 one ∷ moved Leave 1 ∷ moved Left 1 ∷ moved Join 1 ∷ moved Joined 1 ∷ handed_out_lem 1 0 0 one ∷ handed_out_lem 1 0 1 one ∷ [])
+    (sent 0 1 one ∷ handed_out 1 0 1 one ∷ moved Leave 1 ∷ moved Left 1 ∷ moved Join 1 ∷ moved Joined 1 ∷ handed_out 1 0 0 one ∷ handed_out 1 0 1 one ∷ [])
     ≡ Allowed
 unfolding after_opening
 joined_anew = refl
 
 -- "with the filed cue"
-another-cue : after_opening (handed_out_lem 1 0 0 other ∷ []) ≡ BrokenAt 6
+another-cue : after_opening (handed_out 1 0 0 other ∷ []) ≡ BrokenAt 6
 unfolding after_opening
 another-cue = refl
 
@@ -126,13 +126,13 @@ sends (suc k) n = sent 0 n blank_cue ∷ sends k (n + 1)
 
 far : List Line → Judgement
 unfolding after_opening sends
-far ls = after_opening (sends 65 1 ++ (handed_out_lem 1 0 0 one ∷ handed_out_lem 1 0 65 one ∷ ls))
+far ls = after_opening (sends 65 1 ++ (handed_out 1 0 0 one ∷ handed_out 1 0 65 one ∷ ls))
 
-still_kept : far (handed_out_lem 1 0 2 one ∷ []) ≡ Allowed
+still_kept : far (handed_out 1 0 2 one ∷ []) ≡ Allowed
 unfolding far
 still_kept = refl
 
-retired : far (handed_out_lem 1 0 1 one ∷ []) ≡ BrokenAt 73
+retired : far (handed_out 1 0 1 one ∷ []) ≡ BrokenAt 73
 unfolding far
 retired = refl
 

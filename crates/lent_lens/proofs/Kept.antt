@@ -9,7 +9,7 @@ use lib.Dec.{ltb, leb, eqb}
 use borrow.Author.Tests.{ltb-true, leb-true}
 use Rattle.message.proofs.QuestionLaws.{and_both}
 use Rattle.calendar.specs.declared.Date.{Date}
-use Rattle.calendar.specs.Calendar.{date, exists_of, not_after_lem, roll_code, roll_date}
+use Rattle.calendar.specs.Calendar.{date, exists_of, not_after, roll_code, roll_date}
 use Rattle.calendar.proofs.Count.{exists-facts}
 use Rattle.calendar.proofs.Tests.{days_fit}
 use Rattle.calendar.proofs.Order.{calendar_holds}
@@ -50,7 +50,7 @@ window-kept s h =
     let w = window_of s in
     let p = and_both (exists_of w.first) _ h in
     let q = and_both (exists_of w.last) _ p.1 in
-    let r = and_both (not_after_lem w.first w.last) _ q.1 in
+    let r = and_both (not_after w.first w.last) _ q.1 in
     let t = and_both (ltb w.start w.end) (leb w.end 1440) r.1 in
     let from : w.start < w.end = ltb-true w.start w.end t.0 in
     let to : w.end ≤ 1440 = leb-true w.end 1440 t.1 in

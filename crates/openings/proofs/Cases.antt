@@ -4,7 +4,7 @@ use mathlib.Core.Bool.{false}
 use mathlib.Core.List.{List, [], ◌∷◌, map}
 use Prim.Native.Nat.{ℕ, zero, suc}
 use Rattle.calendar.specs.declared.Date.{Date}
-use Rattle.calendar.specs.Calendar.{date, leap_of, days_of, exists_of, not_after_lem, next_day, roll_date}
+use Rattle.calendar.specs.Calendar.{date, leap_of, days_of, exists_of, not_after, next_day, roll_date}
 use Rattle.openings.specs.declared.Window.{Window}
 use Rattle.openings.specs.declared.Opening.{Opening}
 use Rattle.openings.specs.declared.Opening.TheVariants.{At, None, Refused}
@@ -29,36 +29,36 @@ empty = refl
 
 -- the window began before the given date, and its day has not: the start is included
 begun : find_of (leap ∷ []) (moment (date 2024 2 28) 0) ≡ At (moment (date 2024 2 28) 600)
-unfolding find_of in_order minute_exists window_exists all_exist lasts_on candidate_of earliest_of before exists_of not_after_lem days_of leap_of
+unfolding find_of in_order minute_exists window_exists all_exist lasts_on candidate_of earliest_of before exists_of not_after days_of leap_of
 begun = refl
 
 -- its last minute of the day, and the end, which is excluded: the next day is 29 February
 last_minute : find_of (leap ∷ []) (moment (date 2024 2 28) 659) ≡ At (moment (date 2024 2 28) 659)
-unfolding find_of in_order minute_exists window_exists all_exist lasts_on candidate_of earliest_of before exists_of not_after_lem days_of leap_of
+unfolding find_of in_order minute_exists window_exists all_exist lasts_on candidate_of earliest_of before exists_of not_after days_of leap_of
 last_minute = refl
 
 end_excluded : find_of (leap ∷ []) (moment (date 2024 2 28) 660) ≡ At (moment (date 2024 2 29) 600)
-unfolding find_of in_order minute_exists window_exists all_exist lasts_on candidate_of earliest_of before exists_of not_after_lem roll_date next_day days_of leap_of
+unfolding find_of in_order minute_exists window_exists all_exist lasts_on candidate_of earliest_of before exists_of not_after roll_date next_day days_of leap_of
 end_excluded = refl
 
 -- the last date is included, and after its minutes there is none
 over : find_of (leap ∷ []) (moment (date 2024 3 1) 660) ≡ None
-unfolding find_of in_order minute_exists window_exists all_exist lasts_on candidate_of earliest_of before exists_of not_after_lem days_of leap_of
+unfolding find_of in_order minute_exists window_exists all_exist lasts_on candidate_of earliest_of before exists_of not_after days_of leap_of
 over = refl
 
 -- of two windows the earlier minute, wherever it stands
 earlier : find_of (leap ∷ window (date 2024 2 28) (date 2024 2 28) 30 31 ∷ []) (moment (date 2024 2 28) 0) ≡ At (moment (date 2024 2 28) 30)
-unfolding find_of in_order minute_exists window_exists all_exist lasts_on candidate_of earliest_of before exists_of not_after_lem days_of leap_of
+unfolding find_of in_order minute_exists window_exists all_exist lasts_on candidate_of earliest_of before exists_of not_after days_of leap_of
 earlier = refl
 
 -- a window up to the calendar's last day: after that day's minutes there is none, and the roll, which would give the same day back, is not asked
 last_day_lem : find_of (window (date 2000 1 1) (date 2099 12 31) 0 1439 ∷ []) (moment (date 2099 12 31) 1439) ≡ None
-unfolding find_of in_order minute_exists window_exists all_exist lasts_on candidate_of earliest_of before exists_of not_after_lem days_of leap_of
+unfolding find_of in_order minute_exists window_exists all_exist lasts_on candidate_of earliest_of before exists_of not_after days_of leap_of
 last_day_lem = refl
 
 -- a span of one day, up to the end of the day: 1440 is an end, and the day's last minute is found
 one_day : find_of (window (date 2024 2 29) (date 2024 2 29) 0 1440 ∷ []) (moment (date 2024 2 29) 1439) ≡ At (moment (date 2024 2 29) 1439)
-unfolding find_of in_order minute_exists window_exists all_exist lasts_on candidate_of earliest_of before exists_of not_after_lem days_of leap_of
+unfolding find_of in_order minute_exists window_exists all_exist lasts_on candidate_of earliest_of before exists_of not_after days_of leap_of
 one_day = refl
 
 -- refused: minute 1440, 30 February
@@ -78,7 +78,7 @@ no_windows =
     ∷ window (date 2024 3 1) (date 2100 1 1) 600 660 ∷ window (date 2024 3 2) (date 2024 3 1) 0 1440 ∷ []
 
 bad_windows : map window_exists no_windows ≡ false ∷ false ∷ false ∷ false ∷ false ∷ false ∷ []
-unfolding window_exists exists_of not_after_lem days_of leap_of
+unfolding window_exists exists_of not_after days_of leap_of
 bad_windows = refl
 
 -- each is refused in any place: alone, before a good one and after it
@@ -87,12 +87,12 @@ found_with w =
     find_of (w ∷ []) (moment (date 2024 2 28) 0) ∷ find_of (w ∷ leap ∷ []) (moment (date 2024 2 28) 0) ∷ find_of (leap ∷ w ∷ []) (moment (date 2024 2 28) 0) ∷ []
 
 refused_in_any_place : map found_with no_windows ≡ map (λ w. Refused 15 ∷ Refused 15 ∷ Refused 15 ∷ []) no_windows
-unfolding find_of in_order minute_exists window_exists all_exist exists_of not_after_lem days_of leap_of
+unfolding find_of in_order minute_exists window_exists all_exist exists_of not_after days_of leap_of
 refused_in_any_place = refl
 
 -- 32 windows are taken, and 33 are not, also where all are good
 thirty_two : find_of (copies 32 leap) (moment (date 2024 2 28) 600) ≡ At (moment (date 2024 2 28) 600)
-unfolding find_of in_order minute_exists window_exists all_exist lasts_on candidate_of earliest_of before exists_of not_after_lem days_of leap_of
+unfolding find_of in_order minute_exists window_exists all_exist lasts_on candidate_of earliest_of before exists_of not_after days_of leap_of
 thirty_two = refl
 
 thirty_three : find_of (copies 33 leap) (moment (date 2024 2 28) 600) ≡ Refused 15

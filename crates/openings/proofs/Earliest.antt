@@ -9,7 +9,7 @@ use lib.Dec.{leb}
 use lib.ListN.{length}
 use borrow.Author.Tests.{ltb-true, ltb-false}
 use Rattle.calendar.specs.declared.Date.{Date}
-use Rattle.calendar.specs.Calendar.{exists_of, not_after_lem, next_day, roll_date, day_number}
+use Rattle.calendar.specs.Calendar.{exists_of, not_after, next_day, roll_date, day_number}
 use Rattle.calendar.proofs.Count.{next_is_later, last_is_36524}
 use Rattle.calendar.proofs.Order.{next-exists, within}
 use Rattle.openings.specs.declared.Window.{Window}
@@ -38,7 +38,7 @@ Best lies m (Refused n) = ⊥
 -- ---- one window
 module _ (w : Window) (m : Moment) (x : Sound w) (y : Minute m) where
   -- the window's dates have not come yet
-  first_day_lem : not_after_lem w.first m.date ≡ false → First (lies_in w) m (moment w.first w.start)
+  first_day_lem : not_after w.first m.date ≡ false → First (lies_in w) m (moment w.first w.start)
   unfolding minute_number
   first_day_lem e =
       let l : day_number m.date < day_number w.first = day_gt _ _ x.first-there y.day e in
@@ -94,15 +94,15 @@ rolled d e = simp e
 never : ◌≡◌ {A = Bool} false true → ⊥
 never e = let z : ◌≡◌ {A = ℕ} 0 1 = cc in omega arith
 
-lasts-facts : (w : Window) (m : Moment) (t : Bool) → not_after_lem m.date w.last ≡ t → lasts_on w m ≡ true → (t ≡ true) × (m.minute < w.end)
+lasts-facts : (w : Window) (m : Moment) (t : Bool) → not_after m.date w.last ≡ t → lasts_on w m ≡ true → (t ≡ true) × (m.minute < w.end)
 lasts-facts w m true e h = (refl, ltb-true _ _ (by_minute w m e ∙ h))
 lasts-facts w m false e h = absurd (never (dates-over w m e ∙ h))
 
-lasts-not : (w : Window) (m : Moment) → not_after_lem m.date w.last ≡ true → lasts_on w m ≡ false → w.end ≤ m.minute
+lasts-not : (w : Window) (m : Moment) → not_after m.date w.last ≡ true → lasts_on w m ≡ false → w.end ≤ m.minute
 lasts-not w m e h = ltb-false _ _ (by_minute w m e ∙ h)
 
 module _ (w : Window) (m : Moment) (x : Sound w) (y : Minute m) where
-  by_tests : (s t u : Bool) → not_after_lem w.first m.date ≡ s → lasts_on w m ≡ t → not_after_lem w.last m.date ≡ u → Best (lies_in w) m (candidate_of w m)
+  by_tests : (s t u : Bool) → not_after w.first m.date ≡ s → lasts_on w m ≡ t → not_after w.last m.date ≡ u → Best (lies_in w) m (candidate_of w m)
   by_tests false t u e f g = subst (Best (lies_in w) m) (not-begun w m e) (first_day_lem w m x y e)
   by_tests true true u e f g =
       let h = lasts-facts w m _ refl f in

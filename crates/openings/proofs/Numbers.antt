@@ -7,7 +7,7 @@ use mathlib.Core.Bool.{Bool, true, false, ◌&&◌, ◌||◌}
 use lib.Dec.{ltb}
 use borrow.Author.Tests.{ltb-true, ltb-false, leb-true, leb-false, lt-ltb, le-ltb, le-leb}
 use Rattle.calendar.specs.declared.Date.{Date}
-use Rattle.calendar.specs.Calendar.{exists_of, not_after_lem, day_number}
+use Rattle.calendar.specs.Calendar.{exists_of, not_after, day_number}
 use Rattle.calendar.proofs.Order.{by_number, one_a_day}
 use Rattle.openings.specs.declared.Window.{Window}
 use Rattle.openings.specs.declared.Moment.{Moment}
@@ -32,13 +32,13 @@ or_right true q h = refl
 or_right false q h = h
 
 -- ---- dates
-pub day_le : (a b : Date) → exists_of a ≡ true → exists_of b ≡ true → not_after_lem a b ≡ true → day_number a ≤ day_number b
+pub day_le : (a b : Date) → exists_of a ≡ true → exists_of b ≡ true → not_after a b ≡ true → day_number a ≤ day_number b
 day_le a b e f h = leb-true _ _ (sym (by_number a b e f) ∙ h)
 
-pub day_gt : (a b : Date) → exists_of a ≡ true → exists_of b ≡ true → not_after_lem a b ≡ false → day_number b < day_number a
+pub day_gt : (a b : Date) → exists_of a ≡ true → exists_of b ≡ true → not_after a b ≡ false → day_number b < day_number a
 day_gt a b e f h = leb-false _ _ (sym (by_number a b e f) ∙ h)
 
-pub le_day : (a b : Date) → exists_of a ≡ true → exists_of b ≡ true → day_number a ≤ day_number b → not_after_lem a b ≡ true
+pub le_day : (a b : Date) → exists_of a ≡ true → exists_of b ≡ true → day_number a ≤ day_number b → not_after a b ≡ true
 le_day a b e f h = by_number a b e f ∙ le-leb _ _ h
 
 -- ---- minutes
@@ -55,7 +55,7 @@ unfolding minute_exists
 minute_there m e h = simp (e, lt-ltb _ _ h)
 
 module _ (a b : Moment) (x : Minute a) (z : Minute b) where
-  by_days : (s t : Bool) → not_after_lem a.date b.date ≡ s → not_after_lem b.date a.date ≡ t → before a b ≡ ltb (minute_number a) (minute_number b)
+  by_days : (s t : Bool) → not_after a.date b.date ≡ s → not_after b.date a.date ≡ t → before a b ≡ ltb (minute_number a) (minute_number b)
   unfolding minute_number
   by_days false t e f =
       let l : day_number b.date < day_number a.date = day_gt _ _ x.day z.day e in

@@ -2,7 +2,7 @@
 -- given one, that lies in a window; "none" means that there is none up to the end of 2099"; "A list too long, or a date, minute or window
 -- that doesn't exist .. is refused as 15 before any search."
 use Rattle.std.specs.Prelude.{ℕ, max, Bool, cond, not, ◌&&◌, List, [], ◌∷◌, ltb, leb, length}
-use Rattle.calendar.specs.Calendar.{not_after_lem, roll_date}
+use Rattle.calendar.specs.Calendar.{not_after, roll_date}
 use Rattle.openings.specs.declared.Window.{Window}
 use Rattle.openings.specs.declared.Moment.{Moment}
 use Rattle.openings.specs.declared.Opening.{Opening}
@@ -11,15 +11,15 @@ use Rattle.openings.specs.Windows.{moment, minute_exists, all_exist, before}
 
 -- w's dates are not over on m's day, and its minutes not by m's minute
 unfoldable pub lasts_on : Window → Moment → Bool
-lasts_on w m = not_after_lem m.date w.last && ltb m.minute w.end
+lasts_on w m = not_after m.date w.last && ltb m.minute w.end
 
 -- the earliest minute of w that is not before m: the window's first minute where its dates have not come yet; else one of this day; else
 -- none where this day is its last or later; else the next day's first
 unfoldable pub candidate_of : Window → Moment → Opening
 candidate_of w m =
-    cond (not (not_after_lem w.first m.date)) (At (moment w.first w.start))
+    cond (not (not_after w.first m.date)) (At (moment w.first w.start))
     (cond (lasts_on w m) (At (moment m.date (max m.minute w.start)))
-    (cond (not_after_lem w.last m.date) None
+    (cond (not_after w.last m.date) None
     (At (moment (roll_date m.date) w.start))))
 
 abbrev pub first_of : Moment → Moment → Moment

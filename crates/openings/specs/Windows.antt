@@ -2,7 +2,7 @@
 -- included, and a span of minutes of the day, start included, end excluded and at most 1440."
 use Rattle.std.specs.Prelude.{ℕ, ◌+◌, ◌*◌, Bool, true, false, cond, ◌&&◌, ◌||◌, List, [], ◌∷◌, ltb, leb}
 use Rattle.calendar.specs.declared.Date.{Date}
-use Rattle.calendar.specs.Calendar.{exists_of, not_after_lem, day_number}
+use Rattle.calendar.specs.Calendar.{exists_of, not_after, day_number}
 use Rattle.openings.specs.declared.Window.{Window}
 use Rattle.openings.specs.declared.Moment.{Moment}
 
@@ -15,7 +15,7 @@ minute_exists m = exists_of m.date && ltb m.minute 1440
 
 -- "a .. window that doesn't exist, an empty minute span or a date span that ends before it starts among them"
 unfoldable pub window_exists : Window → Bool
-window_exists w = exists_of w.first && (exists_of w.last && (not_after_lem w.first w.last && (ltb w.start w.end && leb w.end 1440)))
+window_exists w = exists_of w.first && (exists_of w.last && (not_after w.first w.last && (ltb w.start w.end && leb w.end 1440)))
 
 unfoldable pub all_exist : List Window → Bool
 all_exist [] = true
@@ -23,7 +23,7 @@ all_exist (w ∷ ws) = window_exists w && all_exist ws
 
 -- a is before b: by the date, then the minute
 unfoldable pub before : Moment → Moment → Bool
-before a b = cond (not_after_lem a.date b.date) (cond (not_after_lem b.date a.date) (ltb a.minute b.minute) true) false
+before a b = cond (not_after a.date b.date) (cond (not_after b.date a.date) (ltb a.minute b.minute) true) false
 
 -- ---- what the promises speak of, and no code rests on
 
@@ -33,7 +33,7 @@ minute_number m = day_number m.date * 1440 + m.minute
 
 -- m lies in a window
 unfoldable pub lies_in : Window → Moment → Bool
-lies_in w m = (not_after_lem w.first m.date && not_after_lem m.date w.last) && (leb w.start m.minute && ltb m.minute w.end)
+lies_in w m = (not_after w.first m.date && not_after m.date w.last) && (leb w.start m.minute && ltb m.minute w.end)
 
 -- m lies in one of the windows
 unfoldable pub is_open : List Window → Moment → Bool

@@ -11,7 +11,7 @@ use Rattle.display.specs.declared.Display.{Display}
 use Rattle.display.specs.Display.{sound_of, opening_of, with_clock}
 use Rattle.display.specs.Request.{request_for}
 use Rattle.display.specs.Call.{Hear, Step, question_of, event_of}
-use Rattle.display_history.specs.History.{Call, after, after_all, told, one, handed_out_lem, in_set, in_span, reported_lost, is_missing, none_missing, stepped, start_of, is_covered, no_lower, is_received_in, passes, Stands, is_between}
+use Rattle.display_history.specs.History.{Call, after, after_all, told, one, handed_out, in_set, in_span, reported_lost, is_missing, none_missing, stepped, start_of, is_covered, no_lower, is_received_in, passes, Stands, is_between}
 use Rattle.display_history.specs.Answers.{answered_to, edges_of, edges_to, Asking}
 use Rattle.display_history.specs.Foyer.{Turn, Foyer, Allowed, Fresh, at_ends}
 
@@ -20,10 +20,10 @@ pub record DisplaysKept : Type 0 where
   -- of the three.
   pub each_number_once : (own sender : Host) (cs : List Call) (n : ℕ) → let d = (opening_of own sender).display in
       let w = (after_all d cs).window in
-      handed_out_lem (told d cs) n + reported_lost (told d cs) n + one (is_missing w n) ≡ one (is_covered (start_of (told d cs)) w n)
+      handed_out (told d cs) n + reported_lost (told d cs) n + one (is_missing w n) ≡ one (is_covered (start_of (told d cs)) w n)
   -- "and it stays so"
   pub stays_so : (own sender : Host) (cs more : List Call) (n : ℕ) → let d = (opening_of own sender).display in
-      (handed_out_lem (told d cs) n ≡ 1 → handed_out_lem (told d (cs ++ more)) n ≡ 1) × (reported_lost (told d cs) n ≡ 1 → reported_lost (told d (cs ++ more)) n ≡ 1)
+      (handed_out (told d cs) n ≡ 1 → handed_out (told d (cs ++ more)) n ≡ 1) × (reported_lost (told d cs) n ≡ 1 → reported_lost (told d (cs ++ more)) n ≡ 1)
   -- Neither trail nor lead ever falls, and a number that was one of the three after some calls is one of them after more.
   pub never-lower : (own sender : Host) (cs more : List Call) → let d = (opening_of own sender).display in
       no_lower (after_all d cs).window (after_all d (cs ++ more)).window ≡ true
@@ -38,15 +38,15 @@ pub record DisplaysKept : Type 0 where
   -- Missing is what was not handed out, from trail to lead.
   pub missing-is : (own sender : Host) (cs : List Call) (n : ℕ) → let d = (opening_of own sender).display in
       let w = (after_all d cs).window in
-      is_missing w n ≡ (is_between w n && eqb (handed_out_lem (told d cs) n) 0)
+      is_missing w n ≡ (is_between w n && eqb (handed_out (told d cs) n) 0)
   -- A number that was handed out is never reported lost, before or after.
   pub received_never_reported : (own sender : Host) (cs more : List Call) (n : ℕ) → let d = (opening_of own sender).display in
-      1 ≤ handed_out_lem (told d cs) n → reported_lost (told d (cs ++ more)) n ≡ 0
+      1 ≤ handed_out (told d cs) n → reported_lost (told d (cs ++ more)) n ≡ 0
   -- "A newly received cue is Got, its sender's kind 24 once started Done, all else Ignored": by what was handed out before.
   pub answers-heard : (own sender : Host) (cs : List Call) (bytes : List ℕ) (clock room : ℕ) → let o = (opening_of own sender).display in
       let d = after_all o cs in
       question_of d (Hear bytes) clock room ≡ 0
-      → (event_of d (Hear bytes) clock room).outcome ≡ Did (answered_to (datagram_from bytes) d (handed_out_lem (told o cs)))
+      → (event_of d (Hear bytes) clock room).outcome ≡ Did (answered_to (datagram_from bytes) d (handed_out (told o cs)))
   -- "It starts at its sender's first DATA, trail and lead both that number; a later cue n counts as trail n−63 and lead n", kind 24 says both, and
   -- "values lower than it has heard .. it passes over".
   pub edges-heard : (d : Display) (bytes : List ℕ) (clock room : ℕ) → question_of d (Hear bytes) clock room ≡ 0

@@ -11,7 +11,7 @@ use Rattle.decimal.specs.Decimal.{all_digits, well_written, value_after, unsigne
 use Rattle.script.specs.Words.{onto, words, same}
 use Rattle.script.specs.Line.{join, left, send}
 use Rattle.record.specs.declared.Line.{Line}
-use Rattle.record.specs.Line.{got, move_word, all_hex, bytes_in, cue_word, malformed, moved, sent, handed_out_lem, moved_in, sent_in, got_in, line_in, line_of}
+use Rattle.record.specs.Line.{got, move_word, all_hex, bytes_in, cue_word, malformed, moved, sent, handed_out, moved_in, sent_in, got_in, line_in, line_of}
 
 -- every definition is opened
 read : List ℕ → Line
@@ -43,7 +43,7 @@ unfolding read
 a_send = refl
 
 -- "got 1 0 12 00..": host, source, number, cue
-a_got : read (got ++ (32 ∷ 49 ∷ 32 ∷ 48 ∷ 32 ∷ 49 ∷ 50 ∷ 32 ∷ zeros)) ≡ handed_out_lem 1 0 12 blank_cue
+a_got : read (got ++ (32 ∷ 49 ∷ 32 ∷ 48 ∷ 32 ∷ 49 ∷ 50 ∷ 32 ∷ zeros)) ≡ handed_out 1 0 12 blank_cue
 unfolding read
 a_got = refl
 

@@ -7,7 +7,7 @@ use Rattle.end.specs.Answer.{Effect, Out, Got, Done, Ignored, Nothing, Clash, La
 use Rattle.end.specs.Event.{Action, Moves, Send, Arrival, Else}
 use Rattle.end.specs.Book.{read_as, number}
 use Rattle.record.specs.declared.Line.{Line}
-use Rattle.record.specs.Line.{moved, sent, handed_out_lem}
+use Rattle.record.specs.Line.{moved, sent, handed_out}
 
 -- a move that moved, a send that was put out, with the number in its name, a cue that was handed out
 abbrev pub moved_line : ℕ → Action → List Line
@@ -25,7 +25,7 @@ sent_line h (Else e) o = []
 
 unfoldable pub lines_for : ℕ → Action → Effect → List Line
 lines_for h a (Out bytes) = sent_line h a (read_as bytes)
-lines_for h a (Got name cue) = handed_out_lem h name.source.0 name.number.0 cue ∷ []
+lines_for h a (Got name cue) = handed_out h name.source.0 name.number.0 cue ∷ []
 lines_for h a Done = moved_line h a
 lines_for h a Ignored = []
 lines_for h a Nothing = []

@@ -72,8 +72,8 @@ moved m h = record { said = Moved m (as_host h); cue = blank_cue }
 abbrev pub sent : ℕ → ℕ → List ℕ → Line
 sent h n cue = record { said = Sent (as_host h) (as_number n); cue = cue }
 
-abbrev pub handed_out_lem : ℕ → ℕ → ℕ → List ℕ → Line
-handed_out_lem h s n cue = record { said = Got (as_host h) (record { source = as_host s; number = as_number n }); cue = cue }
+abbrev pub handed_out : ℕ → ℕ → ℕ → List ℕ → Line
+handed_out h s n cue = record { said = Got (as_host h) (record { source = as_host s; number = as_number n }); cue = cue }
 
 -- "a malformed line (host above 7, number above 65,535, cue out of range ..)"
 abbrev pub host_is : ℕ → Bool
@@ -93,7 +93,7 @@ sent_of (Number h) NoNumber c = malformed
 sent_of NoNumber n c = malformed
 
 abbrev pub got_of : Unsigned → Unsigned → Unsigned → CueWord → Line
-got_of (Number h) (Number s) (Number n) c = cond (host_is h && (host_is s && (number_is n && c.there))) (handed_out_lem h s n c.cue) malformed
+got_of (Number h) (Number s) (Number n) c = cond (host_is h && (host_is s && (number_is n && c.there))) (handed_out h s n c.cue) malformed
 got_of (Number h) (Number s) NoNumber c = malformed
 got_of (Number h) NoNumber n c = malformed
 got_of NoNumber s n c = malformed

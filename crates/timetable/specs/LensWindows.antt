@@ -3,7 +3,7 @@
 -- promises of their own.
 use Rattle.std.specs.Prelude.{◌≡◌, true, cond, List, [], ◌∷◌, ℕ, ◌+◌, ◌%◌, ◌≤◌, ◌<◌, eqb, leb, length}
 use Rattle.calendar.specs.declared.Date.{Date}
-use Rattle.calendar.specs.Calendar.{first_day, last_day, leap_of, exists_of, not_after_lem, next_day, roll_code, roll_date, day_number}
+use Rattle.calendar.specs.Calendar.{first_day, last_day, leap_of, exists_of, not_after, next_day, roll_code, roll_date, day_number}
 use Rattle.openings.specs.declared.Window.{Window}
 use Rattle.openings.specs.declared.Moment.{Moment}
 use Rattle.openings.specs.declared.Opening.TheVariants.{At, None}
@@ -23,7 +23,7 @@ pub record DatesKept : Type 0 where
   pub last_is_36524 : day_number last_day ≡ 36524
   pub within : (d : Date) → exists_of d ≡ true → day_number d ≤ 36524
   pub one_a_day : (a b : Date) → exists_of a ≡ true → exists_of b ≡ true → day_number a ≡ day_number b → a ≡ b
-  pub by_number : (a b : Date) → exists_of a ≡ true → exists_of b ≡ true → not_after_lem a b ≡ leb (day_number a) (day_number b)
+  pub by_number : (a b : Date) → exists_of a ≡ true → exists_of b ≡ true → not_after a b ≡ leb (day_number a) (day_number b)
   -- A roll gives the date whose number is one more; the last day stays, and is not refused.
   pub next-exists : (d : Date) → exists_of d ≡ true → exists_of (next_day d) ≡ true
   pub next_is_later : (d : Date) → exists_of d ≡ true → (d ≡ last_day → ⊥) → day_number (next_day d) ≡ day_number d + 1

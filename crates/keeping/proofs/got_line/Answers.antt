@@ -2,7 +2,7 @@ use mathlib.Core.Path.{sym, ap, ◌∙◌}
 use native.Mathlib.Omega.{arith}
 use lib.ListN.{take}
 use lib.Seq.{length-take-le}
-use Rattle.record.specs.Line.{handed_out_lem}
+use Rattle.record.specs.Line.{handed_out}
 use Rattle.keeping.proofs.KeptLaws.{all-over}
 use Rattle.keeping.proofs.got_line.Goals as goal
 
@@ -17,4 +17,4 @@ pub returns : goal.returns
 returns c =
     let a = c.args in
     let e = c.put_bytes.ensures ∙ all-over (take 24 a.out.now) (length-take-le 24 a.out.now (omega arith)) in
-    ap (handed_out_lem a.host.0 a.name.source.0 a.name.number.0) e
+    ap (handed_out a.host.0 a.name.source.0 a.name.number.0) e

@@ -2,7 +2,6 @@ use mathlib.Core.Path.{subst}
 use Rattle.end.specs.declared.Event.{Event}
 use Rattle.acting.specs.Acting.{OwnGiven}
 use Rattle.acting.proofs.MoveLaws.{move-quiet}
-use borrow.Author.Rules.{rules}
 use Rattle.acting.proofs.act.Goals as goal
 
 pub moved-requires : goal.moved-requires

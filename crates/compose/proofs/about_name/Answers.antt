@@ -1,6 +1,5 @@
 use mathlib.Core.Path.{refl}
 use native.Mathlib.Omega.{arith}
-use borrow.Author.Rules.{rules}
 use Rattle.message.proofs.QuestionLaws.{width_fits}
 use Rattle.compose.proofs.about_name.Goals as goal
 

@@ -1,5 +1,5 @@
 use mathlib.Core.Path.{◌≡◌, ap, ◌∙◌}
-use Prim.Native.Nat.{◌-◌, ◌≤◌}
+use Prim.Native.Nat.{◌-◌}
 use native.Mathlib.Omega.{arith}
 use lib.ListN.{replicate}
 use Rattle.message.specs.Entry.{as_host}
@@ -7,7 +7,7 @@ use Rattle.end.specs.State.{source_at}
 use Rattle.end.specs.Messages.{report_on, echo_on, reports_below, echoes_below}
 use Rattle.compose.specs.declared.Reports.{Reports}
 use Rattle.compose.specs.declared.Echoes.{Echoes}
-use Rattle.compose.specs.Entries.{reports_in, echoes_in, entries_below, with_report, with_echo}
+use Rattle.compose.specs.Entries.{entries_below, with_report, with_echo}
 use Rattle.compose.proofs.EntryLaws.{reports-most, reports-more, echoes-room, echoes-more}
 use Rattle.compose.proofs.all_entries.Goals as goal
 

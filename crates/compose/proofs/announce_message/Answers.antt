@@ -1,6 +1,5 @@
 use mathlib.Core.Path.{refl}
 use native.Mathlib.Omega.{arith}
-use borrow.Author.Rules.{rules}
 use Rattle.message.specs.Message.{ANNC}
 use Rattle.message.proofs.QuestionLaws.{width_fits}
 use Rattle.compose.proofs.announce_message.Goals as goal

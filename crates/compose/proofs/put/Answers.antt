@@ -1,6 +1,5 @@
 use Rattle.message.specs.Message.{meaning_of, bytes_of}
 use Rattle.compose.proofs.PutLaws.{puts}
-use borrow.Author.Rules.{rules}
 use Rattle.compose.proofs.put.Goals as goal
 
 pub returns : goal.returns

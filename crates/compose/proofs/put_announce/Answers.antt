@@ -1,4 +1,3 @@
-use borrow.Author.Rules.{rules}
 use Rattle.compose.proofs.PutLaws.{puts_as}
 use Rattle.compose.proofs.put_announce.Goals as goal
 

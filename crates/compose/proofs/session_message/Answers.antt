@@ -8,7 +8,6 @@ use Rattle.message.specs.Entry.{blank_report, blank_echo}
 use Rattle.end.specs.Messages.{reports_below, echoes_below}
 use Rattle.compose.specs.declared.Entries.{Entries}
 use Rattle.compose.proofs.EntryLaws.{reports-most, echoes_fit}
-use borrow.Author.Rules.{rules}
 use Rattle.compose.proofs.session_message.Goals as goal
 
 pub returns : goal.returns

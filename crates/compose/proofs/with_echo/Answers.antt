@@ -5,7 +5,6 @@ use lib.ListN.{length}
 use Rattle.end.specs.declared.Heard.{Heard}
 use Rattle.end.specs.Messages.{echo_on}
 use Rattle.end.specs.Ready.{HeardBy}
-use borrow.Author.Rules.{rules}
 use Rattle.compose.proofs.with_echo.Goals as goal
 
 pub overflow_sub-places : goal.overflow_sub-places

@@ -1,4 +1,3 @@
-use borrow.Author.Rules.{rules}
 use Rattle.compose.proofs.with_report.Goals as goal
 
 pub returns-in-Open : goal.returns-in-Open

@@ -5,7 +5,6 @@ use borrow.Author.Tests.{lt-ltb, le-ltb}
 use Rattle.decimal.specs.Decimal.{is_digit}
 use Rattle.decimal.proofs.DecimalLaws.{digit_range}
 use Rattle.decimal.proofs.with_digit.Goals as goal
-use Rattle.decimal.proofs.with_digit.Goals.{Else-not-b}
 
 -- `decimal::with_digit` meets its contract: ten times the number and the digit more is compared without the product.
 pub returns-then-not-b : goal.returns-then-not-b

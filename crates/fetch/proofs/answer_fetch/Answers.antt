@@ -1,5 +1,4 @@
 use Rattle.fetch.proofs.FetchLaws.{answered-gives, unanswered_gives}
-use borrow.Author.Rules.{rules}
 use Rattle.fetch.proofs.answer_fetch.Goals as goal
 
 pub returns-then-may_answer : goal.returns-then-may_answer

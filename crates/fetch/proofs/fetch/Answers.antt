@@ -1,6 +1,5 @@
 use native.Mathlib.Omega.{arith}
 use Rattle.fetch.proofs.FetchLaws.{nearest_hosted, fetch-gives}
-use borrow.Author.Rules.{rules}
 use Rattle.fetch.proofs.fetch.Goals as goal
 
 pub tried_source-s1-requires : goal.tried_source-s1-requires

@@ -1,5 +1,4 @@
 use Rattle.fetch.proofs.FetchLaws.{handed-gives, unhanded_gives}
-use borrow.Author.Rules.{rules}
 use Rattle.fetch.proofs.hand_late.Goals as goal
 
 pub returns-then-may_hand : goal.returns-then-may_hand

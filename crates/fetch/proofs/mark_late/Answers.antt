@@ -1,4 +1,3 @@
-use borrow.Author.Rules.{rules}
 use Rattle.fetch.proofs.mark_late.Goals as goal
 
 pub returns : goal.returns

@@ -1,7 +1,5 @@
-use borrow.Author.Tests.{not-true, not-false}
 use mathlib.Core.Path.{refl}
 use Rattle.end.specs.Answer.{answer_of, buffer_of}
-use borrow.Author.Rules.{rules}
 use Rattle.fetch.proofs.put_fetch.Goals as goal
 
 -- `fetch::put_fetch` meets its contract: who is found is the one that was matched.

@@ -1,8 +1,5 @@
-use borrow.Author.Tests.{not-true, not-false}
 use mathlib.Core.Path.{subst}
-use Rattle.end.specs.declared.Nearest.{Nearest}
 use Rattle.fetch.specs.Steps.{Hosted}
-use borrow.Author.Rules.{rules}
 use Rattle.fetch.proofs.tried_source.Goals as goal
 
 -- `fetch::tried_source` meets its contract: who is found is the one that was matched.

@@ -6,7 +6,6 @@ use Rattle.questions.specs.Read.{ReadAs}
 use Rattle.taking.specs.Taking.{reading_for, is_probe, taken_as}
 use Rattle.taking.proofs.ReadingLaws.{read_verdict}
 use Rattle.frame.proofs.CallLaws.{Framed, frame_untaken, frame-taken, frame_acting, frame-gives}
-use borrow.Author.Rules.{rules}
 use Rattle.frame.proofs.frame.Goals as goal
 
 pub act-requires : goal.act-requires

@@ -1,7 +1,6 @@
 use mathlib.Core.Path.{refl}
 use Rattle.end.specs.Decide.{effect_of}
 use Rattle.end.specs.Answer.{answer_of, buffer_of}
-use borrow.Author.Rules.{rules}
 use Rattle.heed.proofs.answer_of.Goals as goal
 
 pub returns-in-Ignores : goal.returns-in-Ignores

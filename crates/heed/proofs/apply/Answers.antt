@@ -1,5 +1,4 @@
 use Rattle.end.specs.Decide.{apply}
-use borrow.Author.Rules.{rules}
 use Rattle.heed.proofs.apply.Goals as goal
 
 pub returns-in-Ignores : goal.returns-in-Ignores

@@ -1,4 +1,3 @@
-use borrow.Author.Rules.{rules}
 use Rattle.heed.proofs.back_off.Goals as goal
 
 pub returns : goal.returns

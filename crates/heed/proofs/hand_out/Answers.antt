@@ -1,7 +1,6 @@
 use mathlib.Core.Path.{refl, ◌∙◌}
 use Rattle.numbers.proofs.SpliceLaws.{splice-start}
 use Rattle.end.specs.Answer.{answer_of, buffer_of}
-use borrow.Author.Rules.{rules}
 use Rattle.heed.proofs.hand_out.Goals as goal
 
 pub returns : goal.returns

@@ -1,4 +1,3 @@
-use borrow.Author.Rules.{rules}
 use Rattle.heed.proofs.hush.Goals as goal
 
 pub returns : goal.returns

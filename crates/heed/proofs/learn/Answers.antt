@@ -1,7 +1,6 @@
 use native.Mathlib.Omega.{arith}
 use Rattle.end.specs.Decide.{number}
 use Rattle.heed.proofs.Rises.{risen_ranges}
-use borrow.Author.Rules.{rules}
 use Rattle.heed.proofs.learn.Goals as goal
 
 pub set_round-requires : goal.set_round-requires

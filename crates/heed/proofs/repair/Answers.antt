@@ -1,5 +1,4 @@
 use Rattle.end.specs.Decide.{apply}
-use borrow.Author.Rules.{rules}
 use Rattle.heed.proofs.repair.Goals as goal
 
 pub returns : goal.returns

@@ -9,7 +9,6 @@ use Rattle.end.specs.declared.Decision.{Decision}
 use Rattle.end.specs.Answer.{Did, buffer_of}
 use Rattle.end.specs.Decide.{known, decide_as, effect_of}
 use Rattle.heed.specs.Step.{decided_effect}
-use borrow.Author.Rules.{rules}
 use Rattle.heed.proofs.step.Goals as goal
 
 -- what is put out goes by the record of the name and the decision on it

@@ -1,9 +1,7 @@
 use Prim.Native.Nat.{◌-◌}
-use native.Mathlib.Omega.{arith}
 use lib.ListN.{length}
 use Rattle.interpreter.specs.Interpreter.{standing_of}
-use Rattle.interpreter.proofs.FeedLaws.{SoFar, none-taken, Goes, goes_on, all-taken, line_taken, line_less}
-use borrow.Author.Rules.{rules}
+use Rattle.interpreter.proofs.FeedLaws.{SoFar}
 use Rattle.interpreter.proofs.feed.Given as goal
 
 -- `interpreter::feed` meets its contract: line by line.

@@ -1,6 +1,5 @@
 use mathlib.Core.Path.{ap}
 use Rattle.end.specs.declared.Opened.{Opened}
-use borrow.Author.Rules.{rules}
 use Rattle.interpreter.proofs.fresh.Goals as goal
 
 -- `interpreter::fresh` meets its contract: the end of the opening.

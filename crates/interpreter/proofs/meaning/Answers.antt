@@ -5,7 +5,6 @@ use lib.ListN.{take}
 use lib.Seq.{length-take-le}
 use Rattle.script.specs.Line.{line_of}
 use Rattle.interpreter.proofs.PlayLaws.{first-bytes}
-use borrow.Author.Rules.{rules}
 use Rattle.interpreter.proofs.meaning.Goals as goal
 
 -- `interpreter::meaning` meets its contract: the bytes that are read are within the buffer.

@@ -1,5 +1,4 @@
 use Rattle.store.specs.Store.{first_messages}
-use borrow.Author.Rules.{rules}
 use Rattle.interpreter.proofs.opened_as.Goals as goal
 
 -- `interpreter::opened_as` meets its contract: both ends are fresh, and there is no message.

@@ -1,5 +1,4 @@
 use Rattle.interpreter.proofs.PlayLaws.{line_same}
-use borrow.Author.Rules.{rules}
 use Rattle.interpreter.proofs.play.Goals as goal
 
 -- `interpreter::play` meets its contract: the line is the one that was matched.

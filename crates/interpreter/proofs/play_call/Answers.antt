@@ -1,5 +1,4 @@
 use Rattle.interpreter.proofs.PlayLaws.{called}
-use borrow.Author.Rules.{rules}
 use Rattle.interpreter.proofs.play_call.Goals as goal
 
 -- `interpreter::play_call` meets its contract: the end is the one that the call names, and it alone changes.

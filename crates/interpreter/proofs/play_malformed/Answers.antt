@@ -1,6 +1,5 @@
 use mathlib.Core.Path.{refl}
 use Rattle.player.specs.House.{printed_line}
-use borrow.Author.Rules.{rules}
 use Rattle.interpreter.proofs.play_malformed.Goals as goal
 
 -- `interpreter::play_malformed` meets its contract: "bad" is printed.

@@ -1,6 +1,5 @@
 use mathlib.Core.Path.{refl, sym}
 use Rattle.interpreter.proofs.PlayLaws.{turn-played, put-none, line_same}
-use borrow.Author.Rules.{rules}
 use Rattle.interpreter.proofs.turn.Goals as goal
 
 -- `interpreter::turn` meets its contract: what became of the line is the one that was matched.

@@ -1,7 +1,6 @@
 use mathlib.Core.Path.{refl}
 use borrow.Author.Tests.{eq-eqb, ne_eqb, lt-ltb, le-ltb}
 use Rattle.lines.specs.Cut.{fed_of}
-use borrow.Author.Rules.{rules}
 use Rattle.lines.proofs.feed.Goals as goal
 
 -- `lines::feed` meets its contract: a line feed, a byte that fits, or one too many.

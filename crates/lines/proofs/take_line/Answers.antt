@@ -1,12 +1,11 @@
-use mathlib.Core.Path.{◌≡◌, refl, sym, ap, ◌∙◌}
+use mathlib.Core.Path.{refl, sym, ap, ◌∙◌}
 use mathlib.Core.List.{List}
 use Prim.Native.Nat.{ℕ, ◌+◌, ◌-◌}
 use native.Mathlib.Omega.{arith}
-use lib.ListN.{length, drop, drop_of_length-le}
+use lib.ListN.{drop, drop_of_length-le}
 use Rattle.lines.specs.declared.Fed.TheVariants.{Whole, TooLong}
 use Rattle.lines.specs.Cut.{cut_of, line_cut}
 use Rattle.lines.proofs.CutLaws.{cut_more, cut_ended}
-use borrow.Author.Rules.{rules}
 use Rattle.lines.proofs.take_line.Goals as goal
 
 pub loop-at-init : goal.loop-at-init

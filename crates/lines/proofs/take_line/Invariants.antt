@@ -1,12 +1,7 @@
-use mathlib.Core.Path.{◌≡◌, refl, sym, ap, ◌∙◌}
-use mathlib.Core.List.{List}
-use Prim.Native.Nat.{ℕ, ◌+◌, ◌-◌}
-use native.Mathlib.Omega.{arith}
-use lib.ListN.{length, drop, drop_of_length-le}
-use Rattle.lines.specs.declared.Fed.TheVariants.{Whole, TooLong}
+use mathlib.Core.Path.{◌≡◌}
+use Prim.Native.Nat.{◌-◌}
+use lib.ListN.{length, drop}
 use Rattle.lines.specs.Cut.{cut_of, line_cut}
-use Rattle.lines.proofs.CutLaws.{cut_more, cut_ended}
-use borrow.Author.Rules.{rules}
 use Rattle.lines.proofs.take_line.Given as goal
 
 -- `lines::take_line` meets its contract. What is left of the bytes, taken into the line so far, is what the whole gives.

@@ -1,4 +1,3 @@
-use borrow.Author.Rules.{rules}
 use Rattle.link.proofs.event.Goals as goal
 
 pub frame-requires : goal.frame-requires

@@ -1,5 +1,4 @@
 use mathlib.Core.List.{[]}
-use borrow.Author.Rules.{rules}
 use Rattle.link.proofs.moved.Goals as goal
 
 pub frame-requires : goal.frame-requires

@@ -6,7 +6,6 @@ use Rattle.end.specs.Sound.{sound_of}
 use Rattle.end.proofs.SoundLaws.{sound-end}
 use Rattle.state.proofs.Settled.{settled}
 use Rattle.end_due.specs.Due.{due_of}
-use borrow.Author.Rules.{rules}
 use Rattle.link.proofs.next_due.Goals as goal
 
 -- `link::next_due` meets its contract: a sound end is settled, and another has no due time.

@@ -3,7 +3,6 @@ use Rattle.message.specs.Question.{refusal_of}
 use Rattle.message.proofs.QuestionLaws.{number_of_verdict}
 use Rattle.end.specs.declared.Opened.{Opened}
 use Rattle.end.specs.Opening.{open_refusal, opening_of}
-use borrow.Author.Rules.{rules}
 use Rattle.link.proofs.open.Goals as goal
 
 pub returns : goal.returns

@@ -1,4 +1,3 @@
-use borrow.Author.Rules.{rules}
 use Rattle.link.proofs.reason.Goals as goal
 
 pub returns : goal.returns

@@ -3,7 +3,6 @@ use Rattle.message.specs.Question.{refusal_of}
 use Rattle.message.proofs.QuestionLaws.{number_of_verdict}
 use Rattle.end.specs.declared.Opened.{Opened}
 use Rattle.end_reopen.specs.Reopening.{reopen_refusal, reopening_of}
-use borrow.Author.Rules.{rules}
 use Rattle.link.proofs.reopen.Goals as goal
 
 -- `link::reopen` meets its contract: the reopening is the rule, and the verdict's number is its first no.

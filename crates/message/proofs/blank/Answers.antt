@@ -1,4 +1,3 @@
-use borrow.Author.Rules.{rules}
 use Rattle.message.proofs.blank.Goals as goal
 
 -- `message::blank` meets its contract: every place has the entry of zeros.

@@ -1,4 +1,3 @@
-use borrow.Author.Rules.{rules}
 use mathlib.Core.Bool.{◌&&◌}
 use Rattle.message.specs.Cue.{cue_in, lamp_in}
 use Rattle.message.proofs.cue_in.Goals as goal

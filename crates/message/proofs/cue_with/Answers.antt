@@ -11,7 +11,6 @@ use Rattle.numbers.specs.Splice.{splice}
 use Rattle.numbers.proofs.NumberLaws.{length_digits}
 use Rattle.numbers.proofs.SpliceLaws.{put_next, splice-start}
 use Rattle.message.specs.Cue.{cue_with}
-use borrow.Author.Rules.{rules}
 use Rattle.message.proofs.cue_with.Goals as goal
 
 -- `message::cue_with` meets its contract: five writes, each at the end of the one before, are one write of ten bytes.

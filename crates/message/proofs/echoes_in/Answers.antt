@@ -3,9 +3,7 @@ use Prim.Native.Nat.{◌-◌}
 use native.Mathlib.Omega.{arith}
 use Rattle.message.specs.Section.{all}
 use Rattle.message.specs.Entry.{blank_echo}
-use Rattle.message.specs.Message.{echo_places}
-use Rattle.message.specs.Question.{echo_in}
-use Rattle.message.proofs.TestLaws.{Tested, test_start, test_next, test_all}
+use Rattle.message.proofs.TestLaws.{test_start, test_next, test_all}
 use Rattle.message.proofs.echoes_in.Goals as goal
 
 pub used-n-requires : goal.used-n-requires

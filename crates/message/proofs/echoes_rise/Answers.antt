@@ -2,9 +2,7 @@ use borrow.Author.Rules.{rules}
 use Prim.Native.Nat.{◌-◌}
 use native.Mathlib.Omega.{arith}
 use Rattle.message.specs.Entry.{blank_echo}
-use Rattle.message.specs.Message.{echo_places}
-use Rattle.message.specs.Question.{echo_host}
-use Rattle.message.proofs.TestLaws.{Rising, rise-start, rise-next, rise-all}
+use Rattle.message.proofs.TestLaws.{rise-start, rise-next, rise-all}
 use Rattle.message.proofs.echoes_rise.Goals as goal
 
 pub used-n-requires : goal.used-n-requires

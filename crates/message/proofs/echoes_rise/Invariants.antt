@@ -1,10 +1,7 @@
-use borrow.Author.Rules.{rules}
 use Prim.Native.Nat.{◌-◌}
-use native.Mathlib.Omega.{arith}
-use Rattle.message.specs.Entry.{blank_echo}
 use Rattle.message.specs.Message.{echo_places}
 use Rattle.message.specs.Question.{echo_host}
-use Rattle.message.proofs.TestLaws.{Rising, rise-start, rise-next, rise-all}
+use Rattle.message.proofs.TestLaws.{Rising}
 use Rattle.message.proofs.echoes_rise.Given as goal
 
 -- `message::echoes_rise` meets its contract: after i turns the test is that of the first i places, and `low` is the least key that

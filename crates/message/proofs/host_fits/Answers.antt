@@ -1,6 +1,5 @@
 use mathlib.Core.Path.{◌≡◌, ap, ◌∙◌}
 use mathlib.Core.Bool.{Bool}
-use borrow.Author.Rules.{rules}
 use Rattle.message.specs.Question.{rule_holds}
 use Rattle.message.specs.declared.Row.{Row}
 use Rattle.message.proofs.host_fits.Goals as goal

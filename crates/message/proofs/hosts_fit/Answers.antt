@@ -1,6 +1,5 @@
 use mathlib.Core.Bool.{◌&&◌}
 use Rattle.message.specs.Question.{hosts_fit}
-use borrow.Author.Rules.{rules}
 use Rattle.message.proofs.hosts_fit.Goals as goal
 
 -- `message::hosts_fit` meets its contract: the tests' equations, side by side.

@@ -4,7 +4,6 @@ use lib.Dec.{eqb}
 use Rattle.message.specs.Cue.{cue_in}
 use Rattle.message.specs.Question.{in_range, host_in, ticks_in}
 use Rattle.message.proofs.TestLaws.{all_one}
-use borrow.Author.Rules.{rules}
 use Rattle.message.proofs.in_range.Goals as goal
 
 -- `message::in_range` meets its contract: the tests' equations, side by side.

@@ -1,5 +1,4 @@
 use mathlib.Core.Path.{ap, ◌∙◌}
-use borrow.Author.Rules.{rules}
 use Rattle.message.specs.Question.{has_counts}
 use Rattle.message.specs.declared.Row.{Row}
 use Rattle.message.proofs.kind_has_counts.Goals as goal

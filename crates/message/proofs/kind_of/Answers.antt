@@ -1,6 +1,5 @@
 use mathlib.Core.Path.{sym, ◌∙◌}
 use native.Mathlib.Omega.{arith}
-use borrow.Author.Rules.{rules}
 use Rattle.message.proofs.QuestionLaws.{old_most}
 use Rattle.message.proofs.kind_of.Goals as goal
 

@@ -1,11 +1,9 @@
 use mathlib.Core.Path.{◌≡◌, sym, ap, ◌∙◌}
 use Prim.Native.Nat.{ℕ}
 use mathlib.Core.Bool.{true}
-use borrow.Author.Tests.{not-true, not-false}
 use Rattle.message.specs.Kind.{most_number}
 use Rattle.message.specs.Message.{meaning_of}
 use Rattle.message.specs.Question.{in_range}
-use borrow.Author.Rules.{rules}
 use Rattle.message.proofs.meaning_refusal.Goals as goal
 use Rattle.message.proofs.meaning_refusal.Goals.{After-in_range, Else-not-in_range}
 

@@ -1,5 +1,4 @@
 use mathlib.Core.Path.{sym, ◌∙◌}
-use borrow.Author.Rules.{rules}
 use Rattle.message.proofs.most_number.Goals as goal
 
 -- `message::most_number` meets its contract: the old kinds have the lower limit.

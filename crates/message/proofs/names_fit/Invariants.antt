@@ -1,11 +1,8 @@
-use borrow.Author.Rules.{rules}
 use Prim.Native.Nat.{◌-◌}
-use native.Mathlib.Omega.{arith}
 use Rattle.message.specs.Section.{all}
-use Rattle.message.specs.Entry.{blank_name}
 use Rattle.message.specs.Message.{name_places}
 use Rattle.message.specs.Question.{host_fits}
-use Rattle.message.proofs.TestLaws.{Tested, test_start, test_next, test_all}
+use Rattle.message.proofs.TestLaws.{Tested}
 use Rattle.message.proofs.names_fit.Given as goal
 
 -- `message::names_fit` meets its contract: after i turns the test is that of the first i places.

@@ -1,6 +1,5 @@
 use mathlib.Core.Path.{sym, ◌∙◌}
 use native.Mathlib.Omega.{arith}
-use borrow.Author.Rules.{rules}
 use Rattle.message.proofs.number_width.Goals as goal
 
 -- `message::number_width` meets its contract: one byte in the old kinds, two in any other.

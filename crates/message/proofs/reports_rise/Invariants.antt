@@ -1,10 +1,7 @@
-use borrow.Author.Rules.{rules}
 use Prim.Native.Nat.{◌-◌}
-use native.Mathlib.Omega.{arith}
-use Rattle.message.specs.Entry.{blank_report}
 use Rattle.message.specs.Message.{report_places}
 use Rattle.message.specs.Question.{report_source}
-use Rattle.message.proofs.TestLaws.{Rising, rise-start, rise-next, rise-all}
+use Rattle.message.proofs.TestLaws.{Rising}
 use Rattle.message.proofs.reports_rise.Given as goal
 
 -- `message::reports_rise` meets its contract: after i turns the test is that of the first i places, and `low` is the least key that

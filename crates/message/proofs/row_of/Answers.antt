@@ -1,5 +1,4 @@
 use mathlib.Core.Path.{sym, ap, ◌∙◌}
-use borrow.Author.Rules.{rules}
 use borrow.Author.Tests.{ne_eqb}
 use Rattle.message.specs.Kind.{row_of, DATA, RQST, REPL, SESS, XPRS, FTCH, LATE, ANNC}
 use Rattle.message.proofs.row_of.Goals as goal

@@ -1,5 +1,4 @@
 use mathlib.Core.Path.{◌≡◌, sym, ap}
-use borrow.Author.Rules.{rules}
 use Rattle.message.specs.Question.{rule_holds}
 use Rattle.message.specs.declared.HostRule.{HostRule}
 use Rattle.message.proofs.rule_holds.Goals as goal

@@ -1,5 +1,5 @@
 use native.Mathlib.Omega.{arith}
-use Rattle.numbers.proofs.NumberLaws.{PutSoFar, put-start, put_digit, put_all}
+use Rattle.numbers.proofs.NumberLaws.{put-start, put_digit, put_all}
 use Rattle.numbers.proofs.put_be.Goals as goal
 
 pub loop-i-init : goal.loop-i-init

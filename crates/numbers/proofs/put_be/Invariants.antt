@@ -1,5 +1,4 @@
-use native.Mathlib.Omega.{arith}
-use Rattle.numbers.proofs.NumberLaws.{PutSoFar, put-start, put_digit, put_all}
+use Rattle.numbers.proofs.NumberLaws.{PutSoFar}
 use Rattle.numbers.proofs.put_be.Given as goal
 
 -- `numbers::put_be` meets its contract: the digits that are left, with what is written, are what is wanted.

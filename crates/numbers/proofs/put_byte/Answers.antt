@@ -1,4 +1,3 @@
-use borrow.Author.Rules.{rules}
 use Rattle.numbers.proofs.SpliceLaws.{splice-one}
 use Rattle.numbers.proofs.put_byte.Goals as goal
 

@@ -1,7 +1,6 @@
 use native.Mathlib.Omega.{arith}
 use Prim.Native.Nat.{◌-◌}
-use lib.ListN.{length}
-use Rattle.numbers.proofs.SpliceLaws.{CopiedSoFar, copy_start, copy_next, copy_all}
+use Rattle.numbers.proofs.SpliceLaws.{copy_start, copy_next, copy_all}
 use Rattle.numbers.proofs.put_bytes.Goals as goal
 
 pub loop-i-init : goal.loop-i-init

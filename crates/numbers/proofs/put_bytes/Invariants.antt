@@ -1,7 +1,6 @@
-use native.Mathlib.Omega.{arith}
 use Prim.Native.Nat.{◌-◌}
 use lib.ListN.{length}
-use Rattle.numbers.proofs.SpliceLaws.{CopiedSoFar, copy_start, copy_next, copy_all}
+use Rattle.numbers.proofs.SpliceLaws.{CopiedSoFar}
 use Rattle.numbers.proofs.put_bytes.Given as goal
 
 -- `numbers::put_bytes` meets its contract: after i turns the first i bytes are there.

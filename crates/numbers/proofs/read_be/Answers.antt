@@ -1,6 +1,6 @@
 use Prim.Native.Nat.{◌-◌}
 use native.Mathlib.Omega.{arith}
-use Rattle.numbers.proofs.NumberLaws.{ReadSoFar, read_start, read_small, read_next, read_all}
+use Rattle.numbers.proofs.NumberLaws.{read_start, read_small, read_next, read_all}
 use Rattle.numbers.proofs.read_be.Goals as goal
 
 pub loop-i-init : goal.loop-i-init

@@ -1,6 +1,5 @@
 use Prim.Native.Nat.{◌-◌}
-use native.Mathlib.Omega.{arith}
-use Rattle.numbers.proofs.NumberLaws.{ReadSoFar, read_start, read_small, read_next, read_all}
+use Rattle.numbers.proofs.NumberLaws.{ReadSoFar}
 use Rattle.numbers.proofs.read_be.Given as goal
 
 -- `numbers::read_be` meets its contract: after i turns v is what the first i bytes stand for.

@@ -1,7 +1,6 @@
 use mathlib.Core.Path.{refl, sym}
 use native.Mathlib.Omega.{arith}
 use lib.ListN.{get_or-eq_default}
-use borrow.Author.Rules.{rules}
 use Rattle.reader.proofs.byte_at.Goals as goal
 
 -- `reader::byte_at` meets its contract: a byte of the slice is below 256, and past the end `get_or` is 0.

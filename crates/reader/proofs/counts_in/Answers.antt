@@ -2,7 +2,6 @@ use mathlib.Core.Path.{◌≡◌, sym, ap, ◌∙◌}
 use mathlib.Core.List.{List}
 use Prim.Native.Nat.{ℕ, ◌+◌, ◌*◌}
 use lib.ListN.{get_or}
-use borrow.Author.Rules.{rules}
 use Rattle.message.specs.Entry.{name_width, cue_width, report_width}
 use Rattle.message.specs.declared.Counts.{Counts}
 use Rattle.message.proofs.LayoutLaws.{counts_with, names_byte, cues_byte, reports_byte, echoes_byte}

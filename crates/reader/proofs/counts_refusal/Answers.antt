@@ -5,8 +5,7 @@ use Prim.Native.Nat.{ℕ, ◌≤◌}
 use native.Mathlib.Omega.{arith}
 use lib.ListN.{length}
 use lib.Dec.{leb, eqb}
-use borrow.Author.Rules.{rules}
-use borrow.Author.Tests.{not-true, not-false, leb-true}
+use borrow.Author.Tests.{leb-true}
 use Rattle.message.proofs.QuestionLaws.{and_both}
 use Rattle.reader.proofs.ReadLaws.{Whole, HasCounts, whole_is, counts_are}
 use Rattle.reader.proofs.counts_refusal.Goals as goal

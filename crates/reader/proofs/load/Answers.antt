@@ -1,6 +1,5 @@
 use mathlib.Core.Path.{ap, ◌∙◌}
 use lib.ListN.{get_or}
-use borrow.Author.Rules.{rules}
 use Rattle.message.specs.Entry.{as_host}
 use Rattle.reader.proofs.LoadLaws.{loaded_by, loaded}
 use Rattle.reader.proofs.load.Goals as goal

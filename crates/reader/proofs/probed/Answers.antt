@@ -1,5 +1,4 @@
 use Rattle.message.specs.declared.Verdict.TheVariants.{Probe}
-use borrow.Author.Rules.{rules}
 use Rattle.reader.proofs.probed.Goals as goal
 
 -- `reader::probed` meets its contract: the verdict, and the message of zeros.

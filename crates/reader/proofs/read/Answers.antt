@@ -1,5 +1,4 @@
 use native.Mathlib.Omega.{arith}
-use borrow.Author.Rules.{rules}
 use Rattle.reader.proofs.ReadLaws.{read_none}
 use Rattle.reader.proofs.read.Goals as goal
 

@@ -4,9 +4,9 @@ use Prim.Native.Nat.{ℕ, zero, suc, ◌+◌, ◌*◌, ◌-◌, ◌≤◌}
 use native.Mathlib.Omega.{arith}
 use lib.ListN.{length, length-drop, get_or, drop, replicate}
 use Rattle.message.specs.Section.{entries}
-use Rattle.message.specs.Entry.{cue_width, cue_of, blank_cue}
+use Rattle.message.specs.Entry.{cue_of, blank_cue}
 use Rattle.message.proofs.EntryLaws.{head_at}
-use Rattle.reader.proofs.LoadLaws.{entries-bytes, FilledSoFar, fill_start, fill_more}
+use Rattle.reader.proofs.LoadLaws.{entries-bytes, fill_start, fill_more}
 use Rattle.reader.proofs.read_cue.Invariants.{byte_of}
 use Rattle.reader.proofs.read_cue.Goals as goal
 

@@ -1,12 +1,9 @@
-use mathlib.Core.Path.{◌≡◌, refl, sym, ap, ◌∙◌}
-use mathlib.Core.List.{List, ◌++◌, append-nil}
-use Prim.Native.Nat.{ℕ, zero, suc, ◌+◌, ◌*◌, ◌-◌, ◌≤◌}
-use native.Mathlib.Omega.{arith}
-use lib.ListN.{length, length-drop, get_or, drop, replicate}
-use Rattle.message.specs.Section.{entries}
-use Rattle.message.specs.Entry.{cue_width, cue_of, blank_cue}
-use Rattle.message.proofs.EntryLaws.{head_at}
-use Rattle.reader.proofs.LoadLaws.{entries-bytes, FilledSoFar, fill_start, fill_more}
+use mathlib.Core.Path.{◌≡◌}
+use mathlib.Core.List.{List}
+use Prim.Native.Nat.{ℕ, ◌*◌, ◌-◌}
+use lib.ListN.{get_or}
+use Rattle.message.specs.Entry.{cue_width}
+use Rattle.reader.proofs.LoadLaws.{FilledSoFar}
 use Rattle.reader.proofs.read_cue.Given as goal
 
 -- `reader::read_cue` meets its contract: the bytes are entries of width one, of which none or 24 are read.

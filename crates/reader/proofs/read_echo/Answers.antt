@@ -6,7 +6,6 @@ use lib.Seq.{drop-drop}
 use Rattle.numbers.specs.Number.{value}
 use Rattle.message.specs.Entry.{as_host}
 use Rattle.message.proofs.EntryLaws.{head_at}
-use borrow.Author.Rules.{rules}
 use Rattle.reader.proofs.read_echo.Goals as goal
 
 -- `reader::read_echo` meets its contract, field by field.

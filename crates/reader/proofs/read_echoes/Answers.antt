@@ -1,9 +1,6 @@
 use Prim.Native.Nat.{◌-◌}
 use native.Mathlib.Omega.{arith}
-use borrow.Author.Rules.{rules}
-use Rattle.message.specs.Entry.{echo_of, echo_width, blank_echo}
-use Rattle.message.specs.Message.{echo_places}
-use Rattle.reader.proofs.LoadLaws.{FilledSoFar, fill_start, entry-there, fill_more, fill_all}
+use Rattle.reader.proofs.LoadLaws.{fill_start, entry-there, fill_more, fill_all}
 use Rattle.reader.proofs.read_echoes.Goals as goal
 
 pub loop-i-init : goal.loop-i-init

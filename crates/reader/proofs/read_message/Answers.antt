@@ -3,7 +3,6 @@ use mathlib.Core.List.{List}
 use Prim.Native.Nat.{ℕ, ◌<◌}
 use lib.ListN.{length}
 use native.Mathlib.Omega.{arith}
-use borrow.Author.Rules.{rules}
 use Rattle.message.specs.Message.{meaning_with, meaning_from, held_as}
 use Rattle.message.specs.Question.{read_refusal}
 use Rattle.reader.proofs.ReadLaws.{Passed, passed, loadable, refused-first, refused-by, no, yes_read}

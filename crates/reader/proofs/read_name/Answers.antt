@@ -6,7 +6,6 @@ use lib.Seq.{get_or-drop, drop-drop}
 use Rattle.numbers.specs.Number.{value}
 use Rattle.message.specs.Entry.{as_host, as_number}
 use Rattle.message.proofs.EntryLaws.{head_at}
-use borrow.Author.Rules.{rules}
 use Rattle.reader.proofs.read_name.Goals as goal
 
 -- `reader::read_name` meets its contract, field by field.

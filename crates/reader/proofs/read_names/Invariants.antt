@@ -1,9 +1,7 @@
 use Prim.Native.Nat.{◌-◌}
-use native.Mathlib.Omega.{arith}
-use borrow.Author.Rules.{rules}
 use Rattle.message.specs.Entry.{name_of, name_width, blank_name}
 use Rattle.message.specs.Message.{name_places}
-use Rattle.reader.proofs.LoadLaws.{FilledSoFar, fill_start, entry-there, fill_more, fill_all}
+use Rattle.reader.proofs.LoadLaws.{FilledSoFar}
 use Rattle.reader.proofs.read_names.Given as goal
 
 -- `reader::read_names` meets its contract: after i turns the first i places are filled.

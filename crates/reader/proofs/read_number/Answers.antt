@@ -1,6 +1,5 @@
 use native.Mathlib.Nat.{pow-le-pow_right}
 use native.Mathlib.Omega.{arith}
-use borrow.Author.Rules.{rules}
 use Rattle.message.specs.Kind.{widest_number}
 use Rattle.reader.proofs.read_number.Goals as goal
 

@@ -1,9 +1,7 @@
 use Prim.Native.Nat.{◌-◌}
 use native.Mathlib.Omega.{arith}
 use borrow.Author.Rules.{rules}
-use Rattle.message.specs.Entry.{report_of, report_width, blank_report}
-use Rattle.message.specs.Message.{report_places}
-use Rattle.reader.proofs.LoadLaws.{FilledSoFar, fill_start, entry-there, fill_more, fill_all}
+use Rattle.reader.proofs.LoadLaws.{fill_start, entry-there, fill_more, fill_all}
 use Rattle.reader.proofs.read_reports.Goals as goal
 
 pub loop-i-init : goal.loop-i-init

@@ -1,5 +1,4 @@
 use Rattle.message.specs.declared.Verdict.TheVariants.{Refused}
-use borrow.Author.Rules.{rules}
 use Rattle.reader.proofs.refused.Goals as goal
 
 -- `reader::refused` meets its contract: the verdict, and the message of zeros.

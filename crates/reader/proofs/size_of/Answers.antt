@@ -1,5 +1,4 @@
 use Prim.Native.Nat.{◌+◌, ◌*◌}
-use borrow.Author.Rules.{rules}
 use Rattle.message.specs.Entry.{cue_width, echo_width}
 use Rattle.reader.proofs.size_of.Goals as goal
 

@@ -1,5 +1,4 @@
 use mathlib.Core.Path.{ap, ◌∙◌}
-use borrow.Author.Rules.{rules}
 use Rattle.message.specs.Kind.{number_width}
 use Rattle.reader.proofs.width_in.Goals as goal
 

@@ -1,5 +1,4 @@
 use mathlib.Core.Path.{sym, ◌∙◌}
-use borrow.Author.Rules.{rules}
 use Rattle.reasons.proofs.fetch_reason.Goals as goal
 
 pub returns-then-may_fetch : goal.returns-then-may_fetch

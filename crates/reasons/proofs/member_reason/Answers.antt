@@ -1,7 +1,6 @@
 use mathlib.Core.Path.{subst}
 use Rattle.end.specs.declared.Event.{Event}
 use Rattle.reasons.specs.Reason.{Heard}
-use borrow.Author.Rules.{rules}
 use Rattle.reasons.proofs.member_reason.Goals as goal
 
 pub reason-requires : goal.reason-requires

@@ -1,5 +1,4 @@
 use mathlib.Core.Path.{◌≡◌, sym, ap, subst, ◌∙◌}
-use borrow.Author.Rules.{rules}
 use Rattle.message.specs.declared.Reading.{Reading}
 use Rattle.message.specs.Message.{meaning_of}
 use Rattle.end.specs.declared.Event.{Event}

@@ -1,4 +1,3 @@
-use borrow.Author.Rules.{rules}
 use Rattle.reasons.proofs.suits.Goals as goal
 
 pub returns-in-Moves : goal.returns-in-Moves

@@ -1,5 +1,4 @@
 use mathlib.Core.Path.{sym, ◌∙◌}
-use borrow.Author.Rules.{rules}
 use Rattle.reasons.proofs.unrefused_reason.Goals as goal
 
 pub returns-then-is_crashed : goal.returns-then-is_crashed

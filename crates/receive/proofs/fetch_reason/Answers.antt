@@ -6,7 +6,6 @@ use Rattle.message.specs.Message.{FTCH, LATE, meaning_of}
 use Rattle.end.specs.Why.{no_fetch_in}
 use Rattle.session.proofs.Passes.{in_range_lem}
 use Rattle.receive.proofs.Reasons.{no_fetch_lem}
-use borrow.Author.Rules.{rules}
 use Rattle.receive.proofs.fetch_reason.Goals as goal
 
 pub bounds-e-at : goal.bounds-e-at

@@ -1,7 +1,6 @@
 use Prim.Native.Nat.{◌<◌}
 use Rattle.message.specs.Message.{meaning_of}
 use Rattle.session.proofs.Passes.{in_range_lem}
-use borrow.Author.Rules.{rules}
 use Rattle.receive.proofs.named_reason.Goals as goal
 
 pub bounds-e-at : goal.bounds-e-at

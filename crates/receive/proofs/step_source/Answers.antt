@@ -2,7 +2,6 @@ use mathlib.Core.Path.{sym, ◌∙◌}
 use Rattle.message.specs.Message.{meaning_of}
 use Rattle.receive.proofs.Passes.{heeds}
 use Rattle.receive.proofs.Whole.{own-gives, named-gives, unnamed_gives}
-use borrow.Author.Rules.{rules}
 use Rattle.receive.proofs.step_source.Goals as goal
 
 pub returns-then-m-t : goal.returns-then-m-t

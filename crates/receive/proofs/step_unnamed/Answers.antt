@@ -2,7 +2,6 @@ use Rattle.message.specs.Message.{meaning_of}
 use Rattle.message.proofs.QuestionLaws.{counts-small}
 use Rattle.session.proofs.Passes.{in_range_lem}
 use Rattle.receive.proofs.Whole.{fetched-gives, late-gives, announce-gives, session-gives}
-use borrow.Author.Rules.{rules}
 use Rattle.receive.proofs.step_unnamed.Goals as goal
 
 pub answer_fetch-requires : goal.answer_fetch-requires

@@ -1,10 +1,6 @@
 use mathlib.Core.Path.{◌≡◌, refl}
-use mathlib.Core.Bool.{Bool}
-use mathlib.Core.List.{List}
-use Prim.Native.Nat.{ℕ, ◌+◌, ◌-◌}
+use Prim.Native.Nat.{◌-◌}
 use native.Mathlib.Omega.{arith}
-use Rattle.end.specs.declared.Record.{Record}
-use Rattle.end.specs.Records.{is_held, raw_at}
 use Rattle.end.specs.Names.{lacking}
 use Rattle.end.proofs.Lacking.{lacking-none, lacking-more, lacking-most}
 use Rattle.rises.proofs.count_lacking.Invariants.{held_in_lem}

@@ -1,12 +1,10 @@
-use mathlib.Core.Path.{◌≡◌, refl}
+use mathlib.Core.Path.{◌≡◌}
 use mathlib.Core.Bool.{Bool}
 use mathlib.Core.List.{List}
 use Prim.Native.Nat.{ℕ, ◌+◌, ◌-◌}
-use native.Mathlib.Omega.{arith}
 use Rattle.end.specs.declared.Record.{Record}
 use Rattle.end.specs.Records.{is_held, raw_at}
 use Rattle.end.specs.Names.{lacking}
-use Rattle.end.proofs.Lacking.{lacking-none, lacking-more, lacking-most}
 use Rattle.rises.proofs.count_lacking.Given as goal
 
 -- `rises::count_lacking` meets its contract: with those that are left to look at, the count is what is wanted.

@@ -1,4 +1,3 @@
-use borrow.Author.Rules.{rules}
 use Rattle.rises.proofs.fresh_record.Goals as goal
 
 pub returns : goal.returns

@@ -1,12 +1,6 @@
-use borrow.Author.Rules.{rules}
-use mathlib.Core.Path.{◌≡◌, refl, sym, ◌∙◌}
-use Prim.Native.Nat.{ℕ, ◌-◌}
+use mathlib.Core.Path.{refl, sym, ◌∙◌}
+use Prim.Native.Nat.{◌-◌}
 use native.Mathlib.Omega.{arith}
-use mathlib.Core.List.{List}
-use Rattle.end.specs.declared.Express.{Express}
-use Rattle.end.specs.declared.Record.{Record}
-use Rattle.end.specs.declared.Moment.{Moment}
-use Rattle.end.specs.Names.{expressed, asked, filled}
 use Rattle.end.proofs.RiseLaws.{filled_none, filled_more}
 use Rattle.rises.proofs.request_all.Invariants.{new}
 use Rattle.rises.proofs.request_all.Goals as goal

@@ -1,13 +1,10 @@
-use borrow.Author.Rules.{rules}
-use mathlib.Core.Path.{◌≡◌, refl, sym, ◌∙◌}
+use mathlib.Core.Path.{◌≡◌}
 use Prim.Native.Nat.{ℕ, ◌-◌}
-use native.Mathlib.Omega.{arith}
 use mathlib.Core.List.{List}
 use Rattle.end.specs.declared.Express.{Express}
 use Rattle.end.specs.declared.Record.{Record}
 use Rattle.end.specs.declared.Moment.{Moment}
 use Rattle.end.specs.Names.{expressed, asked, filled}
-use Rattle.end.proofs.RiseLaws.{filled_none, filled_more}
 use Rattle.rises.proofs.request_all.Given as goal
 
 -- `rises::request_all` meets its contract: with the numbers that are left to ask for, the records are what is wanted.

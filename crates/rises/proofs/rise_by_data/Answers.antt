@@ -1,4 +1,3 @@
-use borrow.Author.Rules.{rules}
 use Rattle.rises.proofs.Steps.{rise_data}
 use Rattle.rises.proofs.rise_by_data.Goals as goal
 

@@ -1,5 +1,4 @@
 use Rattle.sending.proofs.SendLaws.{first-sent, later-sent}
-use borrow.Author.Rules.{rules}
 use Rattle.sending.proofs.extend.Goals as goal
 
 pub returns-in-Closed : goal.returns-in-Closed

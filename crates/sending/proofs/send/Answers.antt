@@ -11,7 +11,6 @@ use Rattle.end.specs.Event.{own_name, sent_end}
 use Rattle.compose.proofs.PutLaws.{Answers}
 use Rattle.compose.proofs.GiveLaws.{gives}
 use Rattle.sending.proofs.SendLaws.{rising, sent}
-use borrow.Author.Rules.{rules}
 use Rattle.sending.proofs.send.Goals as goal
 
 pub sent_source-s1-requires : goal.sent_source-s1-requires

@@ -1,4 +1,3 @@
-use borrow.Author.Rules.{rules}
 use Rattle.sending.proofs.sent_source.Goals as goal
 
 pub returns : goal.returns

@@ -4,7 +4,6 @@ use lib.Dec.{eqb}
 use borrow.Author.Tests.{leb-true}
 use Rattle.message.specs.Limit.{ticks_limit}
 use Rattle.message.proofs.QuestionLaws.{and_both}
-use borrow.Author.Rules.{rules}
 use Rattle.session.proofs.by_echo.Goals as goal
 
 pub overflow_sub-clock : goal.overflow_sub-clock

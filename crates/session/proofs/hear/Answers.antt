@@ -1,6 +1,5 @@
 use Rattle.message.specs.Message.{meaning_of}
 use Rattle.session.proofs.Passes.{in_range_lem}
-use borrow.Author.Rules.{rules}
 use Rattle.session.proofs.hear.Goals as goal
 
 -- `session::hear` meets its contract: the sender's source with its measured distance.

@@ -1,4 +1,3 @@
-use borrow.Author.Rules.{rules}
 use Rattle.session.proofs.report.Goals as goal
 
 pub returns-then-above : goal.returns-then-above

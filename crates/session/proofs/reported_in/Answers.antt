@@ -1,11 +1,11 @@
 use mathlib.Core.Path.{◌≡◌, refl}
-use Prim.Native.Nat.{◌-◌, ◌≤◌}
+use Prim.Native.Nat.{◌-◌}
 use native.Mathlib.Omega.{arith}
 use borrow.Author.Rules.{rules}
-use lib.ListN.{length, take, get_or}
+use lib.ListN.{length, get_or}
 use Rattle.message.specs.Entry.{blank_report}
 use Rattle.message.specs.Question.{report_in}
-use Rattle.end.specs.Session.{reported_after, reported_in}
+use Rattle.end.specs.Session.{reported_after}
 use Rattle.session.proofs.Lists.{used_at}
 use Rattle.session.proofs.Passes.{report_in_lem}
 use Rattle.session.proofs.Turns.{sources-turn}

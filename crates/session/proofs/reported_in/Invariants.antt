@@ -1,14 +1,7 @@
-use mathlib.Core.Path.{◌≡◌, refl}
+use mathlib.Core.Path.{◌≡◌}
 use Prim.Native.Nat.{◌-◌, ◌≤◌}
-use native.Mathlib.Omega.{arith}
-use borrow.Author.Rules.{rules}
-use lib.ListN.{length, take, get_or}
-use Rattle.message.specs.Entry.{blank_report}
-use Rattle.message.specs.Question.{report_in}
-use Rattle.end.specs.Session.{reported_after, reported_in}
-use Rattle.session.proofs.Lists.{used_at}
-use Rattle.session.proofs.Passes.{report_in_lem}
-use Rattle.session.proofs.Turns.{sources-turn}
+use lib.ListN.{take}
+use Rattle.end.specs.Session.{reported_in}
 use Rattle.session.proofs.reported_in.Given as goal
 
 -- `session::reported_in` meets its contract: after i turns the set is that of the first i reports.

@@ -5,7 +5,6 @@ use native.Mathlib.Omega.{arith}
 use lib.ListN.{length, set}
 use Rattle.store.specs.Store.{first_messages}
 use Rattle.store.proofs.StoreLaws.{one_more}
-use borrow.Author.Rules.{rules}
 use Rattle.store.proofs.keep.Goals as goal
 
 -- `store::keep` meets its contract: the bytes and the length are one message more.

@@ -1,5 +1,4 @@
 use native.Mathlib.Omega.{arith}
-use borrow.Author.Rules.{rules}
 use Rattle.store.proofs.size.Goals as goal
 
 -- `store::size` meets its contract: the length is a byte.

@@ -1,4 +1,3 @@
-use borrow.Author.Rules.{rules}
 use Rattle.taking.proofs.reading_for.Goals as goal
 
 pub returns-in-Moves : goal.returns-in-Moves

@@ -1,5 +1,4 @@
 use Rattle.message.specs.declared.Verdict.TheVariants.{Accepted}
-use borrow.Author.Rules.{rules}
 use Rattle.taking.proofs.unread.Goals as goal
 
 pub returns : goal.returns

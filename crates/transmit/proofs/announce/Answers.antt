@@ -12,7 +12,6 @@ use Rattle.end.specs.Event.{announced, announce_of}
 use Rattle.compose.proofs.PutLaws.{Answers}
 use Rattle.transmit.specs.Announced.{announced_effect}
 use Rattle.compose.proofs.GiveLaws.{Gives, gives}
-use borrow.Author.Rules.{rules}
 use Rattle.transmit.proofs.announce.Goals as goal
 
 -- `transmit::announce` meets its contract: what the own span has goes out, and the end stays.

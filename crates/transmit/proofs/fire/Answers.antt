@@ -4,7 +4,6 @@ use native.Mathlib.Omega.{arith}
 use Rattle.end.specs.declared.Earliest.{Earliest}
 use Rattle.transmit.specs.Fired.{name_of}
 use Rattle.transmit.proofs.FireLaws.{Named, named, Chosen, asker-host, waited, fire-gives}
-use borrow.Author.Rules.{rules}
 use Rattle.transmit.proofs.fire.Goals as goal
 
 pub bounds-end-at : goal.bounds-end-at

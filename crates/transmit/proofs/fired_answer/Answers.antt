@@ -1,6 +1,5 @@
 use mathlib.Core.Path.{refl}
 use Rattle.end.specs.Answer.{answer_of, buffer_of}
-use borrow.Author.Rules.{rules}
 use Rattle.transmit.proofs.fired_answer.Goals as goal
 
 pub returns-in-Empty : goal.returns-in-Empty

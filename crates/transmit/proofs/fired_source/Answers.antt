@@ -1,4 +1,3 @@
-use borrow.Author.Rules.{rules}
 use Rattle.transmit.proofs.fired_source.Goals as goal
 
 pub quiet_reply-requires : goal.quiet_reply-requires

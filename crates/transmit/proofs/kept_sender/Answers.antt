@@ -1,4 +1,3 @@
-use borrow.Author.Rules.{rules}
 use Rattle.transmit.proofs.kept_sender.Goals as goal
 
 pub returns-in-NoPair : goal.returns-in-NoPair

@@ -1,5 +1,4 @@
 use borrow.Author.Tests.{eq-eqb, ne_eqb}
-use borrow.Author.Rules.{rules}
 use Rattle.transmit.proofs.put_request.Goals as goal
 
 pub returns-then-rank-eq-EXPRESS : goal.returns-then-rank-eq-EXPRESS

@@ -1,4 +1,3 @@
-use borrow.Author.Rules.{rules}
 use Rattle.transmit.proofs.rank_of.Goals as goal
 
 pub returns-in-NoWait : goal.returns-in-NoWait

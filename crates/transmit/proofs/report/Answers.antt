@@ -4,7 +4,6 @@ use Rattle.end.specs.Answer.{Out}
 use Rattle.end.specs.Messages.{session_message}
 use Rattle.compose.proofs.PutLaws.{Answers}
 use Rattle.compose.proofs.GiveLaws.{gives}
-use borrow.Author.Rules.{rules}
 use Rattle.transmit.proofs.report.Goals as goal
 
 pub returns : goal.returns

@@ -1,4 +1,3 @@
-use borrow.Author.Rules.{rules}
 use mathlib.Core.Path.{refl}
 use Rattle.numbers.specs.Bits.{bit}
 use Rattle.numbers.proofs.bits.has.Goals as goal

@@ -1,4 +1,3 @@
-use borrow.Author.Rules.{rules}
 use Rattle.numbers.proofs.BitLaws.{with_below}
 use Rattle.numbers.proofs.bits.with_host.Goals as goal
 

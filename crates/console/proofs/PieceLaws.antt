@@ -8,9 +8,8 @@ use native.Mathlib.Omega.{arith}
 use lib.ListN.{length, take, drop, length-drop, take-append-drop}
 use lib.Seq.{take-add, take_all}
 use lib.Dec.{ltb}
-use borrow.Author.Tests.{ltb-true, ltb-false, not-true, not-false}
+use borrow.Author.Tests.{ltb-false, not-false}
 use Rattle.numbers.proofs.Cases.{by_order}
-use Rattle.numbers.proofs.SpliceLaws.{length-splice}
 use Rattle.player.specs.House.{widest}
 use Rattle.interpreter.specs.declared.Playing.{Playing}
 use Rattle.interpreter.specs.declared.Progress.{Progress}
@@ -20,10 +19,6 @@ use Rattle.interpreter.proofs.Pieces.{after_both, after-stopped}
 
 -- ---- the loop's test
 
-both : (a b : Bool) → a && b ≡ true → (a ≡ true) × (b ≡ true)
-both true b h = (refl, h)
-both false b h = absurd (true≢false (sym h))
-
 either : (a b : Bool) → a && b ≡ false → (a ≡ false) ⊎ (b ≡ false)
 either true b h = inr h
 either false b h = inl refl
@@ -31,11 +26,7 @@ either false b h = inl refl
 abbrev goes : ℕ → List ℕ → Playing → Bool
 goes at piece p = ltb at (length piece) && not p.stopped
 
--- ---- a call leaves the output's length, and takes bytes where it can
-
-pub output-size : {s : Standing} {piece before output : List ℕ} {r : Progress} → Feeds s piece before output r → length output ≡ length before
-output-size {s} {piece} {before} {output} {r} f =
-    ap length f.output-is ∙ length-splice 0 (prints s (take r.taken piece)) before (omega (arith, f.size, f.inside))
+-- ---- a call takes bytes where it can
 
 module _ {s : Standing} {piece before output : List ℕ} {r : Progress} (f : Feeds s piece before output r)
     (plays : s.stopped ≡ false) (some : 0 < length piece) (room : widest ≤ length before) where
@@ -75,13 +66,6 @@ module _ {s : Standing} {piece : List ℕ} {p : Playing} {at : ℕ} (f : SoFar s
       ∙ sym (after_both s (take at piece) (drop at piece)) ∙ ap (after s) (take-append-drop at piece))
       (either (ltb at (length piece)) (not p.stopped) h)
 
-  -- what the loop's test says
-  pub left : goes at piece p ≡ true → at < length piece
-  left g = ltb-true at (length piece) (both (ltb at (length piece)) (not p.stopped) g).0
-
-  pub plays-on : goes at piece p ≡ true → p.stopped ≡ false
-  plays-on g = not-true p.stopped (both (ltb at (length piece)) (not p.stopped) g).1
-
   -- the part that is lent
   abbrev part : List ℕ
   part = take (length piece - at) (drop at piece)
@@ -92,7 +76,7 @@ module _ {s : Standing} {piece : List ℕ} {p : Playing} {at : ℕ} (f : SoFar s
   whole_part : part ≡ drop at piece
   whole_part = take_all (length piece - at) (drop at piece) (omega (arith, rest))
 
-  pub part-size : length part ≡ length piece - at
+  part-size : length part ≡ length piece - at
   part-size = ap length whole_part ∙ rest
 
   pub more-taken : (q : Playing) (n : ℕ) → standing q ≡ after (standing p) (take n part) → n ≤ length part → SoFar s piece q (at + n)

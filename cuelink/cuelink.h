@@ -54,7 +54,7 @@ extern "C" {
 #define CUELINK_HOSTS 8          /* hosts are 0..7 */
 #define CUELINK_TICK 250         /* the microseconds of a tick */
 #define CUELINK_CLOCK_MAX UINT64_C(0xFFFFFFFFFFFF) /* 2^48-1, the highest clock */
-#define CUELINK_STACK 393216     /* 384 KiB */
+#define CUELINK_STACK 589824     /* 576 KiB */
 #define CUELINK_NONE UINT64_MAX  /* of looks and cuelink_due: there is no such value, or the bytes are no state */
 
 /* ---- answers: kind * 2^32 + source * 2^16 + number */

@@ -8,7 +8,7 @@
 //! - A call cannot be refused as 1, 2 or 3: the output and the draws have their lengths by their types, and an [`End`] is always a sound state.
 //! - A message that is to be sent and a cue that is handed out are copied out of the call, so that nothing stays borrowed.
 //!
-//! Calls allocate nothing (opening an end does, once), and any number of threads may make them, each on an end of its own. A call needs 384 KiB of
+//! Calls allocate nothing (opening an end does, once), and any number of threads may make them, each on an end of its own. A call needs 576 KiB of
 //! stack, which Rust's own threads have.
 //!
 //! Two controllers, one cue:

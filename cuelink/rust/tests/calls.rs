@@ -335,7 +335,7 @@ fn lens_windows() {
     );
 }
 
-/// 384 KiB for a call and 64 for the thread itself are enough, and ends may move between threads.
+/// 576 KiB for a call and 64 for the thread itself are enough, and ends may move between threads.
 #[test]
 fn threads() {
     let run = |host: u8| {
@@ -346,7 +346,7 @@ fn threads() {
                 .collect::<Vec<_>>()
         };
         thread::Builder::new()
-            .stack_size(448 << 10)
+            .stack_size(640 << 10)
             .spawn(run)
             .unwrap()
     };

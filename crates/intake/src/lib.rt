@@ -1,6 +1,9 @@
 // Standard input as lines, for the programs that play long lines. Whoever reads keeps the state of reading among its numbers, at FROM and
-// BEFORE; the other numbers are not touched here. No contract can say what is read: these say no more than that reading is safe and ends.
+// BEFORE; the other numbers are not touched here. No contract can say what is read: these say that reading is safe and ends, and what a read that
+// failed leaves.
 #![tactic(auto)]
+
+ghost use Rattle.std.specs.Prelude.{◌≡◌, ◌≢◌, ℕ, OnErr, slice_index};
 
 use std::io;
 use std::io::Read;
@@ -71,7 +74,9 @@ pub fn next(
     buffer: &mut [u8; 65536],
     n: &mut [usize; 20],
     line: &mut [u8; 1000],
-) -> io::Result<usize> {
+) -> io::Result<usize>
+    ensures others_stay { OnErr result ((k : ℕ) → k ≢ 18 → k ≢ 19 → slice_index n.new k ≡ slice_index n.old k) }
+{
     let mut len: usize = 0;
     for _ in 0..u64::MAX {
         let t = take(buffer, n[FROM], n[BEFORE], line, len);

@@ -1,6 +1,6 @@
 // The text that is to be printed, in a buffer of which the first bytes are used: how many stands in the numbers of whoever prints, at
 // USED. The other numbers are not touched here.
-ghost use Rattle.std.specs.Prelude.{◌≤◌};
+ghost use Rattle.std.specs.Prelude.{◌≡◌, ◌≤◌, OnErr};
 
 use std::io;
 
@@ -135,14 +135,20 @@ fn write(rt: &impl Print, buffer: &[u8], used: usize) -> io::Result<()> {
 }
 
 // Writes out what is there; where that failed, all of it is still there.
-pub fn flush(rt: &impl Print, text: &mut [u8; 65536], n: &mut [usize; 20]) -> io::Result<()> {
+pub fn flush(rt: &impl Print, text: &mut [u8; 65536], n: &mut [usize; 20]) -> io::Result<()>
+    ensures text_stays { OnErr result (text.new ≡ text.old) }
+    ensures numbers_stay { OnErr result (n.new ≡ n.old) }
+{
     write(rt, text, n[USED])?;
     n[USED] = 0;
     Ok(())
 }
 
-// Writes out what is there, once it is much.
-pub fn flush_much(rt: &impl Print, text: &mut [u8; 65536], n: &mut [usize; 20]) -> io::Result<()> {
+// Writes out what is there, once it is much; where that failed, all of it is still there.
+pub fn flush_much(rt: &impl Print, text: &mut [u8; 65536], n: &mut [usize; 20]) -> io::Result<()>
+    ensures text_stays { OnErr result (text.new ≡ text.old) }
+    ensures numbers_stay { OnErr result (n.new ≡ n.old) }
+{
     if MUCH < n[USED] {
         flush(rt, text, n)?;
     }

@@ -1,5 +1,5 @@
--- An end's state: its parts, and the state with a part changed. Document 01, "What an end keeps". Apart from the blank values (noSource,
--- unheard, freshEnd) only the setters build a Source or an End: a field that is added later is a line in each of both.
+-- An end's state: its parts, and the state with a part changed. Document 01, "What an end keeps". Apart from the blank values (no_source,
+-- unheard, fresh_end) only the setters build a Source or an End: a field that is added later is a line in each of both.
 use Rattle.std.specs.Prelude.{ℕ, Bool, true, false, List, [], get_or, set, replicate}
 use Rattle.message.specs.declared.Host.{Host}
 use Rattle.message.specs.Entry.{blank_cue}

@@ -1,3 +1,4 @@
+-- `acting::act` meets its contract: the event that was matched has this step.
 use mathlib.Core.Path.{subst}
 use Rattle.end.specs.declared.Event.{Event}
 use Rattle.acting.specs.Acting.{OwnGiven}

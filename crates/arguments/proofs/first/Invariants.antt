@@ -1,3 +1,4 @@
+-- `arguments::first` meets its contract: the measure is the bytes that are left. Assumes nothing.
 -- The measure is the bytes that are left.
 use Rattle.arguments.proofs.first.Given as goal
 use Rattle.std.proofs.Common.{◌-◌}

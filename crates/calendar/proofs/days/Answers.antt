@@ -1,3 +1,4 @@
+-- `calendar::days` meets its contract: each month is one of those tested, and no other is left.
 use native.Mathlib.Omega.{arith}
 use Rattle.calendar.proofs.Tests.{in_february, short_month_lem, long_month}
 use mathlib.Core.Path.{refl, sym, ◌∙◌}

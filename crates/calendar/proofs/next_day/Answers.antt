@@ -1,3 +1,4 @@
+-- `calendar::next_day` meets its contract: within a month, at its end, at the year's end, at the calendar's.
 use mathlib.Core.Path.{◌∙◌}
 use native.Mathlib.Omega.{arith}
 use Rattle.calendar.proofs.Tests.{next_in_month, next_month, next_year, last-stays}

@@ -1,3 +1,4 @@
+-- `calendar::step` meets its contract: a date that exists is moved, another stays.
 use mathlib.Core.Path.{sym, ◌∙◌}
 use Rattle.calendar.proofs.Tests.{rolls, rolls_not}
 use Rattle.calendar.proofs.step.Goals as goal

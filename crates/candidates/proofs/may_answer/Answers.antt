@@ -1,3 +1,4 @@
+-- `candidates::may_answer` meets its contract: each part is its callee's.
 use Rattle.candidates.proofs.may_answer.Goals as goal
 
 pub returns : goal.returns

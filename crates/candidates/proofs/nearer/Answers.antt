@@ -1,3 +1,4 @@
+-- `candidates::nearer` meets its contract: the nearest so far is the one that was matched.
 use borrow.Author.Tests.{lt-ltb, le-ltb}
 use Rattle.candidates.proofs.nearer.Goals as goal
 

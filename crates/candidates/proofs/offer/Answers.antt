@@ -1,3 +1,4 @@
+-- `candidates::offer` meets its contract: the test is the definition's.
 use Rattle.candidates.proofs.offer.Goals as goal
 
 pub returns-then-other-reported_by : goal.returns-then-other-reported_by

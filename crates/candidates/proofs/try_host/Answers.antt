@@ -1,3 +1,4 @@
+-- `candidates::try_host` meets its contract: each step is its callee's.
 use Rattle.candidates.proofs.try_host.Goals as goal
 
 pub returns : goal.returns

@@ -1,3 +1,4 @@
+-- `compose::put` meets its contract: the message stands in the first bytes.
 use Rattle.message.specs.Message.{meaning_of, bytes_of}
 use Rattle.compose.proofs.PutLaws.{puts}
 use Rattle.compose.proofs.put.Goals as goal

@@ -1,3 +1,4 @@
+-- `compose::put_announce` meets its contract: the announce message goes out.
 use Rattle.compose.proofs.PutLaws.{puts_as}
 use Rattle.compose.proofs.put_announce.Goals as goal
 

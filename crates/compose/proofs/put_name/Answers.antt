@@ -1,3 +1,4 @@
+-- `compose::put_name` meets its contract: the message about the name goes out.
 use Rattle.compose.proofs.PutLaws.{puts_as}
 use Rattle.compose.proofs.put_name.Goals as goal
 

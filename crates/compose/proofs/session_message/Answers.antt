@@ -1,3 +1,4 @@
+-- `compose::session_message` meets its contract: the entries stand in the first places, as many as the counts say.
 use mathlib.Core.Path.{ap, ◌∙◌}
 use mathlib.Core.List.{[]}
 use Prim.Native.Nat.{◌-◌, ◌≤◌}

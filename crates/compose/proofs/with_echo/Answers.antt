@@ -1,3 +1,4 @@
+-- `compose::with_echo` meets its contract: what was heard decides, and it was not in the future.
 use mathlib.Core.Path.{subst}
 use Prim.Native.Nat.{◌≤◌, ◌+◌}
 use native.Mathlib.Omega.{arith}

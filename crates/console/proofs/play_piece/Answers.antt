@@ -1,3 +1,4 @@
+-- `console::play_piece` meets its contract: each call takes bytes of the piece, until there are none or the script has stopped.
 use Rattle.console.proofs.PieceLaws.{none-taken, all-taken, more-taken}
 use Rattle.console.proofs.play_piece.Goals as goal
 

@@ -1,3 +1,4 @@
+-- `console::play_some` meets its contract: the output has room for a line, so that bytes are taken.
 use native.Mathlib.Omega.{arith}
 use Rattle.console.proofs.PieceLaws.{some-taken}
 use Rattle.console.proofs.play_some.Goals as goal

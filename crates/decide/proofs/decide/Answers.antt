@@ -1,3 +1,4 @@
+-- `decide::decide` meets its contract: each arm is the line of `decide_as` for what the message says.
 use Rattle.decide.proofs.Ladders.{says_data, says-request, says-repair, says-express}
 use Rattle.decide.proofs.decide.Goals as goal
 

@@ -1,3 +1,4 @@
+-- `decide::decide_data` meets its contract: the tests, one after another.
 use Rattle.decide.proofs.Ladders.{data_ladder}
 use Rattle.decide.proofs.decide_data.Goals as goal
 

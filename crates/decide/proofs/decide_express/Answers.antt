@@ -1,3 +1,4 @@
+-- `decide::decide_express` meets its contract: one test before those of a RQST.
 use Rattle.end.specs.Decide.{decide_express}
 use Rattle.decide.proofs.decide_express.Goals as goal
 

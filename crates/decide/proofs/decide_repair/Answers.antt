@@ -1,3 +1,4 @@
+-- `decide::decide_repair` meets its contract: one test.
 use Rattle.end.specs.Decide.{decide_repair}
 use Rattle.decide.proofs.decide_repair.Goals as goal
 

@@ -1,3 +1,4 @@
+-- `decide::decide_reply` meets its contract: the tests, one after another.
 use Rattle.end.specs.Decide.{decide_reply}
 use Rattle.decide.proofs.decide_reply.Goals as goal
 

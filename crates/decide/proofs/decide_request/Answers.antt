@@ -1,3 +1,4 @@
+-- `decide::decide_request` meets its contract: the tests, one after another.
 use Rattle.end.specs.Decide.{decide_request}
 use Rattle.decide.proofs.decide_request.Goals as goal
 

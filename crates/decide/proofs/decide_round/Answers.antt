@@ -1,3 +1,4 @@
+-- `decide::decide_round` meets its contract: each arm is the line of `decide_round` for its slot.
 use Rattle.end.specs.Decide.{decide_round}
 use Rattle.decide.proofs.decide_round.Goals as goal
 

@@ -1,3 +1,4 @@
+-- `decide::if_same` meets its contract: one test.
 use Rattle.decide.proofs.if_same.Goals as goal
 
 pub returns : goal.returns

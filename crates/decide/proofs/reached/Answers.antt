@@ -1,3 +1,4 @@
+-- `decide::reached` meets its contract: the tests, one after another.
 use Rattle.decide.proofs.Ladders.{reached_ladder}
 use Rattle.decide.proofs.reached.Goals as goal
 

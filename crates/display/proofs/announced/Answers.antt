@@ -1,3 +1,4 @@
+-- `display::announced` meets its contract.
 use Rattle.end.specs.Answer.{answer_of}
 use Rattle.display.proofs.announced.Goals as goal
 

@@ -1,3 +1,4 @@
+-- `display::got` meets its contract.
 use Rattle.display.proofs.got.Goals as goal
 
 pub returns : goal.returns

@@ -1,3 +1,4 @@
+-- `display::hear` meets its contract: refused, or what the message that was read does.
 use Rattle.display.proofs.CallLaws.{ready, heard-call, hear-refused}
 use mathlib.Core.Path.{ap, ◌∙◌}
 use Rattle.message.specs.declared.Reading.{Reading}

@@ -1,3 +1,4 @@
+-- `display::heard` meets its contract: the tests are those of the definition.
 use Rattle.display.proofs.CallLaws.{later-shows, first-shows, none-shows}
 use Rattle.display.proofs.heard.Goals as goal
 

@@ -1,3 +1,4 @@
+-- `display::heard_later` meets its contract: the tests say which rule it is.
 use mathlib.Core.Path.{◌≡◌, sym, ◌∙◌, refl}
 use mathlib.Core.Bool.{true, false}
 use Rattle.end.specs.Answer.{buffer_of}

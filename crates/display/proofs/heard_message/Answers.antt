@@ -1,3 +1,4 @@
+-- `display::heard_message` meets its contract: the places of the struct that it reads are the message's.
 use mathlib.Core.Path.{◌≡◌}
 use Rattle.message.specs.Message.{Meaning, held_as}
 use Rattle.display.proofs.CallLaws.{held-shows}

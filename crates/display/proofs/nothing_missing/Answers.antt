@@ -1,3 +1,4 @@
+-- `display::nothing_missing` meets its contract.
 use Rattle.end.specs.Answer.{answer_of}
 use Rattle.display.proofs.nothing_missing.Goals as goal
 

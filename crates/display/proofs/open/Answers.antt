@@ -1,3 +1,4 @@
+-- `display::open` meets its contract: the one question decides.
 use mathlib.Core.Path.{◌≡◌, sym, ◌∙◌}
 use mathlib.Core.Bool.{true, false}
 use Rattle.display.specs.Display.{hosts_apart, opening_of}

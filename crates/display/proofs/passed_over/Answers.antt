@@ -1,3 +1,4 @@
+-- `display::passed_over` meets its contract.
 use Rattle.end.specs.Answer.{answer_of}
 use Rattle.display.proofs.passed_over.Goals as goal
 

@@ -1,3 +1,4 @@
+-- `display::refusal` meets its contract: the questions one before the other.
 use Rattle.display.proofs.refusal.Goals as goal
 
 pub returns : goal.returns

@@ -1,3 +1,4 @@
+-- `display::refused` meets its contract.
 use Rattle.end.specs.Answer.{answer_of}
 use Rattle.display.proofs.refused.Goals as goal
 

@@ -1,3 +1,4 @@
+-- `display::requested` meets its contract: the request stands in the first bytes.
 use Rattle.display.proofs.CallLaws.{put-out}
 use Rattle.display.proofs.requested.Goals as goal
 

@@ -1,3 +1,4 @@
+-- `display::sound` meets its contract.
 use Rattle.display.specs.Display.{sound_of}
 use Rattle.display.proofs.sound.Goals as goal
 

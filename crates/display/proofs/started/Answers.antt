@@ -1,3 +1,4 @@
+-- `display::started` meets its contract.
 use Rattle.display.proofs.started.Goals as goal
 
 pub returns : goal.returns

@@ -1,3 +1,4 @@
+-- `display::step` meets its contract: refused, or what a step does.
 use Rattle.display.proofs.CallLaws.{ready, step_call, step-refused}
 use Rattle.display.proofs.step.Goals as goal
 

@@ -1,3 +1,4 @@
+-- `display::stepped` meets its contract: there is a missing number, or there is none.
 use mathlib.Core.Path.{sym, ◌∙◌}
 use Rattle.display.proofs.CallLaws.{missing_at, missing_no, step-shows, step_rests}
 use Rattle.display.proofs.stepped.Goals as goal

@@ -1,3 +1,4 @@
+-- `display_window::has` meets its contract: past its 64 digits nothing is in a set.
 use mathlib.Core.Path.{sym}
 use Rattle.numbers.proofs.BitLaws.{bit-above}
 use Rattle.display_window.proofs.has.Goals as goal

@@ -1,3 +1,4 @@
+-- `display_window::is_below` meets its contract: nothing stands up from place k.
 use Rattle.display_window.proofs.SetLaws.{up_none}
 use Rattle.display_window.proofs.is_below.Goals as goal
 

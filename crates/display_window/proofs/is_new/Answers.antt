@@ -1,3 +1,4 @@
+-- `display_window::is_new` meets its contract.
 use Rattle.display_window.specs.Window.{is_new}
 use Rattle.display_window.proofs.is_new.Goals as goal
 

@@ -1,3 +1,4 @@
+-- `display_window::lost_above` meets its contract: the test says whether there are any.
 use borrow.Author.Tests.{lt-ltb, le-ltb}
 use Prim.Native.Nat.{◌+◌}
 use Rattle.display_window.proofs.lost_above.Goals as goal

@@ -1,3 +1,4 @@
+-- `display_window::lost_by` meets its contract: a sound window has at most 64 numbers.
 use native.Mathlib.Omega.{arith}
 use Rattle.display_window.specs.Window.{lost_by}
 use Rattle.display_window.proofs.WindowLaws.{sound_as}

@@ -1,3 +1,4 @@
+-- `display_window::lowest_missing` meets its contract: the place is one of trail..lead.
 use mathlib.Core.Path.{sym, ap, ◌∙◌}
 use Rattle.display_window.specs.Window.{lowest_missing}
 use Rattle.display_window.specs.Frame.{missing_of}

@@ -1,3 +1,4 @@
+-- `display_window::raised` meets its contract: each part as its function says.
 use Rattle.display_window.specs.Window.{raised}
 use Rattle.display_window.proofs.raised.Goals as goal
 

@@ -1,3 +1,4 @@
+-- `display_window::received` meets its contract: the place is one of the set's 64.
 use mathlib.Core.Path.{subst}
 use Prim.Native.Nat.{◌<◌}
 use native.Mathlib.Omega.{arith}

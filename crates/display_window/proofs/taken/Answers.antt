@@ -1,3 +1,4 @@
+-- `display_window::taken` meets its contract: the cue is at most 63 above the trail that it lets stand.
 use Rattle.display_window.proofs.WindowLaws.{raised-near}
 use Rattle.display_window.proofs.taken.Goals as goal
 

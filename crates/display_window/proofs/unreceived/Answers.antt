@@ -1,3 +1,4 @@
+-- `display_window::unreceived` meets its contract: below 64 places by a shift, and all 64 apart.
 use mathlib.Core.Path.{◌≡◌}
 use Prim.Native.Nat.{◌%◌, ◌^◌}
 use native.Mathlib.Nat.{mod-lt, mod-eq_of_lt}

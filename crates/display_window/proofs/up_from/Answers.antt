@@ -1,3 +1,4 @@
+-- `display_window::up_from` meets its contract: past its 64 digits a set is none.
 use mathlib.Core.Path.{sym}
 use Rattle.display_window.proofs.SetLaws.{up-past}
 use Rattle.display_window.proofs.up_from.Goals as goal

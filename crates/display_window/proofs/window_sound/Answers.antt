@@ -1,3 +1,4 @@
+-- `display_window::window_sound` meets its contract.
 use Rattle.display_window.proofs.window_sound.Goals as goal
 
 pub returns-in-Started : goal.returns-in-Started

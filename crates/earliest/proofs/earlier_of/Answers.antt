@@ -1,3 +1,4 @@
+-- `earliest::earlier_of` meets its contract: the earliest so far is the one that was matched.
 use Rattle.earliest.proofs.Offers.{earlier_new, earlier_old}
 use Rattle.earliest.proofs.earlier_of.Goals as goal
 

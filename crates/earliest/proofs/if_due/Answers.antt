@@ -1,3 +1,4 @@
+-- `earliest::if_due` meets its contract: one branch for a wait that is due, one for a later one.
 use borrow.Author.Tests.{le-leb, lt-leb}
 use Rattle.earliest.proofs.if_due.Goals as goal
 

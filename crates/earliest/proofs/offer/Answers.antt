@@ -1,3 +1,4 @@
+-- `earliest::offer` meets its contract: slot and reply are the ones that were matched.
 use Rattle.earliest.proofs.Offers.{offered-request, offered_reply}
 use Rattle.earliest.proofs.offer.Goals as goal
 

@@ -1,3 +1,4 @@
+-- `earliest::width_of` meets its contract: the span is the one that was matched.
 use mathlib.Core.Path.{refl}
 use native.Mathlib.Omega.{arith}
 use Rattle.earliest.proofs.Numbers.{in_order_lem, open_width}

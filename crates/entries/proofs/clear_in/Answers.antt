@@ -1,3 +1,4 @@
+-- `entries::clear_in` meets its contract: the word decides.
 use mathlib.Core.Path.{ap, ◌∙◌}
 use mathlib.Core.Bool.{Bool, cond}
 use Rattle.entries.specs.declared.Line.TheVariants.{Clear, Malformed}

@@ -1,3 +1,4 @@
+-- `entries::date_from` meets its contract: all six tests hold, or one does not.
 use mathlib.Core.Path.{ap, ◌∙◌}
 use Rattle.entries.specs.declared.DateWord.TheVariants.{Is}
 use Rattle.entries.specs.Line.{date_from}

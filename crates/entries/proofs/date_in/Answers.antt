@@ -1,3 +1,4 @@
+-- `entries::date_in` meets its contract: ten bytes, read in pairs.
 use mathlib.Core.Path.{◌∙◌}
 use borrow.Author.Tests.{ne_eqb}
 use Rattle.entries.proofs.LineLaws.{date-right}

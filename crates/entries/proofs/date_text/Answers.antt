@@ -1,3 +1,4 @@
+-- `entries::date_text` meets its contract: digit by digit.
 use Rattle.entries.specs.Print.{date_text}
 use Rattle.entries.proofs.date_text.Goals as goal
 

@@ -1,3 +1,4 @@
+-- `entries::next_in` meets its contract: the word decides.
 use Rattle.entries.specs.Line.{next_in}
 use Rattle.entries.proofs.next_in.Goals as goal
 

@@ -1,3 +1,4 @@
+-- `entries::next_of` meets its contract: both words are right, and the number is small.
 use borrow.Author.Tests.{lt-ltb, le-ltb}
 use Rattle.entries.proofs.next_of.Goals as goal
 

@@ -1,3 +1,4 @@
+-- `entries::put_date` meets its contract: ten bytes.
 use native.Mathlib.Omega.{arith}
 use mathlib.Core.Path.{ap}
 use lib.ListN.{length}

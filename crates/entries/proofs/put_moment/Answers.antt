@@ -1,3 +1,4 @@
+-- `entries::put_moment` meets its contract: one piece after the other.
 use native.Mathlib.Omega.{arith}
 use Rattle.answers.proofs.PutLaws.{put_both}
 use Rattle.entries.proofs.put_moment.Goals as goal

@@ -1,3 +1,4 @@
+-- `entries::put_number_line` meets its contract: the number and the line feed.
 use native.Mathlib.Omega.{arith}
 use Rattle.answers.proofs.PutLaws.{put_both}
 use Rattle.entries.proofs.put_number_line.Goals as goal

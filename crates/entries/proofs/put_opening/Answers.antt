@@ -1,3 +1,4 @@
+-- `entries::put_opening` meets its contract: the answer is the one that was matched.
 use native.Mathlib.Omega.{arith}
 use mathlib.Core.Path.{sym, ap}
 use Rattle.answers.proofs.PutLaws.{put_wider, put_same}

@@ -1,3 +1,4 @@
+-- `entries::put_refused` meets its contract: the word and the number.
 use native.Mathlib.Omega.{arith}
 use Rattle.answers.proofs.PutLaws.{put_both}
 use Rattle.entries.specs.Print.{refused_line}

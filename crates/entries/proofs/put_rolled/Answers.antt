@@ -1,3 +1,4 @@
+-- `entries::put_rolled` meets its contract: a date that exists has a day after it, another is refused.
 use native.Mathlib.Omega.{arith}
 use mathlib.Core.Path.{sym, ◌∙◌}
 use Rattle.answers.proofs.PutLaws.{put_both, put_same}

@@ -1,3 +1,4 @@
+-- `entries::read_line` meets its contract: the words end where the spaces stand.
 use native.Mathlib.Omega.{arith}
 use mathlib.Core.Path.{sym, ◌∙◌}
 use lib.Seq.{length-take-le}

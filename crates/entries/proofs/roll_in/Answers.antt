@@ -1,3 +1,4 @@
+-- `entries::roll_in` meets its contract: the word decides.
 use Rattle.entries.specs.Line.{roll_in}
 use Rattle.entries.proofs.roll_in.Goals as goal
 

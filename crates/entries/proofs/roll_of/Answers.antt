@@ -1,3 +1,4 @@
+-- `entries::roll_of` meets its contract: the word names a date.
 use mathlib.Core.Path.{sym, ap}
 use Rattle.entries.specs.Line.{roll_of}
 use Rattle.entries.proofs.roll_of.Goals as goal

@@ -1,3 +1,4 @@
+-- `entries::window_in` meets its contract: the word decides.
 use Rattle.entries.specs.Line.{window_in}
 use Rattle.entries.proofs.window_in.Goals as goal
 

@@ -1,3 +1,4 @@
+-- `example::cue_in` is safe and ends: the measure is what is left of the cue. Assumes nothing.
 use Prim.Native.Nat.{◌-◌}
 use Rattle.example.proofs.cue_in.Given as goal
 

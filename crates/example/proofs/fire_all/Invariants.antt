@@ -1,3 +1,4 @@
+-- `example::fire_all` is safe and ends: the measure is how many messages may still go out. Assumes nothing.
 use Prim.Native.Nat.{◌-◌}
 use Rattle.example.proofs.fire_all.Given as goal
 

@@ -1,3 +1,4 @@
+-- `fetch::answer_fetch` meets its contract: the test is the definition's.
 use Rattle.fetch.proofs.FetchLaws.{answered-gives, unanswered_gives}
 use Rattle.fetch.proofs.answer_fetch.Goals as goal
 

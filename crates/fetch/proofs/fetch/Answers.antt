@@ -1,3 +1,4 @@
+-- `fetch::fetch` meets its contract: the nearest host is chosen, asked, and marked as tried.
 use native.Mathlib.Omega.{arith}
 use Rattle.fetch.proofs.FetchLaws.{nearest_hosted, fetch-gives}
 use Rattle.fetch.proofs.fetch.Goals as goal

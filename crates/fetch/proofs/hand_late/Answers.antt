@@ -1,3 +1,4 @@
+-- `fetch::hand_late` meets its contract: the test is the definition's.
 use Rattle.fetch.proofs.FetchLaws.{handed-gives, unhanded_gives}
 use Rattle.fetch.proofs.hand_late.Goals as goal
 

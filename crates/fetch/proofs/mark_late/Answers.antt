@@ -1,3 +1,4 @@
+-- `fetch::mark_late` meets its contract: each step is its callee's.
 use Rattle.fetch.proofs.mark_late.Goals as goal
 
 pub returns : goal.returns

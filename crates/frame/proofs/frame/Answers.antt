@@ -1,3 +1,4 @@
+-- `frame::frame` meets its contract: what the code has found before its one test, and the two cases of that.
 use mathlib.Core.Path.{◌≡◌, sym, ap, subst, ◌∙◌}
 use Prim.Native.Nat.{ℕ}
 use mathlib.Core.List.{List}

@@ -1,3 +1,4 @@
+-- `heed::answer_of` meets its contract: each arm is the line of `effect_of` for its decision.
 use mathlib.Core.Path.{refl}
 use Rattle.end.specs.Decide.{effect_of}
 use Rattle.end.specs.Answer.{answer_of, buffer_of}

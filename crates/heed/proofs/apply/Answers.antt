@@ -1,3 +1,4 @@
+-- `heed::apply` meets its contract: each arm is the line of `apply` for its decision.
 use Rattle.end.specs.Decide.{apply}
 use Rattle.heed.proofs.apply.Goals as goal
 

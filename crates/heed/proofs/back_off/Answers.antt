@@ -1,3 +1,4 @@
+-- `heed::back_off` meets its contract: each step is its callee's.
 use Rattle.heed.proofs.back_off.Goals as goal
 
 pub returns : goal.returns

@@ -1,3 +1,4 @@
+-- `heed::hand_out` meets its contract: the cue stands in the first bytes.
 use mathlib.Core.Path.{refl, ◌∙◌}
 use Rattle.numbers.proofs.SpliceLaws.{splice-start}
 use Rattle.end.specs.Answer.{answer_of, buffer_of}

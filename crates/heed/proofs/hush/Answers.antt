@@ -1,3 +1,4 @@
+-- `heed::hush` meets its contract: each step is its callee's.
 use Rattle.heed.proofs.hush.Goals as goal
 
 pub returns : goal.returns

@@ -1,3 +1,4 @@
+-- `heed::learn` meets its contract: each step is its callee's, and a rise leaves the distance as it was.
 use native.Mathlib.Omega.{arith}
 use Rattle.end.specs.Decide.{number}
 use Rattle.heed.proofs.Rises.{risen_ranges}

@@ -1,3 +1,4 @@
+-- `heed::repair` meets its contract: each step is its callee's.
 use Rattle.end.specs.Decide.{apply}
 use Rattle.heed.proofs.repair.Goals as goal
 

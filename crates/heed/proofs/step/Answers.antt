@@ -1,3 +1,4 @@
+-- `heed::step` meets its contract: each step is its callee's.
 use mathlib.Core.Path.{◌≡◌, ap, ◌∙◌}
 use Prim.Native.Nat.{ℕ}
 use mathlib.Core.List.{List}

@@ -1,3 +1,4 @@
+-- `heed::take_cue` meets its contract: each step is its callee's.
 use Rattle.heed.proofs.take_cue.Goals as goal
 
 pub returns : goal.returns

@@ -1,3 +1,4 @@
+-- `intake::next` meets its contract: the measure is the turns that are left. Assumes nothing.
 -- `intake::next` leaves all numbers but those at FROM and BEFORE: so after each turn.
 use Rattle.std.proofs.Common.{◌≡◌, ℕ, get_or}
 use Rattle.std.specs.Prelude.{◌≢◌}

@@ -1,3 +1,4 @@
+-- `intake::take` meets its contract: the measure is the bytes that are left. Assumes nothing.
 -- The measure is the bytes that are left.
 use Rattle.intake.proofs.take.Given as goal
 use Rattle.std.proofs.Common.{◌-◌}

@@ -1,3 +1,4 @@
+-- `judgement::more_than_most` meets its contract: the lines that are kept are counted.
 use mathlib.Core.Path.{◌≡◌}
 use lib.ListN.{length}
 use Rattle.judgement.proofs.KeptLaws.{counts-over}

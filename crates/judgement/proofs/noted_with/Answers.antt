@@ -1,3 +1,4 @@
+-- `judgement::noted_with` meets its contract: there is a place, or there is none.
 use mathlib.Core.Path.{◌≡◌}
 use lib.ListN.{length}
 use Rattle.judgement.proofs.KeptLaws.{added_more, added_full}

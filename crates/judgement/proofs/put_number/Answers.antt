@@ -1,3 +1,4 @@
+-- `judgement::put_number` meets its contract: the number, of at most twenty digits, and the line feed.
 use Prim.Native.Nat.{◌+◌, ◌≤◌}
 use lib.ListN.{length}
 use Rattle.decimal.specs.Decimal.{decimal}

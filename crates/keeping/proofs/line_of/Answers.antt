@@ -1,3 +1,4 @@
+-- `keeping::line_of` meets its contract: by the answer.
 use mathlib.Core.Path.{sym, ap, ◌∙◌}
 use mathlib.Core.List.{List, []}
 use Prim.Native.Nat.{ℕ}

@@ -1,3 +1,4 @@
+-- `ledger::judge` meets its contract: too many lines, a malformed one, or neither.
 use mathlib.Core.Path.{◌≡◌, sym, ap, ◌∙◌}
 use Prim.Native.Nat.{min}
 use lib.ListN.{length}

@@ -1,3 +1,4 @@
+-- `lent_answer::host_of` meets its contract.
 use mathlib.Core.Path.{ap}
 use Rattle.message.specs.Entry.{as_host}
 use Rattle.lent_answer.proofs.host_of.Goals as goal

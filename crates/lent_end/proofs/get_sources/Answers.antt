@@ -1,3 +1,4 @@
+-- `lent_end::get_sources` meets its contract.
 use Rattle.lent_end.proofs.StateLaws.{eight}
 use Rattle.lent_end.proofs.get_sources.Goals as goal
 

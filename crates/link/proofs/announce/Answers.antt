@@ -1,3 +1,4 @@
+-- `link::announce` meets its contract: the frame, where nothing is read.
 use mathlib.Core.List.{[]}
 use Rattle.link.proofs.announce.Goals as goal
 

@@ -1,3 +1,4 @@
+-- `link::arrival` meets its contract: the frame, with what is read from the bytes.
 use Rattle.link.proofs.arrival.Goals as goal
 
 pub frame-requires : goal.frame-requires

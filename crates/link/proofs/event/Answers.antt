@@ -1,3 +1,4 @@
+-- `link::event` meets its contract: the frame, with what is read from the bytes.
 use Rattle.link.proofs.event.Goals as goal
 
 pub frame-requires : goal.frame-requires

@@ -1,3 +1,4 @@
+-- `link::fetch` meets its contract: the frame, where nothing is read.
 use mathlib.Core.List.{[]}
 use Rattle.link.proofs.fetch.Goals as goal
 

@@ -1,3 +1,4 @@
+-- `link::fire` meets its contract: the frame, where nothing is read.
 use mathlib.Core.List.{[]}
 use Rattle.link.proofs.fire.Goals as goal
 

@@ -1,3 +1,4 @@
+-- `link::moved` meets its contract: the frame, where nothing is read.
 use mathlib.Core.List.{[]}
 use Rattle.link.proofs.moved.Goals as goal
 

@@ -1,3 +1,4 @@
+-- `link::open` meets its contract: the opening is the rule, and the verdict's number is its first no.
 use mathlib.Core.Path.{ap, ◌∙◌}
 use Rattle.message.specs.Question.{refusal_of}
 use Rattle.message.proofs.QuestionLaws.{number_of_verdict}

@@ -1,3 +1,4 @@
+-- `link::reason` meets its contract, which is that of `reasons::reason`.
 use Rattle.link.proofs.reason.Goals as goal
 
 pub returns : goal.returns

@@ -1,3 +1,4 @@
+-- `link::report` meets its contract: the frame, where nothing is read.
 use mathlib.Core.List.{[]}
 use Rattle.link.proofs.report.Goals as goal
 

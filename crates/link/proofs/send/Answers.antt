@@ -1,3 +1,4 @@
+-- `link::send` meets its contract: the frame, where nothing is read.
 use mathlib.Core.List.{[]}
 use Rattle.link.proofs.send.Goals as goal
 

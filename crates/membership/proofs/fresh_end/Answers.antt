@@ -1,3 +1,4 @@
+-- `membership::fresh_end` meets its contract: the fresh end with the eight unheard sources.
 use Rattle.membership.proofs.fresh_end.Goals as goal
 
 pub returns : goal.returns

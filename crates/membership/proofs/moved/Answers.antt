@@ -1,3 +1,4 @@
+-- `membership::moved` meets its contract: the status says which case of `move_of` holds.
 use mathlib.Core.Path.{sym, ◌∙◌}
 use Rattle.end.specs.declared.Answer.TheVariants as answer
 use Rattle.membership.proofs.MoveLaws.{move-done, move-ignored}

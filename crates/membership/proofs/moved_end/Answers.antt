@@ -1,3 +1,4 @@
+-- `membership::moved_end` meets its contract: the status is the move's, and the sources are forgotten where the move says so.
 use mathlib.Core.Path.{◌≡◌, sym, subst}
 use Prim.Native.Nat.{◌<◌}
 use Rattle.end.specs.declared.End.{End}

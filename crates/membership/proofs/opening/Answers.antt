@@ -1,3 +1,4 @@
+-- `membership::opening` meets its contract: the answers to questions 12, 13 and 14 say which case of `opening_of` holds.
 use Rattle.membership.proofs.MoveLaws.{open_idle, open_14, open_13, open_12}
 use Rattle.membership.proofs.opening.Goals as goal
 

@@ -1,3 +1,4 @@
+-- `membership::params_open` meets its contract: both lists of tests, the second where the first holds.
 use mathlib.Core.Path.{ap, sym, ◌∙◌}
 use mathlib.Core.Bool.{Bool, ◌&&◌}
 use Rattle.end.specs.Sound.{all_of}

@@ -1,3 +1,4 @@
+-- `membership::refused_opening` meets its contract: the verdict beside the fresh end of host 0.
 use Rattle.message.specs.declared.Verdict.TheVariants.{Refused}
 use Rattle.membership.proofs.refused_opening.Goals as goal
 

@@ -1,3 +1,4 @@
+-- `membership::unheard_sources` meets its contract: eight alike sources, and one of them set.
 use mathlib.Core.Path.{ap, ◌∙◌}
 use lib.ListN.{set, replicate}
 use Rattle.end.specs.declared.Source.{Source}

@@ -1,3 +1,4 @@
+-- `membership::without_heard` meets its contract: the end with the eight unheard sources.
 use mathlib.Core.Path.{ap}
 use mathlib.Core.List.{List}
 use Rattle.end.specs.declared.Source.{Source}

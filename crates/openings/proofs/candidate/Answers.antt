@@ -1,3 +1,4 @@
+-- `openings::candidate` meets its contract: the four cases of the definition.
 use mathlib.Core.Path.{sym, ◌∙◌}
 use Rattle.openings.proofs.Tests.{not-begun, today, over, tomorrow}
 use Rattle.openings.proofs.candidate.Goals as goal

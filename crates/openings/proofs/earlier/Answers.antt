@@ -1,3 +1,4 @@
+-- `openings::earlier` meets its contract: the answer so far is the one that was matched.
 use mathlib.Core.Path.{sym, ap, ◌∙◌}
 use Rattle.openings.specs.declared.Opening.{Opening}
 use Rattle.openings.specs.Find.{earlier_of}

@@ -1,3 +1,4 @@
+-- `openings::earlier_than` meets its contract: the window's answer is the one that was matched.
 use mathlib.Core.Path.{sym, ap, ◌∙◌}
 use Rattle.openings.specs.declared.Opening.TheVariants.{At}
 use Rattle.openings.specs.Find.{earlier_of}

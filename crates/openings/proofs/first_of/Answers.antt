@@ -1,3 +1,4 @@
+-- `openings::first_of` meets its contract: the order decides.
 use mathlib.Core.Path.{sym, ◌∙◌}
 use Rattle.openings.proofs.first_of.Goals as goal
 

@@ -1,3 +1,4 @@
+-- `openings::is_before` meets its contract: the dates decide, and on one day the minutes.
 use mathlib.Core.Path.{sym, ◌∙◌}
 use Rattle.openings.proofs.Tests.{later_day, earlier_day, same_day}
 use Rattle.openings.proofs.is_before.Goals as goal

@@ -1,3 +1,4 @@
+-- `openings::lasts` meets its contract: the dates are over, or the minute decides.
 use mathlib.Core.Path.{sym, ◌∙◌}
 use Rattle.openings.proofs.Tests.{dates-over, by_minute}
 use Rattle.openings.proofs.lasts.Goals as goal

@@ -1,3 +1,4 @@
+-- `openings::window_exists` meets its contract: each test that fails is one of the definition's.
 use mathlib.Core.Path.{sym, ◌∙◌}
 use native.Mathlib.Omega.{arith}
 use Rattle.openings.proofs.Tests.{bad_first, bad_last, bad_span, no_minutes, by_end}

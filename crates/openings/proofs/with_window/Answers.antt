@@ -1,3 +1,4 @@
+-- `openings::with_window` meets its contract: a window that does not exist refuses, another is searched.
 use mathlib.Core.Path.{sym, ◌∙◌}
 use Rattle.openings.proofs.Tests.{bad_window, good_window}
 use Rattle.openings.proofs.with_window.Goals as goal

@@ -1,3 +1,4 @@
+-- `panel::panel_write_data` meets its contract: what a message can hold is the writer's to judge, and what it cannot hold is out of range.
 use native.Mathlib.Omega.{arith}
 use lib.ListN.{length}
 use Rattle.panel.proofs.AnswerLaws.{Holds, holds, no_room, out_of_range}

@@ -1,3 +1,4 @@
+-- `panel::write_data` meets its contract: the writer's answer and output, for the message that holds the cue's own bytes.
 use mathlib.Core.Path.{◌≡◌, sym, ◌∙◌}
 use native.Mathlib.Omega.{arith}
 use Rattle.message.specs.Question.{refusal_of}

@@ -1,3 +1,4 @@
+-- `playback::opened` meets its contract: the measure is the hosts that are left. Assumes nothing.
 use Rattle.std.proofs.Common.{◌-◌}
 use Rattle.playback.proofs.opened.Given as goal
 

@@ -1,3 +1,4 @@
+-- `questions::own_refusal` meets its contract: the event that was matched has these questions.
 use mathlib.Core.Path.{◌∙◌}
 use Rattle.message.specs.Question.{read_refusal}
 use Rattle.questions.proofs.own_refusal.Goals as goal

@@ -1,3 +1,4 @@
+-- `questions::refusal` meets its contract: at each return the tests passed so far say which no is the first.
 use borrow.Author.Tests.{le-leb, lt-leb, eq-eqb, ne_eqb}
 use Rattle.end.specs.Event.{question_of}
 use Rattle.questions.proofs.refusal.Goals as goal

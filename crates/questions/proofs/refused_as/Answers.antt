@@ -1,3 +1,4 @@
+-- `questions::refused_as` meets its contract: the state's questions, and then the event's own.
 use Rattle.questions.proofs.refused_as.Goals as goal
 
 pub returns : goal.returns

@@ -1,3 +1,4 @@
+-- `questions::send_refusal` meets its contract: question 6 before question 7.
 use Rattle.questions.proofs.send_refusal.Goals as goal
 
 pub returns : goal.returns

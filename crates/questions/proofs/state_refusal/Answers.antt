@@ -1,3 +1,4 @@
+-- `questions::state_refusal` meets its contract: the questions one before the other.
 use Rattle.questions.proofs.state_refusal.Goals as goal
 
 pub returns : goal.returns

@@ -1,3 +1,4 @@
+-- `reader::counts_refusal` meets its contract: at each return the tests that led there say which of the two questions was the first no.
 use mathlib.Core.Path.{◌≡◌, sym, ◌∙◌}
 use mathlib.Core.Bool.{true, ◌&&◌}
 use mathlib.Core.List.{List}

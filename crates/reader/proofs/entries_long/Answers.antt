@@ -1,3 +1,4 @@
+-- `reader::entries_long` meets its contract: a product of two bytes has sixteen bits.
 use mathlib.Core.Path.{refl}
 use Prim.Native.Nat.{◌*◌, ◌≤◌}
 use native.Mathlib.Nat.{mul-le-mul}

@@ -1,3 +1,4 @@
+-- `reader::read_message` meets its contract: the first no is that of questions 8 and 9, or else that of the message that was loaded.
 use mathlib.Core.Path.{◌≡◌, sym, ap, ◌∙◌}
 use mathlib.Core.List.{List}
 use Prim.Native.Nat.{ℕ, ◌<◌}

@@ -1,3 +1,4 @@
+-- `reasons::fetch_reason` meets its contract: the test is the definition's.
 use mathlib.Core.Path.{sym, ◌∙◌}
 use Rattle.reasons.proofs.fetch_reason.Goals as goal
 

@@ -1,3 +1,4 @@
+-- `reasons::member_reason` meets its contract: only an arrival and a fetch have a reason.
 use mathlib.Core.Path.{subst}
 use Rattle.end.specs.declared.Event.{Event}
 use Rattle.reasons.specs.Reason.{Heard}

@@ -1,3 +1,4 @@
+-- `reasons::reason` meets its contract: the number of the first no, or the reason that the code finds, which is the first that holds.
 use mathlib.Core.Path.{◌≡◌, sym, ap, subst, ◌∙◌}
 use Rattle.message.specs.declared.Reading.{Reading}
 use Rattle.message.specs.Message.{meaning_of}

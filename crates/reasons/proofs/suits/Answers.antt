@@ -1,3 +1,4 @@
+-- `reasons::suits` meets its contract: the event that was matched has this test.
 use Rattle.reasons.proofs.suits.Goals as goal
 
 pub returns-in-Moves : goal.returns-in-Moves

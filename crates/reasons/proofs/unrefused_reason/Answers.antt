@@ -1,3 +1,4 @@
+-- `reasons::unrefused_reason` meets its contract: crashed, wrong status, or what a member has as a reason.
 use mathlib.Core.Path.{sym, ◌∙◌}
 use Rattle.reasons.proofs.unrefused_reason.Goals as goal
 

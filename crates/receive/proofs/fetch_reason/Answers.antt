@@ -1,3 +1,4 @@
+-- `receive::fetch_reason` meets its contract: the test is the definition's.
 use mathlib.Core.Path.{◌≡◌, ◌∙◌}
 use Prim.Native.Nat.{◌<◌}
 use mathlib.Core.Bool.{not, ◌&&◌, ◌||◌}

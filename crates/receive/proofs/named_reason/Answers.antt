@@ -1,3 +1,4 @@
+-- `receive::named_reason` meets its contract: the decision on the word, in the source that it names.
 use Prim.Native.Nat.{◌<◌}
 use Rattle.message.specs.Message.{meaning_of}
 use Rattle.session.proofs.Passes.{in_range_lem}

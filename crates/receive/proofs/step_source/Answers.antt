@@ -1,3 +1,4 @@
+-- `receive::step_source` meets its contract: a message of one's own, a message with a word, or one without.
 use mathlib.Core.Path.{sym, ◌∙◌}
 use Rattle.message.specs.Message.{meaning_of}
 use Rattle.receive.proofs.Passes.{heeds}

@@ -1,3 +1,4 @@
+-- `receive::step_unnamed` meets its contract: kind 22, kind 23, kind 24, or a session message.
 use Rattle.message.specs.Message.{meaning_of}
 use Rattle.message.proofs.QuestionLaws.{counts-small}
 use Rattle.session.proofs.Passes.{in_range_lem}

@@ -1,3 +1,4 @@
+-- `records::express_by_data` meets its contract: one branch for the kept requester, one for the others.
 use Rattle.records.proofs.Steps.{express-set, express_unset}
 use Rattle.records.proofs.express_by_data.Goals as goal
 

@@ -1,3 +1,4 @@
+-- `records::hold_cue` meets its contract: the record with its cue, stored.
 use Rattle.records.proofs.hold_cue.Goals as goal
 
 pub returns : goal.returns

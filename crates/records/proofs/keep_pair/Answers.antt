@@ -1,3 +1,4 @@
+-- `records::keep_pair` meets its contract: the source with the latest pair.
 use Rattle.records.proofs.keep_pair.Goals as goal
 
 pub returns : goal.returns

@@ -1,3 +1,4 @@
+-- `records::latest` meets its contract: the pair is the one that was matched.
 use Rattle.records.proofs.Steps.{latest_new, latest_old}
 use Rattle.records.proofs.latest.Goals as goal
 

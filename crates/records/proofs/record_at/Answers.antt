@@ -1,3 +1,4 @@
+-- `records::record_at` meets its contract: what stands in the number's place, or nothing.
 use Rattle.records.proofs.Steps.{at_in, at_out}
 use Rattle.records.proofs.record_at.Goals as goal
 

@@ -1,3 +1,4 @@
+-- `records::reply_time` meets its contract: the reply with the number's draw.
 use Rattle.records.proofs.reply_time.Goals as goal
 
 pub returns : goal.returns

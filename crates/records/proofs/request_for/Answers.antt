@@ -1,3 +1,4 @@
+-- `records::request_for` meets its contract: the request with the number's draw.
 use Rattle.records.proofs.request_for.Goals as goal
 
 pub returns : goal.returns

@@ -1,3 +1,4 @@
+-- `rises::fresh_record` meets its contract: a blank record with its request.
 use Rattle.rises.proofs.fresh_record.Goals as goal
 
 pub returns : goal.returns

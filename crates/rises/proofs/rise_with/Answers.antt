@@ -1,3 +1,4 @@
+-- `rises::rise_with` meets its contract: the span is the one that was matched.
 use Rattle.end.specs.Names.{rise_with}
 use borrow.Author.Rules.{rules}
 use Rattle.state.proofs.Counted.{count_small}

@@ -1,3 +1,4 @@
+-- `rises::risen` meets its contract: first, last, the count and the new numbers are the rise's.
 use mathlib.Core.Path.{◌≡◌, refl}
 use mathlib.Core.Bool.{true}
 use lib.Dec.{leb}

@@ -1,3 +1,4 @@
+-- `says::cue_of` meets its contract: where the place is used, the cue stands in it.
 use Rattle.says.proofs.Lists.{first_used}
 use Rattle.message.specs.Entry.{blank_cue}
 use mathlib.Core.List.{[], ◌∷◌}

@@ -1,3 +1,4 @@
+-- `says::report_count` meets its contract: the test says whether there are any.
 use Rattle.says.proofs.report_count.Goals as goal
 
 pub returns-then-none : goal.returns-then-none

@@ -1,3 +1,4 @@
+-- `says::requester_in` meets its contract: a REPL has it in its name.
 use Rattle.says.proofs.requester_in.Goals as goal
 
 pub returns-in-Repl : goal.returns-in-Repl

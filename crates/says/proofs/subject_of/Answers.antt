@@ -1,3 +1,4 @@
+-- `says::subject_of` meets its contract: the test says whose source it is.
 use Rattle.says.proofs.subject_of.Goals as goal
 
 pub returns-then-is_about : goal.returns-then-is_about

@@ -1,3 +1,4 @@
+-- `says::word_in` meets its contract: each part is its callee's.
 use Rattle.says.proofs.word_in.Goals as goal
 
 pub returns : goal.returns

@@ -1,3 +1,4 @@
+-- `script::send_of` meets its contract: the focus is the one that was matched.
 use borrow.Author.Rules.{rules}
 use mir.Syntax.{w16}
 use mir.Val.{SFits}

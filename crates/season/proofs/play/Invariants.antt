@@ -1,3 +1,4 @@
+-- `season::play` is safe and ends: the measure is the numbers that are left. Assumes nothing.
 use Prim.Native.Nat.{◌-◌}
 use Rattle.season.proofs.play.Given as goal
 

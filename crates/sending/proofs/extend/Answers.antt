@@ -1,3 +1,4 @@
+-- `sending::extend` meets its contract: the span that was matched decides.
 use Rattle.sending.proofs.SendLaws.{first-sent, later-sent}
 use Rattle.sending.proofs.extend.Goals as goal
 

@@ -1,3 +1,4 @@
+-- `sending::send` meets its contract: the cue goes out as DATA, and the own source and the next number are the definition's.
 use mathlib.Core.Path.{subst}
 use mathlib.Core.List.{[], ◌∷◌}
 use Prim.Native.Nat.{◌+◌}

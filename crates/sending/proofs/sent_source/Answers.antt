@@ -1,3 +1,4 @@
+-- `sending::sent_source` meets its contract: the own source with its last risen and the cue held.
 use Rattle.sending.proofs.sent_source.Goals as goal
 
 pub returns : goal.returns

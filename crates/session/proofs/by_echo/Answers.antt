@@ -1,3 +1,4 @@
+-- `session::by_echo` meets its contract: the test says whether the echo measures.
 use Prim.Native.Nat.{◌+◌, ◌<◌}
 use native.Mathlib.Omega.{arith}
 use lib.Dec.{eqb}

@@ -1,3 +1,4 @@
+-- `session::report` meets its contract: the test says whether the source rises.
 use Rattle.session.proofs.report.Goals as goal
 
 pub returns-then-above : goal.returns-then-above

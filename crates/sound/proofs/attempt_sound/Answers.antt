@@ -1,3 +1,4 @@
+-- `sound::attempt_sound` meets its contract: one branch for a number that may be fetched, one for any other.
 use Rattle.sound.proofs.attempt_sound.Goals as goal
 
 pub returns-then-may : goal.returns-then-may

@@ -1,3 +1,4 @@
+-- `sound::cue_sound` meets its contract: the array has its length, and the rest is the cue test.
 use mathlib.Core.Path.{◌≡◌}
 use lib.ListN.{length}
 use borrow.Author.Tests.{eq-eqb}

@@ -1,3 +1,4 @@
+-- `sound::heard_sound` meets its contract: a heard stamp is the one that was matched.
 use Rattle.sound.proofs.heard_sound.Goals as goal
 
 pub returns-in-At : goal.returns-in-At

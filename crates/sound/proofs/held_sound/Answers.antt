@@ -1,3 +1,4 @@
+-- `sound::held_sound` meets its contract: the tests' equations, side by side.
 use Rattle.sound.proofs.held_sound.Goals as goal
 
 pub returns : goal.returns

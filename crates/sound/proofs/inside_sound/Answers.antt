@@ -1,3 +1,4 @@
+-- `sound::inside_sound` meets its contract: the slot is the one that was matched.
 use Rattle.sound.proofs.inside_sound.Goals as goal
 
 pub returns-in-Held : goal.returns-in-Held

@@ -1,3 +1,4 @@
+-- `sound::non_member_sound` meets its contract: the tests' equations, side by side.
 use Rattle.sound.proofs.non_member_sound.Goals as goal
 
 pub returns : goal.returns

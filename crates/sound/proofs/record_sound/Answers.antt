@@ -1,3 +1,4 @@
+-- `sound::record_sound` meets its contract: one branch inside first..last, one outside.
 use Rattle.sound.proofs.record_sound.Goals as goal
 
 pub returns-then-is_within : goal.returns-then-is_within

@@ -1,3 +1,4 @@
+-- `sound::reply_sound` meets its contract: the reply is the one that was matched.
 use Rattle.sound.proofs.reply_sound.Goals as goal
 
 pub returns-in-Due : goal.returns-in-Due

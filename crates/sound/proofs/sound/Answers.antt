@@ -1,3 +1,4 @@
+-- `sound::sound` meets its contract: the sources have their length, and the tests' equations stand side by side.
 use mathlib.Core.Path.{◌≡◌}
 use lib.ListN.{length}
 use borrow.Author.Tests.{eq-eqb}

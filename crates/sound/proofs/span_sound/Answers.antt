@@ -1,3 +1,4 @@
+-- `sound::span_sound` meets its contract: the span is the one that was matched.
 use Rattle.sound.proofs.span_sound.Goals as goal
 
 pub returns-in-Closed : goal.returns-in-Closed

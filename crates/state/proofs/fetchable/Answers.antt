@@ -1,3 +1,4 @@
+-- `state::fetchable` meets its contract: the first original is the one that was matched.
 use Rattle.state.proofs.fetchable.Goals as goal
 
 pub returns-in-From : goal.returns-in-From

@@ -1,3 +1,4 @@
+-- `state::is_within` meets its contract: the span is the one that was matched.
 use Rattle.state.proofs.Spans.{open_within}
 use Rattle.state.proofs.is_within.Goals as goal
 

@@ -1,3 +1,4 @@
+-- `state::with_express` meets its contract: each arm's slot is the one that was matched.
 use Rattle.state.proofs.with_express.Goals as goal
 
 pub returns-in-Held : goal.returns-in-Held

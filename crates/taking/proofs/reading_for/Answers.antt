@@ -1,3 +1,4 @@
+-- `taking::reading_for` meets its contract: the event that was matched decides.
 use Rattle.taking.proofs.reading_for.Goals as goal
 
 pub returns-in-Moves : goal.returns-in-Moves

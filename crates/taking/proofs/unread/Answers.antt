@@ -1,3 +1,4 @@
+-- `taking::unread` meets its contract: nothing is refused, beside a blank message.
 use Rattle.message.specs.declared.Verdict.TheVariants.{Accepted}
 use Rattle.taking.proofs.unread.Goals as goal
 

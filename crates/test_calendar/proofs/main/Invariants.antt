@@ -1,3 +1,4 @@
+-- `test_calendar::main` is safe and ends: the measure is the number of days that are left.
 use Rattle.test_calendar.proofs.main.Given as goal
 
 abbrev pub invariant-loop-left : goal.invariant-loop-left

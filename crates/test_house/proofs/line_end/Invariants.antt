@@ -1,3 +1,4 @@
+-- `test_house::line_end` meets its contract: it stays within the bytes.
 use Rattle.std.proofs.Common.{◌-◌, ◌≤◌, ◌<◌, length}
 use Rattle.test_house.proofs.line_end.Given as goal
 

@@ -1,3 +1,4 @@
+-- `test_house::play_all` is safe and ends: each script starts after the last.
 use Rattle.std.proofs.Common.{◌-◌, length}
 use Rattle.test_house.proofs.play_all.Given as goal
 

@@ -1,3 +1,4 @@
+-- `test_house::play_in` meets its contract: what is printed stays within its buffer. The measure is the number of calls that are left.
 use Rattle.std.proofs.Common.{◌≤◌, ◌≡◌, length}
 use Rattle.test_house.proofs.play_in.Given as goal
 

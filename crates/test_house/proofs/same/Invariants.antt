@@ -1,3 +1,4 @@
+-- `test_house::same` is safe and ends: both buffers have the bytes that are compared.
 use Rattle.std.proofs.Common.{◌-◌, ◌≤◌, length}
 use Rattle.test_house.proofs.same.Given as goal
 

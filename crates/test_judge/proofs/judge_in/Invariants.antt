@@ -1,3 +1,4 @@
+-- `test_judge::judge_in` is safe and ends: the pieces are within the record.
 use Rattle.std.proofs.Common.{◌≤◌, length}
 use Rattle.test_judge.proofs.judge_in.Given as goal
 

@@ -1,3 +1,4 @@
+-- `test_judge::record_end` meets its contract: it stays within the bytes.
 use Rattle.std.proofs.Common.{◌-◌, ◌≤◌, length}
 use Rattle.test_judge.proofs.record_end.Given as goal
 

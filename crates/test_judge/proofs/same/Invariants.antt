@@ -1,3 +1,4 @@
+-- `test_judge::same` is safe and ends: both have 32 bytes.
 use Rattle.std.proofs.Common.{◌-◌}
 use Rattle.test_judge.proofs.same.Given as goal
 

@@ -1,3 +1,4 @@
+-- `timetable::added` meets its contract: there is a place, or there is none.
 use native.Mathlib.Omega.{arith}
 use Rattle.timetable.proofs.PlayLaws.{added_more, added_full}
 use Rattle.timetable.proofs.added.Goals as goal

@@ -1,3 +1,4 @@
+-- `timetable::end_line` meets its contract: what the line leaves, and no byte of the next one.
 use mathlib.Core.List.{[]}
 use Rattle.timetable.proofs.end_line.Goals as goal
 

@@ -1,3 +1,4 @@
+-- `timetable::longer` meets its contract: one byte more.
 use mathlib.Core.Path.{ap}
 use mathlib.Core.Bool.{false}
 use mathlib.Core.List.{List}

@@ -1,3 +1,4 @@
+-- `timetable::meaning` meets its contract: the bytes that are read are within the buffer.
 use native.Mathlib.Omega.{arith}
 use mathlib.Core.Path.{sym, ap, ◌∙◌}
 use Prim.Native.Nat.{ℕ}

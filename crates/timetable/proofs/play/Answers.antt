@@ -1,3 +1,4 @@
+-- `timetable::play` meets its contract: the line is the one that was matched.
 use mathlib.Core.Path.{refl}
 use Rattle.timetable.proofs.PlayLaws.{put-none}
 use Rattle.timetable.proofs.play.Goals as goal

@@ -1,3 +1,4 @@
+-- `timetable::play_next` meets its contract: what is printed is the answer of the search.
 use mathlib.Core.Path.{refl, ap}
 use Rattle.answers.proofs.PutLaws.{put_same}
 use Rattle.entries.specs.Print.{opening_line}

@@ -1,3 +1,4 @@
+-- `timetable::take_byte` meets its contract: the line ends, goes on, or is too long.
 use native.Mathlib.Omega.{arith}
 use mathlib.Core.Path.{◌≡◌, refl}
 use lib.ListN.{length, length-take}

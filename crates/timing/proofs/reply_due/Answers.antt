@@ -1,3 +1,4 @@
+-- `timing::reply_due` meets its contract: the products' equations, one in the other.
 use Rattle.timing.proofs.reply_due.Goals as goal
 
 pub returns : goal.returns

@@ -1,3 +1,4 @@
+-- `transmit::announced_answer` meets its contract: the span that was matched decides.
 use mathlib.Core.Path.{refl}
 use Rattle.end.specs.Answer.{answer_of, buffer_of}
 use Rattle.transmit.proofs.announced_answer.Goals as goal

@@ -1,3 +1,4 @@
+-- `transmit::asked_source` meets its contract: the rank decides.
 use borrow.Author.Tests.{eq-eqb, ne_eqb}
 use Rattle.transmit.proofs.asked_source.Goals as goal
 

@@ -1,3 +1,4 @@
+-- `transmit::fire` meets its contract: the earliest wait is chosen, goes out, and its source is the definition's.
 use mathlib.Core.Path.{refl, sym, subst}
 use Prim.Native.Nat.{◌<◌}
 use native.Mathlib.Omega.{arith}

@@ -1,3 +1,4 @@
+-- `transmit::fired_answer` meets its contract: the slot that was matched decides.
 use mathlib.Core.Path.{refl}
 use Rattle.end.specs.Answer.{answer_of, buffer_of}
 use Rattle.transmit.proofs.fired_answer.Goals as goal

@@ -1,3 +1,4 @@
+-- `transmit::fired_source` meets its contract: the slot that was matched decides.
 use Rattle.transmit.proofs.fired_source.Goals as goal
 
 pub quiet_reply-requires : goal.quiet_reply-requires

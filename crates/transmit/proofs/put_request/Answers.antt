@@ -1,3 +1,4 @@
+-- `transmit::put_request` meets its contract: the rank decides.
 use borrow.Author.Tests.{eq-eqb, ne_eqb}
 use Rattle.transmit.proofs.put_request.Goals as goal
 

@@ -1,3 +1,4 @@
+-- `transmit::rank_of` meets its contract: the wait is the one that was matched.
 use Rattle.transmit.proofs.rank_of.Goals as goal
 
 pub returns-in-NoWait : goal.returns-in-NoWait

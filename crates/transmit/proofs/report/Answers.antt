@@ -1,3 +1,4 @@
+-- `transmit::report` meets its contract: the session message goes out, and the end stays.
 use mathlib.Core.Path.{refl, subst}
 use Rattle.message.specs.Message.{Meaning, bytes_of}
 use Rattle.end.specs.Answer.{Out}

@@ -1,3 +1,4 @@
+-- `windows::play_piece` meets its contract: each call takes bytes of the piece, until there are none or the run has stopped.
 use Rattle.windows.proofs.PieceLaws.{none-taken, all-taken, more-taken}
 use Rattle.windows.proofs.play_piece.Goals as goal
 

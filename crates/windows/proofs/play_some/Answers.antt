@@ -1,3 +1,4 @@
+-- `windows::play_some` meets its contract: the output has room for a line, so that bytes are taken.
 use native.Mathlib.Omega.{arith}
 use Rattle.windows.proofs.PieceLaws.{some-taken}
 use Rattle.windows.proofs.play_some.Goals as goal

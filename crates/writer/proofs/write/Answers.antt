@@ -1,3 +1,4 @@
+-- `writer::write` meets its contract: the first no decides, and without one the message is put out.
 use mathlib.Core.Path.{◌≡◌, sym, ◌∙◌}
 use native.Mathlib.Omega.{arith}
 use Rattle.message.specs.Message.{Saying}

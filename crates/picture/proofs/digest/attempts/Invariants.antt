@@ -1,3 +1,4 @@
+-- `picture::digest::attempts` meets its contract: the measure is the places that are left. Assumes nothing.
 use Rattle.std.proofs.Common.{◌-◌}
 use Rattle.picture.proofs.digest.attempts.Given as goal
 

@@ -1,3 +1,4 @@
+-- `picture::digest::end` meets its contract: the measure is the sources that are left. Assumes nothing.
 use Rattle.std.proofs.Common.{◌-◌}
 use Rattle.picture.proofs.digest.end.Given as goal
 

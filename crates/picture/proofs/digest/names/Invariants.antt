@@ -1,3 +1,4 @@
+-- `picture::digest::names` meets its contract: the measure is the records that are left. Assumes nothing.
 use Rattle.std.proofs.Common.{◌-◌}
 use Rattle.picture.proofs.digest.names.Given as goal
 

@@ -1,3 +1,4 @@
+-- `picture::same::ends` meets its contract: the measure is the sources that are left. Assumes nothing.
 use Rattle.std.proofs.Common.{◌-◌}
 use Rattle.picture.proofs.same.ends.Given as goal
 

@@ -1,3 +1,4 @@
+-- `picture::same::names` meets its contract: the measure is the records that are left. Assumes nothing.
 use Rattle.std.proofs.Common.{◌-◌}
 use Rattle.picture.proofs.same.names.Given as goal
 

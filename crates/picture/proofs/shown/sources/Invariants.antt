@@ -1,3 +1,4 @@
+-- `picture::shown::sources` meets its contract: the measure is the sources that are left. Assumes nothing.
 use Rattle.std.proofs.Common.{◌-◌}
 use Rattle.picture.proofs.shown.sources.Given as goal
 

@@ -1,3 +1,4 @@
+-- `picture::text::digits` meets its contract: the measure is the bytes that are left. Assumes nothing.
 use Rattle.std.proofs.Common.{◌-◌}
 use Rattle.picture.proofs.text.digits.Given as goal
 

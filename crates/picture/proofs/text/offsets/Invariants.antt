@@ -1,3 +1,4 @@
+-- `picture::text::offsets` meets its contract: the measure is the offsets that are left. Assumes nothing.
 use Rattle.std.proofs.Common.{◌-◌}
 use Rattle.picture.proofs.text.offsets.Given as goal
 

@@ -1,3 +1,4 @@
+-- `picture::text::row` meets its contract: the measure is the numbers that are left. Assumes nothing.
 use Rattle.std.proofs.Common.{◌-◌}
 use Rattle.picture.proofs.text.row.Given as goal
 

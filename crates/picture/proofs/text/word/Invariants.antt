@@ -1,3 +1,4 @@
+-- `picture::text::word` meets its contract: the measure is the bytes that are left. Assumes nothing.
 use Rattle.std.proofs.Common.{◌-◌}
 use Rattle.picture.proofs.text.word.Given as goal
 

@@ -1,3 +1,4 @@
+-- `playback::play::is_met` meets its contract: the measure is the bytes that are left. Assumes nothing.
 use Rattle.std.proofs.Common.{◌-◌}
 use Rattle.playback.proofs.play.is_met.Given as goal
 

@@ -1,3 +1,4 @@
+-- `viewing::answer::put_front` meets its contract: the measure is the bytes that are left. Counting starts at 1. Assumes nothing.
 use Rattle.std.proofs.Common.{◌-◌, ◌≤◌}
 use Rattle.viewing.proofs.answer.put_front.Given as goal
 

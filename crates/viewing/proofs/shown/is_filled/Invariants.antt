@@ -1,3 +1,4 @@
+-- `viewing::shown::is_filled` meets its contract: the measure is the bytes that are left. Assumes nothing.
 use Rattle.std.proofs.Common.{◌-◌}
 use Rattle.viewing.proofs.shown.is_filled.Given as goal
 

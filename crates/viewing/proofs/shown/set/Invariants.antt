@@ -1,3 +1,4 @@
+-- `viewing::shown::set` meets its contract: the measure is the places that are left. Assumes nothing.
 use Rattle.std.proofs.Common.{◌-◌}
 use Rattle.viewing.proofs.shown.set.Given as goal
 

@@ -5,7 +5,7 @@ use native.Mathlib.Nat.{pow-suc, pow-zero, pow-le-pow_right, lt_of_lt_of_le, div
 use native.Mathlib.Numerals.{add-one, sub-one}
 use native.Mathlib.Omega.{arith}
 use mathlib.Core.List.{List, [], ◌∷◌, ◌++◌, append_assoc}
-use lib.ListN.{length, take, drop, get_or, length-append, length-drop, length-set, set, take-append-drop}
+use lib.ListN.{length, take, drop, get_or, length-append, length-set, set, take-append-drop}
 use lib.Seq.{take-suc, take_all, length-take-le, get_or-drop, drop-cons, get_or-set_same, drop-set-lt, take-set-le}
 use lib.Arith.{digits_lt, digits_div, digits_mod}
 use Rattle.numbers.specs.Number.{value_after, value, digits, Bytes}
@@ -86,37 +86,22 @@ unfolding digits
 bytes-digits zero n i = omega arith
 bytes-digits (suc w) n i = bytes_snoc (digits w (n / 256)) (n % 256) (bytes-digits w (n / 256)) (omega arith) i
 
--- ---- a loop that reads w bytes of s from `at` on: v is what the first i of them stand for
+-- ---- a loop that reads a number byte by byte: v is what the first i bytes of s stand for
 
-pub record ReadSoFar (s : List ℕ) (at w v i : ℕ) : Type 0 where
-  pub within : i ≤ w
-  pub reads : Reads s at i v
-
-pub read_start : (s : List ℕ) (at w : ℕ) → ReadSoFar s at w 0 0
+pub read_start : (s : List ℕ) → Reads s 0 0 0
 unfolding value_after
-read_start s at w = record { within = omega arith; reads = record { number = refl; below = omega (arith, pow-zero 256) } }
+read_start s = record { number = refl; below = omega (arith, pow-zero 256) }
+
+-- of at most six bytes, before the last: one byte more leaves the number within 64 bits
+pub read_small : {s : List ℕ} {i v : ℕ} → Reads s 0 i v → i < 6 → v < 1099511627776
+read_small {s} {i} l h = lt_of_lt_of_le l.below (pow-le-pow_right {n = 256} (omega arith) {i = i} {j = 5} (omega arith))
 
 -- one byte more is read
-value-step : (s : List ℕ) (at i : ℕ) → at + i < length s → value (take (i + 1) (drop at s)) ≡ value (take i (drop at s)) * 256 + get_or s (at + i) 0
-value-step s at i h =
-    let k : i < length (drop at s) = simp length-drop (omega arith) in
-    ap value (rw (add-one, take-suc (drop at s) i 0, get_or-drop)) ∙ value_snoc (take i (drop at s)) (get_or s (at + i) 0)
-
-module _ {s : List ℕ} {at w v i : ℕ} (l : ReadSoFar s at w v i) where
-  -- in a turn the number is below 256 ^ 5, so that one byte more leaves it within 64 bits
-  pub read_small : i < w → w ≤ 6 → v < 1099511627776
-  read_small h k = lt_of_lt_of_le l.reads.below (pow-le-pow_right {n = 256} (omega arith) {i = i} {j = 5} (omega arith))
-
-  pub read_next : {b : ℕ} → i < w → at + w ≤ length s → b ≡ get_or s (at + i) 0 → b < 256 → ReadSoFar s at w (v * 256 + b) (i + 1)
-  read_next h k e f =
-      let more : 256 ^ (i + 1) ≡ 256 ^ i * 256 = ap (λ (n : ℕ). 256 ^ n) (add-one i) ∙ pow-suc 256 i in
-      let number = (λ j. l.reads.number j * 256 + e j) ∙ sym (value-step s at i (omega arith)) in
-      record { within = omega arith; reads = record { number = number; below = rw more (digits_lt l.reads.below f) } }
-
-  pub read_all : w ≤ i → Reads s at w v
-  read_all h =
-      let e : i ≡ w = omega (arith, l.within) in
-      rw (← e) l.reads
+pub read_next : {s : List ℕ} {i v b : ℕ} → Reads s 0 i v → i < length s → b ≡ get_or s i 0 → b < 256 → Reads s 0 (i + 1) (v * 256 + b)
+read_next {s} {i} {v} {b} l h e f =
+    let more : 256 ^ (i + 1) ≡ 256 ^ i * 256 = ap (λ (n : ℕ). 256 ^ n) (add-one i) ∙ pow-suc 256 i in
+    let step : value (take (i + 1) s) ≡ value (take i s) * 256 + get_or s i 0 = ap value (rw (add-one, take-suc s i 0 h)) ∙ value_snoc (take i s) (get_or s i 0) in
+    record { number = (λ j. l.number j * 256 + e j) ∙ sym step; below = rw more (digits_lt l.below f) }
 
 -- ---- a loop that writes the last w bytes of v from the last one on: i of them are left, those of n
 

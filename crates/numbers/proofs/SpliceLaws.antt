@@ -1,12 +1,13 @@
 -- The laws of `splice`.
-use mathlib.Core.Path.{◌≡◌, refl, sym, ap, ◌∙◌}
-use Prim.Native.Nat.{ℕ, ◌+◌, ◌≤◌, ◌<◌}
+use mathlib.Core.Path.{◌≡◌, sym, ap, ◌∙◌}
+use Prim.Native.Nat.{ℕ, ◌+◌, ◌-◌, ◌≤◌, ◌<◌}
 use native.Mathlib.Nat.{add-zero, zero-add}
 use native.Mathlib.Numerals.{add-one}
 use native.Mathlib.Omega.{arith}
 use mathlib.Core.List.{List, [], ◌∷◌, ◌++◌, append_assoc}
-use lib.ListN.{length, take, drop, get_or, set, length-set, length-append, length-drop, take-append-drop}
-use lib.Seq.{length-take-le, take-length, take-suc, set_split, take_at, drop_at, drop-drop}
+use borrow.Rule.Slice.PartMut.{put_mid, post_of, Post-is}
+use lib.ListN.{length, take, drop, set, length-append, length-drop, take-append-drop}
+use lib.Seq.{length-take-le, set_split, take_at, drop_at, drop-drop}
 use Rattle.numbers.specs.Splice.{splice}
 
 pub splice_nil : (at : ℕ) (out : List ℕ) → splice at [] out ≡ out
@@ -55,26 +56,9 @@ put-store {one} out at n a x e h p =
     let l : length one ≡ length out = ap length p ∙ length-splice at a out (omega arith) in
     put_next out at n a (x ∷ []) e (omega arith) p (splice-one n x one (omega arith))
 
--- ---- a loop that copies the bytes of b to `at` on: i of them are there
-pub record CopiedSoFar (at : ℕ) (b start out : List ℕ) (i : ℕ) : Type 0 where
-  pub within : i ≤ length b
-  pub same : length out ≡ length start
-  pub copied : out ≡ splice at (take i b) start
-
-pub copy_start : (at : ℕ) (b start : List ℕ) → CopiedSoFar at b start start 0
-copy_start at b start = record { within = omega arith; same = refl; copied = sym (splice_nil at start) }
-
-module _ {at : ℕ} {b start out : List ℕ} {i : ℕ} (l : CopiedSoFar at b start out i) where
-  pub copy_next : i < length b → at + length b ≤ length start → CopiedSoFar at b start (set out (at + i) (get_or b i 0)) (i + 1)
-  copy_next h k =
-      let n : length (take i b) ≡ i = length-take-le i b (omega arith) in
-      record {
-        within = omega arith;
-        same = simp length-set l.same;
-        copied = rw (add-one, take-suc b i 0 h) (put-store start at (at + i) (take i b) (get_or b i 0) (rw n) (omega arith) l.copied);
-      }
-
-  pub copy_all : length b ≤ i → out ≡ splice at b start
-  copy_all h =
-      let e : i ≡ length b = omega (arith, l.within) in
-      l.copied ∙ ap (λ (t : List ℕ). splice at t start) (ap (λ (k : ℕ). take k b) e ∙ take-length b)
+-- a part of a slice written over: the bytes from `at` to e
+pub splice_put : (at e : ℕ) {b ys : List ℕ} (out : List ℕ) → e ≡ at + length b → ys ≡ b → put_mid at (e - at) out ys ≡ splice at b out
+unfolding splice
+splice_put at e {b} out h p =
+    ap (λ (l : List ℕ). take at out ++ (l ++ post_of at (e - at) out)) p
+    ∙ ap (λ (l : List ℕ). take at out ++ (b ++ l)) (Post-is at e out (omega arith) ∙ ap (λ (n : ℕ). drop n out) h)

@@ -20,6 +20,7 @@ pub fn with(set: u64, i: u64) -> u64
 }
 
 // Whether the host h, one of eight, is in the set.
+// Kept: (d) these two are calls of the two above already; one generic function would need the fact that its integer is a u64, in more words.
 pub fn has_host(set: u8, h: u8) -> bool
     requires { h < 8 }
     ensures { result ≡ bit set h }

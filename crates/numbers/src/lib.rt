@@ -10,13 +10,6 @@ ghost use Rattle.numbers.specs.Reads.{Reads};
 ghost use Rattle.numbers.specs.Signed.{signed, unsigned};
 ghost use Rattle.numbers.specs.Splice.{splice};
 
-// A byte as a number.
-fn wide(byte: u8) -> u64
-    ensures { (result ≡ byte) × (result < 256) }
-{
-    byte as u64
-}
-
 // The number that the w bytes from `at` stand for. Six bytes are the widest that a message has.
 pub fn read_be(s: &[u8], at: usize, w: usize) -> u64
     requires w_bound { w ≤ 6 }
@@ -24,10 +17,8 @@ pub fn read_be(s: &[u8], at: usize, w: usize) -> u64
     ensures { Reads s.now at w result }
 {
     let mut v: u64 = 0;
-    let mut i: usize = 0;
-    while i < w {
-        v = v * 256 + wide(s[at + i]);
-        i += 1;
+    for byte in &s[at..at + w] {
+        v = v * 256 + u64::from(*byte);
     }
     v
 }
@@ -46,11 +37,9 @@ pub fn put_be(out: &mut [u8], at: usize, w: usize, v: u64)
     ensures { out.new ≡ splice at (digits w v) out.old }
 {
     let mut n = v;
-    let mut i = w;
-    while 0 < i {
-        i -= 1;
+    for i in (0..w).rev() {
         out[at + i] = (n % 256) as u8;
-        n = n / 256;
+        n /= 256;
     }
 }
 
@@ -59,11 +48,7 @@ pub fn put_bytes(out: &mut [u8], at: usize, b: &[u8])
     requires { at + length b.now ≤ length out.old }
     ensures { out.new ≡ splice at b.now out.old }
 {
-    let mut i: usize = 0;
-    while i < b.len() {
-        out[at + i] = b[i];
-        i += 1;
-    }
+    out[at..at + b.len()].copy_from_slice(b);
 }
 
 // Two bytes as an unsigned number.
@@ -78,22 +63,14 @@ pub fn read_u16(s: &[u8], at: usize) -> u16
 pub fn to_i16(v: u16) -> i16
     ensures { result ≡ signed v }
 {
-    if v < 32768 {
-        v as i16
-    } else {
-        -1 - ((65535 - v) as i16)
-    }
+    v.cast_signed()
 }
 
 // The 16 bits of a signed number.
 pub fn of_i16(z: i16) -> u16
     ensures { result ≡ unsigned z }
 {
-    if 0 <= z {
-        z as u16
-    } else {
-        65535 - ((-1 - z) as u16)
-    }
+    z.cast_unsigned()
 }
 
 // Two bytes as a signed number: FF FE is −2.

@@ -7,8 +7,7 @@ use Rattle.message.specs.declared.Name.{Name}
 use Rattle.message.specs.declared.NameEntry.{NameEntry}
 use Rattle.message.specs.Entry.{as_host}
 use Rattle.message.specs.Question.{host_in, same_host}
-use Rattle.end.specs.declared.Nearest.{Nearest}
-use Rattle.end.specs.declared.Nearest.TheVariants.{Nobody}
+use Rattle.end.specs.Parts.{Nearest, Nobody}
 use Rattle.end.specs.declared.Source.{Source}
 use Rattle.end.specs.State.{no_source}
 use Rattle.end.specs.Records.{fetchable, attempt_at}

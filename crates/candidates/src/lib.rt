@@ -51,8 +51,8 @@ fn reported_by(heard: Heard, source: Host) -> bool
     ensures { result ≡ reported_by heard source }
 {
     match heard {
-        Heard::Never => false,
-        Heard::At(_, _, reported) => numbers::bits::has_host(reported, source.0),
+        None => false,
+        Some((_, _, reported)) => numbers::bits::has_host(reported, source.0),
     }
 }
 
@@ -61,12 +61,12 @@ fn nearer(best: Nearest, h: Host, d: u64) -> Nearest
     ensures { result ≡ nearer best h d }
 {
     match best {
-        Nearest::Nobody => Nearest::Found(h, d),
-        Nearest::Found(k, least) => {
+        None => Some((h, d)),
+        Some((k, least)) => {
             if d < least {
-                Nearest::Found(h, d)
+                Some((h, d))
             } else {
-                Nearest::Found(k, least)
+                Some((k, least))
             }
         }
     }
@@ -92,7 +92,7 @@ pub fn nearest(me: Host, sources: [Source; 8], source: Host, tried: Hosts) -> Ne
     requires { source.0 < host_limit }
     ensures { result ≡ nearest_of me sources source tried host_limit }
 {
-    let mut best = Nearest::Nobody;
+    let mut best = None;
     let mut h: usize = 0;
     while h < 8 {
         let s = sources[h];

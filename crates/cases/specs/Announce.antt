@@ -10,7 +10,7 @@ use Rattle.message.specs.declared.Verdict.TheVariants.{Accepted}
 use Rattle.end.specs.declared.Move.TheVariants.{Join, Joined, Leave, Left}
 use Rattle.end.specs.declared.Reason.TheVariants as reason
 use Rattle.end.specs.declared.Why.TheVariants.{Because, NoReason}
-use Rattle.end.specs.declared.Span.TheVariants.{Open}
+use Rattle.end.specs.Parts.{Open}
 use Rattle.end.specs.declared.Status.{Status}
 use Rattle.end.specs.declared.Status.TheVariants.{Idle, Joining, Member, Leaving, Crashed}
 use Rattle.end.specs.State.{source_at, with_clock}

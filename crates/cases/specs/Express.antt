@@ -5,8 +5,7 @@ use Rattle.message.specs.Entry.{as_host, as_number}
 use Rattle.message.specs.Message.{DATA, RQST, REPL, XPRS}
 use Rattle.message.specs.declared.Verdict.TheVariants.{Accepted}
 use Rattle.end.specs.declared.Answer.TheVariants as answer
-use Rattle.end.specs.declared.Pair.{Pair}
-use Rattle.end.specs.declared.Pair.TheVariants.{NoPair, Kept}
+use Rattle.end.specs.Parts.{Pair, NoPair, Kept}
 use Rattle.end.specs.declared.Params.{Params}
 use Rattle.end.specs.declared.Status.TheVariants.{Idle}
 use Rattle.end.specs.declared.Move.TheVariants.{Join, Joined, Leave, Crash}

@@ -5,7 +5,7 @@ use Rattle.message.specs.Entry.{as_host, as_number}
 use Rattle.message.specs.Message.{DATA, SESS, FTCH, LATE, bytes_of}
 use Rattle.message.specs.declared.Report.{Report}
 use Rattle.message.specs.declared.Echo.{Echo}
-use Rattle.end.specs.declared.Span.TheVariants.{Open}
+use Rattle.end.specs.Parts.{Open}
 use Rattle.end.specs.declared.Move.TheVariants.{Join, Joined, Leave, Left}
 use Rattle.end.specs.declared.Reason.TheVariants.{Crashed, WrongStatus, OwnMessage, NoFetch}
 use Rattle.end.specs.declared.Why.TheVariants.{Because, NoReason}

@@ -5,14 +5,9 @@
 use Rattle.std.specs.Prelude.{ℕ, ◌+◌, ◌-◌, Bool, true, false, cond, List, [], ◌∷◌, replicate, set, eqb}
 use Rattle.std.proofs.Math.Option.{Option, none, some}
 use Rattle.message.specs.Entry.{as_host, as_number, blank_cue}
-use Rattle.end.specs.declared.Reply.TheVariants.{Due}
+use Rattle.end.specs.Parts.{Due, NoPair, Span, Closed, Open, At, From}
 use Rattle.end.specs.declared.Slot.TheVariants.{Held}
-use Rattle.end.specs.declared.Pair.TheVariants.{NoPair}
 use Rattle.end.specs.declared.Record.{Record}
-use Rattle.end.specs.declared.Span.{Span}
-use Rattle.end.specs.declared.Span.TheVariants.{Closed, Open}
-use Rattle.end.specs.declared.Heard.TheVariants.{At}
-use Rattle.end.specs.declared.Origin.TheVariants.{From}
 use Rattle.end.specs.declared.Source.{Source}
 use Rattle.end.specs.declared.Moment.{Moment}
 use Rattle.end.specs.declared.Says.{Says}

@@ -75,9 +75,9 @@ fn span(old: Span, field: u64, line: &[u8; 1000], end: usize, at: &mut usize) ->
         words::SPAN => {
             let first = trace::cue_number(line, end, at);
             let last = trace::cue_number(line, end, at);
-            Span::Open(first, last)
+            Some((first, last))
         }
-        words::CLOSED => Span::Closed,
+        words::CLOSED => None,
         _ => old,
     }
 }
@@ -88,9 +88,9 @@ fn pair(old: Pair, field: u64, line: &[u8; 1000], end: usize, at: &mut usize) ->
             let requester = trace::byte(line, end, at);
             let sender = trace::byte(line, end, at);
             let number = trace::cue_number(line, end, at);
-            Pair::Kept(Host(requester), Host(sender), number)
+            Some((Host(requester), Host(sender), number))
         }
-        words::NOPAIR => Pair::NoPair,
+        words::NOPAIR => None,
         _ => old,
     }
 }
@@ -108,17 +108,17 @@ fn heard(old: Heard, field: u64, line: &[u8; 1000], end: usize, at: &mut usize) 
         words::HEARD => {
             let stamp = trace::number(line, end, at);
             let when = trace::number(line, end, at);
-            Heard::At(stamp, when, reported(line, end, at))
+            Some((stamp, when, reported(line, end, at)))
         }
-        words::UNHEARD => Heard::Never,
+        words::UNHEARD => None,
         _ => old,
     }
 }
 
 fn origin(old: Origin, field: u64, line: &[u8; 1000], end: usize, at: &mut usize) -> Origin {
     match field {
-        words::ORIGIN => Origin::From(trace::cue_number(line, end, at)),
-        words::NOORIGIN => Origin::NoOrigin,
+        words::ORIGIN => Some(trace::cue_number(line, end, at)),
+        words::NOORIGIN => None,
         _ => old,
     }
 }
@@ -177,16 +177,16 @@ fn request(line: &[u8; 1000], end: usize, at: &mut usize) -> Request {
 fn reply(line: &[u8; 1000], end: usize, at: &mut usize) -> Reply {
     let due = trace::number(line, end, at);
     let requester = trace::byte(line, end, at);
-    Reply::Due(due, Host(requester))
+    Some((due, Host(requester)))
 }
 
 // `express DUE` behind a request, or nothing.
 fn express(line: &[u8; 1000], end: usize, at: &mut usize) -> Express {
     if trace::peek(line, end, *at) == words::EXPRESS {
         trace::key(line, end, at);
-        return Express::Soon(trace::number(line, end, at));
+        return Some(trace::number(line, end, at));
     }
-    Express::Unset
+    None
 }
 
 fn waiting(line: &[u8; 1000], end: usize, at: &mut usize) -> Slot {
@@ -198,7 +198,7 @@ fn waiting(line: &[u8; 1000], end: usize, at: &mut usize) -> Slot {
 fn slot(old: Slot, field: u64, line: &[u8; 1000], end: usize, at: &mut usize) -> Slot {
     match field {
         words::EMPTY => Slot::Empty,
-        words::HELD => Slot::Held(Reply::No),
+        words::HELD => Slot::Held(None),
         words::WAITS => waiting(line, end, at),
         words::REPLY => Slot::Held(reply(line, end, at)),
         _ => old,

@@ -13,10 +13,7 @@ use Rattle.message.specs.declared.Echo.{Echo}
 use Rattle.message.specs.Section.{padded}
 use Rattle.message.specs.Entry.{as_host, blank_report, blank_echo}
 use Rattle.message.proofs.SectionLaws.{fill_next}
-use Rattle.end.specs.declared.Span.{Span}
-use Rattle.end.specs.declared.Span.TheVariants.{Closed, Open}
-use Rattle.end.specs.declared.Heard.{Heard}
-use Rattle.end.specs.declared.Heard.TheVariants.{Never, At}
+use Rattle.end.specs.Parts.{Span, Closed, Open, Heard, Never, At}
 use Rattle.end.specs.declared.End.{End}
 use Rattle.end.specs.State.{source_at}
 use Rattle.end.specs.Messages.{report_on, echo_on, reports_below, echoes_below}

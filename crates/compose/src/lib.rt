@@ -106,8 +106,8 @@ fn with_report(all: Reports, h: Host, span: Span) -> Reports
     ensures { result ≡ with_report all (report_on h span) }
 {
     match span {
-        Span::Closed => all,
-        Span::Open(_, last) => {
+        None => all,
+        Some((_, last)) => {
             let n = all.count;
             let mut places = all.places;
             places[n] = Report { source: h, last };
@@ -126,8 +126,8 @@ fn with_echo(all: Echoes, h: Host, clock: u64, heard: Heard) -> Echoes
     ensures { result ≡ with_echo all (echo_on h clock heard) }
 {
     match heard {
-        Heard::Never => all,
-        Heard::At(stamp, when, _) => {
+        None => all,
+        Some((stamp, when, _)) => {
             let n = all.count;
             let mut places = all.places;
             places[n] = Echo {

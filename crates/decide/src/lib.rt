@@ -16,8 +16,8 @@ fn is_closed(span: Span) -> bool
     ensures { result ≡ is_closed span }
 {
     match span {
-        Span::Closed => true,
-        Span::Open(_, _) => false,
+        None => true,
+        Some((_, _)) => false,
     }
 }
 

@@ -6,8 +6,7 @@ use mathlib.Core.Bool.{true}
 use lib.ListN.{get_or}
 use Rattle.message.specs.declared.CueNumber.{CueNumber}
 use Rattle.message.specs.Entry.{as_host}
-use Rattle.end.specs.declared.Span.{Span}
-use Rattle.end.specs.declared.Span.TheVariants.{Closed, Open}
+use Rattle.end.specs.Parts.{Span, Closed, Open}
 use Rattle.end.specs.declared.Source.{Source}
 use Rattle.end.specs.declared.End.{End}
 use Rattle.end.specs.State.{no_source}

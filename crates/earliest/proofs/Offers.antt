@@ -8,13 +8,8 @@ use Rattle.message.specs.declared.Name.{Name}
 use Rattle.end.specs.declared.Request.{Request}
 use Rattle.end.specs.declared.Slot.{Slot}
 use Rattle.end.specs.declared.Slot.TheVariants.{Held, Waiting}
-use Rattle.end.specs.declared.Express.{Express}
-use Rattle.end.specs.declared.Express.TheVariants.{Soon}
-use Rattle.end.specs.declared.Reply.{Reply}
-use Rattle.end.specs.declared.Reply.TheVariants.{Due}
+use Rattle.end.specs.Parts.{Express, Soon, Reply, Due, Earliest, First}
 use Rattle.end.specs.declared.Wait.{Wait}
-use Rattle.end.specs.declared.Earliest.{Earliest}
-use Rattle.end.specs.declared.Earliest.TheVariants.{First}
 use Rattle.end.specs.Fire.{express_rank, request_rank, reply_rank, before, earlier, due_at, express_at, offered}
 
 -- the express wait that was matched

@@ -25,12 +25,12 @@ fn earlier_of(best: Earliest, w: Wait) -> Earliest
     ensures { result ≡ earlier best w }
 {
     match best {
-        Earliest::NoWait => Earliest::First(w),
-        Earliest::First(v) => {
+        None => Some(w),
+        Some(v) => {
             if is_before(w, v) {
-                Earliest::First(w)
+                Some(w)
             } else {
-                Earliest::First(v)
+                Some(v)
             }
         }
     }
@@ -51,8 +51,8 @@ fn offer_express(name: Name, clock: u64, x: Express, best: Earliest) -> Earliest
     ensures { result ≡ express_at name clock x best }
 {
     match x {
-        Express::Unset => best,
-        Express::Soon(due) => if_due(name, clock, EXPRESS, due, best),
+        None => best,
+        Some(due) => if_due(name, clock, EXPRESS, due, best),
     }
 }
 
@@ -67,8 +67,8 @@ fn offer(name: Name, clock: u64, slot: Slot, best: Earliest) -> Earliest
             if_due(name, clock, REQUEST, q.due, soon)
         }
         Slot::Held(reply) => match reply {
-            Reply::No => best,
-            Reply::Due(due, _) => if_due(name, clock, REPLY, due, best),
+            None => best,
+            Some((due, _)) => if_due(name, clock, REPLY, due, best),
         },
     }
 }
@@ -80,8 +80,8 @@ fn width_of(span: Span) -> u64
     ensures result_bound { start span + result ≤ number_limit }
 {
     match span {
-        Span::Closed => 0,
-        Span::Open(first, last) => last.0 as u64 + 1 - first.0 as u64,
+        None => 0,
+        Some((first, last)) => last.0 as u64 + 1 - first.0 as u64,
     }
 }
 
@@ -116,7 +116,7 @@ pub fn earliest_wait(e: End) -> Earliest
     requires { Settled e }
     ensures { result ≡ earliest e host_limit }
 {
-    let none = Earliest::NoWait;
+    let none = None;
     let b0 = earliest_name(Host(0), e.clock, e.sources[0], none);
     let b1 = earliest_name(Host(1), e.clock, e.sources[1], b0);
     let b2 = earliest_name(Host(2), e.clock, e.sources[2], b1);

@@ -9,8 +9,7 @@ use borrow.Author.Tests.{leb-true, ltb-true}
 use Rattle.message.specs.Entry.{as_host}
 use Rattle.message.specs.Question.{same_host}
 use Rattle.message.proofs.QuestionLaws.{and_both}
-use Rattle.end.specs.declared.Span.{Span}
-use Rattle.end.specs.declared.Span.TheVariants.{Closed, Open}
+use Rattle.end.specs.Parts.{Span, Closed, Open}
 use Rattle.end.specs.declared.Source.{Source}
 use Rattle.end.specs.declared.End.{End}
 use Rattle.end.specs.State.{no_source, blank_names, unheard, unheard_sources, is_member, with_clock}

@@ -13,10 +13,8 @@ use Rattle.message.specs.Message.{Meaning, DATA, RQST, REPL, XPRS, FTCH, LATE, A
 use Rattle.message.specs.Question.{same_host}
 use Rattle.end.specs.declared.Slot.{Slot}
 use Rattle.end.specs.declared.Slot.TheVariants.{Empty, Held, Waiting}
-use Rattle.end.specs.declared.Reply.TheVariants.{No, Due}
+use Rattle.end.specs.Parts.{No, Due, Span, Closed, Open, Earliest, NoWait, First, Nearest, Nobody, Found}
 use Rattle.end.specs.declared.Record.{Record}
-use Rattle.end.specs.declared.Span.{Span}
-use Rattle.end.specs.declared.Span.TheVariants.{Closed, Open}
 use Rattle.end.specs.declared.Says.{Says}
 use Rattle.end.specs.declared.Says.TheVariants.{Data, Rqst, Repl, Xprs}
 use Rattle.end.specs.declared.Moment.{Moment}
@@ -27,12 +25,8 @@ use Rattle.end.specs.declared.Why.{Why}
 use Rattle.end.specs.declared.Why.TheVariants as why
 use Rattle.end.specs.declared.Decision.{Decision}
 use Rattle.end.specs.declared.Decision.TheVariants.{Ignores, Opens, Takes, Repairs, Hushes, Replies, Learns, BacksOff, Clashes, Expresses}
-use Rattle.end.specs.declared.Earliest.{Earliest}
-use Rattle.end.specs.declared.Earliest.TheVariants.{NoWait, First}
 use Rattle.end.specs.declared.Source.{Source}
 use Rattle.end.specs.declared.Move.{Move}
-use Rattle.end.specs.declared.Nearest.{Nearest}
-use Rattle.end.specs.declared.Nearest.TheVariants.{Nobody, Found}
 use Rattle.message.specs.declared.Name.{Name}
 use Rattle.end.specs.declared.End.{End}
 use Rattle.end.specs.State.{source_at, is_member, is_crashed, moment_of, with_clock}

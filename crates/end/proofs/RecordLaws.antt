@@ -14,8 +14,7 @@ use borrow.Author.Tests.{eqb-true, eqb-false, le-leb, lt-leb, ltb-true, leb-true
 use Rattle.message.specs.declared.CueNumber.{CueNumber}
 use Rattle.message.proofs.QuestionLaws.{and_both}
 use Rattle.end.specs.declared.Record.{Record}
-use Rattle.end.specs.declared.Span.{Span}
-use Rattle.end.specs.declared.Span.TheVariants.{Closed, Open}
+use Rattle.end.specs.Parts.{Span, Closed, Open}
 use Rattle.end.specs.declared.Source.{Source}
 use Rattle.end.specs.State.{no_record, blank_record, with_span}
 use Rattle.end.specs.Records.{within, is_above, place, raw_at, record_at, with_record}

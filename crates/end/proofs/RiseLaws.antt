@@ -13,8 +13,7 @@ use Rattle.numbers.proofs.Cases.{by_order}
 use Rattle.message.specs.declared.CueNumber.{CueNumber}
 use Rattle.message.specs.Entry.{as_number}
 use Rattle.end.specs.declared.Record.{Record}
-use Rattle.end.specs.declared.Span.{Span}
-use Rattle.end.specs.declared.Span.TheVariants.{Closed, Open}
+use Rattle.end.specs.Parts.{Span, Closed, Open}
 use Rattle.end.specs.declared.Source.{Source}
 use Rattle.end.specs.State.{blank_record, with_span, with_missed, with_names}
 use Rattle.end.specs.Records.{place, within, is_above, is_held, raw_at, record_at}

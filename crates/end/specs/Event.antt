@@ -8,8 +8,7 @@ use Rattle.message.specs.Message.{Meaning, Datagram, Probe, Saying, datagram_fro
 use Rattle.message.specs.Question.{Question, ask, first_no, read_questions, ticks_in}
 use Rattle.end.specs.declared.Status.{Status}
 use Rattle.end.specs.declared.Status.TheVariants.{Idle, Joining, Member, Leaving, Crashed}
-use Rattle.end.specs.declared.Span.{Span}
-use Rattle.end.specs.declared.Span.TheVariants.{Closed, Open}
+use Rattle.end.specs.Parts.{Span, Closed, Open}
 use Rattle.end.specs.declared.Source.{Source}
 use Rattle.end.specs.declared.Move.{Move}
 use Rattle.end.specs.declared.Move.TheVariants.{Join, Joined, Leave, Left, Crash}

@@ -8,11 +8,8 @@ use Rattle.message.specs.declared.Name.{Name}
 use Rattle.message.specs.Entry.{as_host}
 use Rattle.message.specs.Message.{Meaning, bytes_of}
 use Rattle.message.specs.Question.{host_in, same_host}
-use Rattle.end.specs.declared.Heard.{Heard}
-use Rattle.end.specs.declared.Heard.TheVariants.{Never, At}
+use Rattle.end.specs.Parts.{Heard, Never, At, Nearest, Nobody, Found}
 use Rattle.end.specs.declared.Attempt.{Attempt}
-use Rattle.end.specs.declared.Nearest.{Nearest}
-use Rattle.end.specs.declared.Nearest.TheVariants.{Nobody, Found}
 use Rattle.end.specs.declared.Source.{Source}
 use Rattle.end.specs.declared.End.{End}
 use Rattle.end.specs.State.{source_at, distance_to, moment_of, on_source}

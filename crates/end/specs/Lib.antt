@@ -1,3 +1,4 @@
+pub mod Parts
 pub mod State
 pub mod Records
 pub mod Round

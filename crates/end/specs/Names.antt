@@ -7,15 +7,9 @@ use Rattle.message.specs.declared.CueNumber.{CueNumber}
 use Rattle.message.specs.Entry.{as_number}
 use Rattle.message.specs.Question.{same_host}
 use Rattle.end.specs.declared.Request.{Request}
-use Rattle.end.specs.declared.Express.{Express}
-use Rattle.end.specs.declared.Express.TheVariants.{Unset, Soon}
-use Rattle.end.specs.declared.Pair.{Pair}
-use Rattle.end.specs.declared.Pair.TheVariants.{NoPair, Kept}
+use Rattle.end.specs.Parts.{Express, Unset, Soon, Pair, NoPair, Kept, No, Due, Span, Closed, Open}
 use Rattle.end.specs.declared.Slot.TheVariants.{Held, Waiting}
-use Rattle.end.specs.declared.Reply.TheVariants.{No, Due}
 use Rattle.end.specs.declared.Record.{Record}
-use Rattle.end.specs.declared.Span.{Span}
-use Rattle.end.specs.declared.Span.TheVariants.{Closed, Open}
 use Rattle.end.specs.declared.Source.{Source}
 use Rattle.end.specs.declared.Moment.{Moment}
 use Rattle.end.specs.State.{blank_record, with_span, with_missed, with_pair, with_names}

@@ -7,7 +7,7 @@ use Rattle.message.specs.declared.Report.{Report}
 use Rattle.message.specs.declared.Echo.{Echo}
 use Rattle.message.specs.Message.{Meaning}
 use Rattle.message.specs.Question.{same_host}
-use Rattle.end.specs.declared.Heard.TheVariants.{At}
+use Rattle.end.specs.Parts.{At}
 use Rattle.end.specs.declared.Source.{Source}
 use Rattle.end.specs.declared.End.{End}
 use Rattle.end.specs.declared.Moment.{Moment}

@@ -8,14 +8,7 @@ use Rattle.end.specs.declared.Status.{Status}
 use Rattle.end.specs.declared.Status.TheVariants.{Idle, Joining, Member, Leaving, Crashed}
 use Rattle.end.specs.declared.Slot.TheVariants.{Empty}
 use Rattle.end.specs.declared.Record.{Record}
-use Rattle.end.specs.declared.Pair.{Pair}
-use Rattle.end.specs.declared.Pair.TheVariants.{NoPair}
-use Rattle.end.specs.declared.Span.{Span}
-use Rattle.end.specs.declared.Span.TheVariants.{Closed}
-use Rattle.end.specs.declared.Heard.{Heard}
-use Rattle.end.specs.declared.Heard.TheVariants.{Never}
-use Rattle.end.specs.declared.Origin.{Origin}
-use Rattle.end.specs.declared.Origin.TheVariants.{NoOrigin}
+use Rattle.end.specs.Parts.{Pair, NoPair, Span, Closed, Heard, Never, Origin, NoOrigin}
 use Rattle.end.specs.declared.Attempt.{Attempt}
 use Rattle.end.specs.declared.Source.{Source}
 use Rattle.end.specs.declared.End.{End}

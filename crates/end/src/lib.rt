@@ -51,18 +51,10 @@ pub struct Request {
 }
 
 // Whether a reply waits: when it is due, and who asked.
-#[derive(Clone, Copy)]
-pub enum Reply {
-    No,
-    Due(u64, Host),
-}
+pub type Reply = Option<(u64, Host)>;
 
 // Whether an express wait stands beside a request, and when it is due.
-#[derive(Clone, Copy)]
-pub enum Express {
-    Unset,
-    Soon(u64),
-}
+pub type Express = Option<u64>;
 
 // What an end has of a name: nothing; its cue, and beside it perhaps a waiting reply; or a request for it, and beside that perhaps an
 // express wait.
@@ -82,35 +74,19 @@ pub struct Record {
 }
 
 // First and last cue number of a source: both or neither.
-#[derive(Clone, Copy)]
-pub enum Span {
-    Closed,
-    Open(CueNumber, CueNumber),
-}
+pub type Span = Option<(CueNumber, CueNumber)>;
 
 // The sources that a message reported, or the hosts that were tried, as bits: host h is in the set where bit h is 1.
 pub type Hosts = u8;
 
 // The latest stamp heard from a host, when, and the sources that the message reported.
-#[derive(Clone, Copy)]
-pub enum Heard {
-    Never,
-    At(u64, u64, Hosts),
-}
+pub type Heard = Option<(u64, u64, Hosts)>;
 
 // The requester and the sender of the latest REPL answered Got or Done that named a number at least as high as the kept one's, and that number.
-#[derive(Clone, Copy)]
-pub enum Pair {
-    NoPair,
-    Kept(Host, Host, CueNumber),
-}
+pub type Pair = Option<(Host, Host, CueNumber)>;
 
 // The number of the first original since joining, of another host's source.
-#[derive(Clone, Copy)]
-pub enum Origin {
-    NoOrigin,
-    From(CueNumber),
-}
+pub type Origin = Option<CueNumber>;
 
 // What an end has done to fetch one of the 64 numbers below a source's first original: the hosts that it tried, and whether the cue was handed
 // out as Late.
@@ -271,18 +247,10 @@ pub const REQUEST: u8 = 1;
 pub const REPLY: u8 = 2;
 
 // The earliest wait found so far.
-#[derive(Clone, Copy)]
-pub enum Earliest {
-    NoWait,
-    First(Wait),
-}
+pub type Earliest = Option<Wait>;
 
 // The nearest host found so far to fetch a cue from, and its distance.
-#[derive(Clone, Copy)]
-pub enum Nearest {
-    Nobody,
-    Found(Host, u64),
-}
+pub type Nearest = Option<(Host, u64)>;
 
 // What a call gives: its answer, and the end that it leaves.
 #[derive(Clone, Copy)]

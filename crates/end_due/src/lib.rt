@@ -25,8 +25,8 @@ fn express_due(x: Express, m: u64) -> u64
     ensures { result ≡ express_due x m }
 {
     match x {
-        Express::Unset => m,
-        Express::Soon(due) => lesser(due, m),
+        None => m,
+        Some(due) => lesser(due, m),
     }
 }
 
@@ -34,8 +34,8 @@ fn reply_due(r: Reply, m: u64) -> u64
     ensures { result ≡ slot_due (Held r) m }
 {
     match r {
-        Reply::No => m,
-        Reply::Due(due, _) => lesser(due, m),
+        None => m,
+        Some((due, _)) => lesser(due, m),
     }
 }
 
@@ -59,8 +59,8 @@ fn width_of(span: Span) -> u64
     ensures result_bound { start span + result ≤ number_limit }
 {
     match span {
-        Span::Closed => 0,
-        Span::Open(first, last) => last.0 as u64 + 1 - first.0 as u64,
+        None => 0,
+        Some((first, last)) => last.0 as u64 + 1 - first.0 as u64,
     }
 }
 

@@ -18,8 +18,7 @@ use Rattle.end.specs.declared.Answer.{Answer}
 use Rattle.end.specs.declared.Answer.TheVariants as answer
 use Rattle.end.specs.declared.Attempt.{Attempt}
 use Rattle.end.specs.declared.Record.{Record}
-use Rattle.end.specs.declared.Nearest.{Nearest}
-use Rattle.end.specs.declared.Nearest.TheVariants.{Nobody, Found}
+use Rattle.end.specs.Parts.{Nearest, Nobody, Found}
 use Rattle.end.specs.declared.Moment.{Moment}
 use Rattle.end.specs.declared.Source.{Source}
 use Rattle.end.specs.declared.Stepped.{Stepped}

@@ -5,8 +5,7 @@ use Rattle.message.specs.declared.Host.{Host}
 use Rattle.message.specs.declared.Name.{Name}
 use Rattle.message.specs.declared.NameEntry.{NameEntry}
 use Rattle.message.specs.Message.{bytes_of}
-use Rattle.end.specs.declared.Nearest.{Nearest}
-use Rattle.end.specs.declared.Nearest.TheVariants.{Nobody, Found}
+use Rattle.end.specs.Parts.{Nearest, Nobody, Found}
 use Rattle.end.specs.declared.Moment.{Moment}
 use Rattle.end.specs.declared.Source.{Source}
 use Rattle.end.specs.Records.{record_at}

@@ -26,8 +26,8 @@ fn tried_source(n: CueNumber, may: bool, best: Nearest, s: Source) -> Source
         return s;
     }
     match best {
-        Nearest::Nobody => s,
-        Nearest::Found(h, _) => candidates::try_host(s, n, h),
+        None => s,
+        Some((h, _)) => candidates::try_host(s, n, h),
     }
 }
 
@@ -41,8 +41,8 @@ fn put_fetch(t: Moment, name: Name, may: bool, best: Nearest, out: &mut [u8]) ->
         return Answer::Ignored;
     }
     match best {
-        Nearest::Nobody => Answer::Exhausted,
-        Nearest::Found(h, _) => compose::put_name(FTCH, t, name, h, 0, [0; 24], out),
+        None => Answer::Exhausted,
+        Some((h, _)) => compose::put_name(FTCH, t, name, h, 0, [0; 24], out),
     }
 }
 

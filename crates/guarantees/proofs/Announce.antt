@@ -17,13 +17,9 @@ use Rattle.message.specs.Message.{DATA, meaning_from}
 use Rattle.message.specs.Question.{same_host}
 use Rattle.end.specs.declared.Slot.{Slot}
 use Rattle.end.specs.declared.Slot.TheVariants.{Empty, Held, Waiting}
-use Rattle.end.specs.declared.Reply.TheVariants.{No, Due}
-use Rattle.end.specs.declared.Span.{Span}
-use Rattle.end.specs.declared.Span.TheVariants.{Closed, Open}
+use Rattle.end.specs.Parts.{No, Due, Span, Closed, Open, Earliest, NoWait, First}
 use Rattle.end.specs.declared.Source.{Source}
 use Rattle.end.specs.declared.Move.{Move}
-use Rattle.end.specs.declared.Earliest.{Earliest}
-use Rattle.end.specs.declared.Earliest.TheVariants.{NoWait, First}
 use Rattle.end.specs.declared.End.{End}
 use Rattle.end.specs.State.{no_source, source_at, is_member, is_crashed, moment_of, with_clock, with_source}
 use Rattle.end.specs.Records.{record_at}

@@ -15,18 +15,12 @@ use Rattle.message.specs.declared.Name.{Name}
 use Rattle.message.specs.Entry.{as_host, as_number}
 use Rattle.message.proofs.QuestionLaws.{and_both, or_either}
 use Rattle.end.specs.declared.Request.{Request}
-use Rattle.end.specs.declared.Express.{Express}
-use Rattle.end.specs.declared.Express.TheVariants.{Unset, Soon}
-use Rattle.end.specs.declared.Reply.TheVariants.{No, Due}
+use Rattle.end.specs.Parts.{Express, Unset, Soon, No, Due, Span, Closed, Open, Earliest, NoWait, First}
 use Rattle.end.specs.declared.Slot.{Slot}
 use Rattle.end.specs.declared.Slot.TheVariants.{Empty, Held, Waiting}
 use Rattle.end.specs.declared.Record.{Record}
-use Rattle.end.specs.declared.Span.{Span}
-use Rattle.end.specs.declared.Span.TheVariants.{Closed, Open}
 use Rattle.end.specs.declared.End.{End}
 use Rattle.end.specs.declared.Wait.{Wait}
-use Rattle.end.specs.declared.Earliest.{Earliest}
-use Rattle.end.specs.declared.Earliest.TheVariants.{NoWait, First}
 use Rattle.end.specs.State.{no_source, source_at}
 use Rattle.end.specs.Records.{within, start, width, record_at}
 use Rattle.end.specs.Answer.{Step}

@@ -11,8 +11,7 @@ use borrow.Author.Tests.{eqb-true, eq-eqb, leb-true, ltb-true}
 use Rattle.message.specs.Message.{DATA, RQST, REPL, Meaning, meaning_with, meaning_from}
 use Rattle.message.specs.Question.{same_host}
 use Rattle.message.proofs.QuestionLaws.{and_both}
-use Rattle.end.specs.declared.Span.{Span}
-use Rattle.end.specs.declared.Span.TheVariants.{Closed, Open}
+use Rattle.end.specs.Parts.{Span, Closed, Open}
 use Rattle.end.specs.declared.Source.{Source}
 use Rattle.end.specs.declared.Says.{Says}
 use Rattle.end.specs.declared.Says.TheVariants.{Data, Repl}

@@ -11,11 +11,8 @@ use Rattle.message.specs.declared.CueNumber.{CueNumber}
 use Rattle.message.specs.declared.Name.{Name}
 use Rattle.message.specs.Message.{FTCH, LATE, Meaning, meaning_with, meaning_from}
 use Rattle.message.specs.Question.{same_host}
-use Rattle.end.specs.declared.Origin.{Origin}
-use Rattle.end.specs.declared.Origin.TheVariants.{NoOrigin, From}
+use Rattle.end.specs.Parts.{Origin, NoOrigin, From, Nearest, Nobody, Found}
 use Rattle.end.specs.declared.Attempt.{Attempt}
-use Rattle.end.specs.declared.Nearest.{Nearest}
-use Rattle.end.specs.declared.Nearest.TheVariants.{Nobody, Found}
 use Rattle.end.specs.declared.Source.{Source}
 use Rattle.end.specs.declared.End.{End}
 use Rattle.end.specs.State.{no_source, source_at, is_member, is_crashed, with_clock, on_source}

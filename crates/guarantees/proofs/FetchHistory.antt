@@ -17,12 +17,10 @@ use Rattle.message.specs.Question.{same_host}
 use Rattle.message.proofs.QuestionLaws.{and_both}
 use Rattle.end.specs.declared.Params.{Params}
 use Rattle.end.specs.declared.Move.{Move}
-use Rattle.end.specs.declared.Origin.{Origin}
+use Rattle.end.specs.Parts.{Origin, Nearest, Nobody, Found}
 use Rattle.end.specs.declared.Attempt.{Attempt}
 use Rattle.end.specs.declared.Says.TheVariants.{Data, Rqst, Repl, Xprs}
 use Rattle.end.specs.declared.Source.{Source}
-use Rattle.end.specs.declared.Nearest.{Nearest}
-use Rattle.end.specs.declared.Nearest.TheVariants.{Nobody, Found}
 use Rattle.end.specs.declared.End.{End}
 use Rattle.end.specs.State.{no_source, no_attempt, unheard_sources, source_at, is_member, moment_of, with_clock, on_source}
 use Rattle.end.specs.Records.{fetchable, attempt_at, with_attempt}

@@ -21,16 +21,10 @@ use Rattle.message.proofs.QuestionLaws.{and_both, counted as counted-row}
 use Rattle.roundtrip.proofs.RoundTrip.{accepted, counts_read}
 use Rattle.end.specs.declared.Params.{Params}
 use Rattle.end.specs.declared.Move.{Move}
-use Rattle.end.specs.declared.Heard.{Heard}
-use Rattle.end.specs.declared.Heard.TheVariants.{Never, At}
-use Rattle.end.specs.declared.Reply.TheVariants.{No, Due}
+use Rattle.end.specs.Parts.{Heard, Never, At, No, Due, Span, Closed, Open, Earliest, NoWait, First}
 use Rattle.end.specs.declared.Slot.{Slot}
 use Rattle.end.specs.declared.Slot.TheVariants.{Empty, Held, Waiting}
-use Rattle.end.specs.declared.Span.{Span}
-use Rattle.end.specs.declared.Span.TheVariants.{Closed, Open}
 use Rattle.end.specs.declared.Source.{Source}
-use Rattle.end.specs.declared.Earliest.{Earliest}
-use Rattle.end.specs.declared.Earliest.TheVariants.{NoWait, First}
 use Rattle.end.specs.declared.End.{End}
 use Rattle.end.specs.declared.Moment.{Moment}
 use Rattle.end.specs.State.{no_source, unheard, unheard_sources, source_at, is_member, moment_of, with_clock, with_source}

@@ -8,12 +8,9 @@ use Rattle.message.specs.declared.Name.{Name}
 use Rattle.message.specs.Message.{Meaning}
 use Rattle.end.specs.declared.Attempt.{Attempt}
 use Rattle.end.specs.declared.Moment.{Moment}
-use Rattle.end.specs.declared.Span.{Span}
-use Rattle.end.specs.declared.Span.TheVariants.{Closed, Open}
+use Rattle.end.specs.Parts.{Span, Closed, Open, Nearest, Nobody, Found}
 use Rattle.end.specs.declared.Source.{Source}
 use Rattle.end.specs.declared.End.{End}
-use Rattle.end.specs.declared.Nearest.{Nearest}
-use Rattle.end.specs.declared.Nearest.TheVariants.{Nobody, Found}
 use Rattle.end.specs.State.{no_source, source_at, moment_of, with_attempts, with_source}
 use Rattle.end.specs.Messages.{message_name, message_cue}
 use Rattle.end.specs.Answer.{Out, Ignored, Nothing, Late, Exhausted, Step, give}

@@ -11,14 +11,10 @@ use Rattle.message.specs.declared.Host.{Host}
 use Rattle.message.specs.Message.{DATA, RQST, REPL, XPRS, Meaning}
 use Rattle.message.specs.Question.{same_host}
 use Rattle.end.specs.declared.Request.{Request}
-use Rattle.end.specs.declared.Express.{Express}
-use Rattle.end.specs.declared.Express.TheVariants.{Unset, Soon}
-use Rattle.end.specs.declared.Reply.{Reply}
-use Rattle.end.specs.declared.Reply.TheVariants.{No, Due}
+use Rattle.end.specs.Parts.{Express, Unset, Soon, Reply, No, Due, Span}
 use Rattle.end.specs.declared.Slot.{Slot}
 use Rattle.end.specs.declared.Slot.TheVariants.{Empty, Held, Waiting}
 use Rattle.end.specs.declared.Record.{Record}
-use Rattle.end.specs.declared.Span.{Span}
 use Rattle.end.specs.declared.Source.{Source}
 use Rattle.end.specs.declared.Moment.{Moment}
 use Rattle.end.specs.State.{blank_record}

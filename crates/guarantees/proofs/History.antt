@@ -21,21 +21,13 @@ use Rattle.end.specs.declared.Status.{Status}
 use Rattle.end.specs.declared.Status.TheVariants.{Idle, Joining, Member, Leaving, Crashed}
 use Rattle.end.specs.declared.Move.{Move}
 use Rattle.end.specs.declared.Move.TheVariants.{Join, Joined, Leave, Left, Crash}
-use Rattle.end.specs.declared.Express.{Express}
-use Rattle.end.specs.declared.Express.TheVariants.{Unset}
+use Rattle.end.specs.Parts.{Express, Unset, No, Due, Span, Closed, Open, Origin, NoOrigin, From, Earliest, NoWait, First}
 use Rattle.end.specs.declared.Slot.{Slot}
 use Rattle.end.specs.declared.Slot.TheVariants.{Empty, Held, Waiting}
-use Rattle.end.specs.declared.Reply.TheVariants.{No, Due}
 use Rattle.end.specs.declared.Record.{Record}
-use Rattle.end.specs.declared.Span.{Span}
-use Rattle.end.specs.declared.Span.TheVariants.{Closed, Open}
-use Rattle.end.specs.declared.Origin.{Origin}
-use Rattle.end.specs.declared.Origin.TheVariants.{NoOrigin, From}
 use Rattle.end.specs.declared.Source.{Source}
 use Rattle.end.specs.declared.End.{End}
 use Rattle.end.specs.declared.Moment.{Moment}
-use Rattle.end.specs.declared.Earliest.{Earliest}
-use Rattle.end.specs.declared.Earliest.TheVariants.{NoWait, First}
 use Rattle.end.specs.State.{no_source, unheard, unheard_sources, source_at, is_member, moment_of, with_clock, on_source}
 use Rattle.end.specs.Records.{is_closed, within, record_at, is_held, with_record, with_express}
 use Rattle.end.specs.Names.{asked, holds_cue, first_after}

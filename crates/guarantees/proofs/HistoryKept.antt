@@ -10,12 +10,8 @@ use lib.Dec.{eqb}
 use borrow.Author.Tests.{eqb-true, eq-eqb, ne_eqb, ltb-true, ltb-false}
 use Rattle.numbers.proofs.Cases.{by_order}
 use Rattle.message.specs.Entry.{as_number}
-use Rattle.end.specs.declared.Pair.{Pair}
+use Rattle.end.specs.Parts.{Pair, Heard, Span, Closed, Open, NoOrigin, From}
 use Rattle.end.specs.declared.Record.{Record}
-use Rattle.end.specs.declared.Heard.{Heard}
-use Rattle.end.specs.declared.Span.{Span}
-use Rattle.end.specs.declared.Span.TheVariants.{Closed, Open}
-use Rattle.end.specs.declared.Origin.TheVariants.{NoOrigin, From}
 use Rattle.end.specs.declared.Attempt.{Attempt}
 use Rattle.end.specs.declared.Source.{Source}
 use Rattle.end.specs.State.{with_pair, with_distance, with_heard, with_origin, with_attempts}

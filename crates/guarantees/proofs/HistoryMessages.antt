@@ -14,8 +14,7 @@ use Rattle.message.specs.Kind.{row_of}
 use Rattle.message.specs.Message.{DATA, RQST, REPL, SESS, XPRS, FTCH, LATE, ANNC, Meaning, meaning_from}
 use Rattle.message.specs.Question.{same_host}
 use Rattle.end.specs.declared.Record.{Record}
-use Rattle.end.specs.declared.Span.TheVariants.{Closed}
-use Rattle.end.specs.declared.Origin.TheVariants.{NoOrigin}
+use Rattle.end.specs.Parts.{Closed, NoOrigin}
 use Rattle.end.specs.declared.Attempt.{Attempt}
 use Rattle.end.specs.declared.Source.{Source}
 use Rattle.end.specs.declared.End.{End}

@@ -17,8 +17,7 @@ use Rattle.end.specs.declared.Request.{Request}
 use Rattle.end.specs.declared.Slot.{Slot}
 use Rattle.end.specs.declared.Slot.TheVariants.{Empty, Held, Waiting}
 use Rattle.end.specs.declared.Record.{Record}
-use Rattle.end.specs.declared.Span.{Span}
-use Rattle.end.specs.declared.Span.TheVariants.{Closed, Open}
+use Rattle.end.specs.Parts.{Span, Closed, Open}
 use Rattle.end.specs.declared.Source.{Source}
 use Rattle.end.specs.declared.End.{End}
 use Rattle.end.specs.declared.Moment.{Moment}

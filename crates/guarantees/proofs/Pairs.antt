@@ -13,18 +13,12 @@ use Rattle.message.specs.declared.Report.{Report}
 use Rattle.message.specs.Message.{DATA, RQST, REPL, XPRS, FTCH, LATE, ANNC, Meaning, meaning_from}
 use Rattle.message.specs.Question.{same_host, read_refusal}
 use Rattle.end.specs.declared.Params.{Params}
-use Rattle.end.specs.declared.Pair.{Pair}
-use Rattle.end.specs.declared.Pair.TheVariants.{NoPair}
+use Rattle.end.specs.Parts.{Pair, NoPair, No, Due, Span, Closed, Open, Earliest, NoWait, First}
 use Rattle.end.specs.declared.Move.{Move}
-use Rattle.end.specs.declared.Reply.TheVariants.{No, Due}
 use Rattle.end.specs.declared.Slot.{Slot}
 use Rattle.end.specs.declared.Slot.TheVariants.{Empty, Held, Waiting}
 use Rattle.end.specs.declared.Record.{Record}
-use Rattle.end.specs.declared.Span.{Span}
-use Rattle.end.specs.declared.Span.TheVariants.{Closed, Open}
 use Rattle.end.specs.declared.Source.{Source}
-use Rattle.end.specs.declared.Earliest.{Earliest}
-use Rattle.end.specs.declared.Earliest.TheVariants.{NoWait, First}
 use Rattle.end.specs.declared.End.{End}
 use Rattle.end.specs.declared.Moment.{Moment}
 use Rattle.end.specs.declared.Says.{Says}

@@ -11,8 +11,7 @@ use Rattle.message.specs.declared.CueNumber.{CueNumber}
 use Rattle.message.specs.Entry.{as_number}
 use Rattle.message.proofs.QuestionLaws.{and_both}
 use Rattle.end.specs.declared.Record.{Record}
-use Rattle.end.specs.declared.Span.{Span}
-use Rattle.end.specs.declared.Span.TheVariants.{Closed, Open}
+use Rattle.end.specs.Parts.{Span, Closed, Open}
 use Rattle.end.specs.declared.Source.{Source}
 use Rattle.end.specs.Records.{within, is_below, is_above}
 use Rattle.end.specs.Names.{first_after, rise_with}

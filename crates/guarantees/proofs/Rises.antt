@@ -10,10 +10,8 @@ use lib.ListN.{get_or, set}
 use lib.Dec.{eqb}
 use Rattle.message.specs.declared.CueNumber.{CueNumber}
 use Rattle.message.specs.Entry.{as_host, as_number}
-use Rattle.end.specs.declared.Express.TheVariants.{Unset, Soon}
+use Rattle.end.specs.Parts.{Unset, Soon, Span, Closed, Open}
 use Rattle.end.specs.declared.Record.{Record}
-use Rattle.end.specs.declared.Span.{Span}
-use Rattle.end.specs.declared.Span.TheVariants.{Closed, Open}
 use Rattle.end.specs.declared.Moment.{Moment}
 use Rattle.end.specs.State.{blank_record, source_at}
 use Rattle.end.specs.Records.{place}

@@ -15,20 +15,14 @@ use Rattle.message.specs.declared.Name.{Name}
 use Rattle.message.specs.Entry.{as_host}
 use Rattle.message.specs.Message.{meaning_from}
 use Rattle.end.specs.declared.Request.{Request}
-use Rattle.end.specs.declared.Express.{Express}
-use Rattle.end.specs.declared.Express.TheVariants.{Unset, Soon}
-use Rattle.end.specs.declared.Reply.TheVariants.{No}
+use Rattle.end.specs.Parts.{Express, Unset, Soon, No, Span, Closed, Open, Earliest, NoWait, First}
 use Rattle.end.specs.declared.Slot.{Slot}
 use Rattle.end.specs.declared.Slot.TheVariants.{Empty, Held, Waiting}
 use Rattle.end.specs.declared.Record.{Record}
-use Rattle.end.specs.declared.Span.{Span}
-use Rattle.end.specs.declared.Span.TheVariants.{Closed, Open}
 use Rattle.end.specs.declared.Source.{Source}
 use Rattle.end.specs.declared.End.{End}
 use Rattle.end.specs.declared.Move.{Move}
 use Rattle.end.specs.declared.Moment.{Moment}
-use Rattle.end.specs.declared.Earliest.{Earliest}
-use Rattle.end.specs.declared.Earliest.TheVariants.{NoWait, First}
 use Rattle.end.specs.State.{no_source, blank_record, unheard_sources, source_at, distance_to, is_member, moment_of, with_clock, with_source}
 use Rattle.end.specs.Records.{within, is_below, record_at, with_record, is_held, with_reply, express_in, with_express}
 use Rattle.end.specs.Round.{request_at, next_round}

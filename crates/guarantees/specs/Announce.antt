@@ -10,8 +10,7 @@ use Rattle.message.specs.Message.{ANNC, Meaning, meaning_from, bytes_of}
 use Rattle.message.specs.Question.{read_of}
 use Rattle.message.specs.declared.Verdict.TheVariants.{Accepted}
 use Rattle.end.specs.declared.Params.{Params}
-use Rattle.end.specs.declared.Span.{Span}
-use Rattle.end.specs.declared.Span.TheVariants.{Closed, Open}
+use Rattle.end.specs.Parts.{Span, Closed, Open}
 use Rattle.end.specs.declared.End.{End}
 use Rattle.end.specs.State.{source_at, is_member, is_crashed, with_clock}
 use Rattle.end.specs.Messages.{announce_message}

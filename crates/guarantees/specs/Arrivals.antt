@@ -5,12 +5,8 @@ use Rattle.message.specs.declared.Report.{Report}
 use Rattle.message.specs.Entry.{as_host}
 use Rattle.message.specs.Message.{DATA, RQST, REPL, XPRS, FTCH, LATE, ANNC, Meaning, meaning_from, bytes_of}
 use Rattle.message.specs.Question.{same_host}
-use Rattle.end.specs.declared.Express.{Express}
-use Rattle.end.specs.declared.Express.TheVariants.{Unset, Soon}
-use Rattle.end.specs.declared.Pair.{Pair}
+use Rattle.end.specs.Parts.{Express, Unset, Soon, Pair, Span, Closed, Open}
 use Rattle.end.specs.declared.Record.{Record}
-use Rattle.end.specs.declared.Span.{Span}
-use Rattle.end.specs.declared.Span.TheVariants.{Closed, Open}
 use Rattle.end.specs.declared.End.{End}
 use Rattle.end.specs.declared.Moment.{Moment}
 use Rattle.end.specs.State.{source_at, distance_to, is_member, is_crashed, with_clock}

@@ -8,9 +8,7 @@ use Rattle.message.specs.Entry.{as_host}
 use Rattle.message.specs.Message.{RQST, XPRS, meaning_from}
 use Rattle.end.specs.declared.Params.{Params}
 use Rattle.end.specs.declared.Request.{Request}
-use Rattle.end.specs.declared.Express.{Express}
-use Rattle.end.specs.declared.Express.TheVariants.{Unset}
-use Rattle.end.specs.declared.Pair.{Pair}
+use Rattle.end.specs.Parts.{Express, Unset, Pair}
 use Rattle.end.specs.declared.End.{End}
 use Rattle.end.specs.declared.Moment.{Moment}
 use Rattle.end.specs.State.{blank_record, source_at, distance_to, with_clock}

@@ -8,10 +8,7 @@ use Rattle.message.specs.Message.{RQST, XPRS, Meaning, meaning_from, bytes_of}
 use Rattle.message.specs.Question.{same_host}
 use Rattle.end.specs.declared.Params.{Params}
 use Rattle.end.specs.declared.Request.{Request}
-use Rattle.end.specs.declared.Express.{Express}
-use Rattle.end.specs.declared.Express.TheVariants.{Unset, Soon}
-use Rattle.end.specs.declared.Pair.{Pair}
-use Rattle.end.specs.declared.Pair.TheVariants.{NoPair}
+use Rattle.end.specs.Parts.{Express, Unset, Soon, Pair, NoPair}
 use Rattle.end.specs.declared.Slot.TheVariants.{Waiting}
 use Rattle.end.specs.declared.End.{End}
 use Rattle.end.specs.State.{source_at, distance_to, is_member, with_clock, on_source}

@@ -11,7 +11,7 @@ use Rattle.message.specs.Entry.{as_host}
 use Rattle.message.specs.Message.{SESS, Meaning, meaning_from}
 use Rattle.message.specs.Question.{same_host}
 use Rattle.end.specs.declared.Params.{Params}
-use Rattle.end.specs.declared.Origin.TheVariants.{NoOrigin, From}
+use Rattle.end.specs.Parts.{NoOrigin, From}
 use Rattle.end.specs.declared.Attempt.{Attempt}
 use Rattle.end.specs.declared.Source.{Source}
 use Rattle.end.specs.declared.End.{End}

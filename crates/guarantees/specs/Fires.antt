@@ -8,10 +8,8 @@ use Rattle.message.specs.Question.{read_of}
 use Rattle.message.specs.declared.Verdict.TheVariants.{Accepted}
 use Rattle.end.specs.declared.Params.{Params}
 use Rattle.end.specs.declared.Slot.TheVariants.{Held}
-use Rattle.end.specs.declared.Reply.TheVariants.{Due}
-use Rattle.end.specs.declared.Pair.TheVariants.{Kept}
+use Rattle.end.specs.Parts.{Due, Kept, NoWait, First}
 use Rattle.end.specs.declared.Wait.{Wait}
-use Rattle.end.specs.declared.Earliest.TheVariants.{NoWait, First}
 use Rattle.end.specs.declared.End.{End}
 use Rattle.end.specs.State.{source_at, is_member, with_clock}
 use Rattle.end.specs.Records.{record_at}

@@ -7,10 +7,7 @@ use Rattle.message.specs.declared.Host.{Host}
 use Rattle.message.specs.Entry.{as_host, as_number}
 use Rattle.message.specs.Message.{Meaning}
 use Rattle.end.specs.declared.Params.{Params}
-use Rattle.end.specs.declared.Span.{Span}
-use Rattle.end.specs.declared.Span.TheVariants.{Closed, Open}
-use Rattle.end.specs.declared.Origin.{Origin}
-use Rattle.end.specs.declared.Origin.TheVariants.{NoOrigin, From}
+use Rattle.end.specs.Parts.{Span, Closed, Open, Origin, NoOrigin, From}
 use Rattle.end.specs.declared.Source.{Source}
 use Rattle.end.specs.declared.End.{End}
 use Rattle.end.specs.State.{source_at, is_member}

@@ -4,7 +4,7 @@ use Rattle.std.specs.Prelude.{◌≡◌, List, [], ◌∷◌, ◌++◌, ℕ, rep
 use Rattle.std.proofs.Math.Option.{some}
 use Rattle.message.specs.Entry.{as_host, as_number}
 use Rattle.end.specs.declared.Move.TheVariants.{Join, Joined, Leave}
-use Rattle.end.specs.declared.Span.TheVariants.{Open}
+use Rattle.end.specs.Parts.{Open}
 use Rattle.end.specs.Answer.{Got, Done, Refused, Did}
 use Rattle.end.specs.Event.{Moves, Arrival}
 use Rattle.guarantees.specs.History.{Told, nothing_yet, since_joining, count_over, counted, span_since}

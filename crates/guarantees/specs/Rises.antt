@@ -4,8 +4,7 @@ use Rattle.message.specs.declared.Host.{Host}
 use Rattle.message.specs.Entry.{as_host, as_number}
 use Rattle.end.specs.declared.Params.{Params}
 use Rattle.end.specs.declared.Record.{Record}
-use Rattle.end.specs.declared.Span.{Span}
-use Rattle.end.specs.declared.Span.TheVariants.{Closed, Open}
+use Rattle.end.specs.Parts.{Span, Closed, Open}
 use Rattle.end.specs.declared.Source.{Source}
 use Rattle.end.specs.declared.End.{End}
 use Rattle.end.specs.declared.Moment.{Moment}

@@ -4,10 +4,9 @@
 use Rattle.std.specs.Prelude.{◌≡◌, Bool, false, cond, ◌&&◌, ◌||◌, List, [], ◌∷◌, ◌⊎◌, ℕ, zero, suc, ◌+◌, ◌≤◌, ◌<◌, ltb, leb, eqb}
 use Rattle.message.specs.declared.Name.{Name}
 use Rattle.message.specs.Entry.{as_host, as_number}
-use Rattle.end.specs.declared.Express.TheVariants.{Unset, Soon}
+use Rattle.end.specs.Parts.{Unset, Soon, No, Due}
 use Rattle.end.specs.declared.Slot.{Slot}
 use Rattle.end.specs.declared.Slot.TheVariants.{Empty, Held, Waiting}
-use Rattle.end.specs.declared.Reply.TheVariants.{No, Due}
 use Rattle.end.specs.declared.Wait.{Wait}
 use Rattle.end.specs.declared.End.{End}
 use Rattle.end.specs.State.{source_at}

@@ -14,9 +14,7 @@ use Rattle.message.specs.declared.Host.{Host}
 use Rattle.message.specs.declared.CueNumber.{CueNumber}
 use Rattle.message.specs.Question.{same_host}
 use Rattle.message.proofs.QuestionLaws.{and_both}
-use Rattle.end.specs.declared.Span.TheVariants.{Closed, Open}
-use Rattle.end.specs.declared.Origin.{Origin}
-use Rattle.end.specs.declared.Origin.TheVariants.{NoOrigin, From}
+use Rattle.end.specs.Parts.{Closed, Open, Origin, NoOrigin, From}
 use Rattle.end.specs.declared.Attempt.{Attempt}
 use Rattle.end.specs.declared.Source.{Source}
 use Rattle.end.specs.State.{no_attempt}

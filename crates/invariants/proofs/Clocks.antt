@@ -12,18 +12,10 @@ use Rattle.message.specs.Message.{DATA, RQST, REPL, XPRS, FTCH, LATE, ANNC, Mean
 use Rattle.message.specs.Question.{same_host}
 use Rattle.end.specs.declared.Slot.{Slot}
 use Rattle.end.specs.declared.Slot.TheVariants.{Empty, Held, Waiting}
-use Rattle.end.specs.declared.Reply.TheVariants.{No, Due}
-use Rattle.end.specs.declared.Span.{Span}
-use Rattle.end.specs.declared.Span.TheVariants.{Closed, Open}
-use Rattle.end.specs.declared.Heard.{Heard}
-use Rattle.end.specs.declared.Heard.TheVariants.{At}
+use Rattle.end.specs.Parts.{No, Due, Span, Closed, Open, Heard, At, Earliest, NoWait, First, Nearest, Nobody, Found}
 use Rattle.end.specs.declared.Moment.{Moment}
 use Rattle.end.specs.declared.Move.{Move}
 use Rattle.end.specs.declared.End.{End}
-use Rattle.end.specs.declared.Earliest.{Earliest}
-use Rattle.end.specs.declared.Earliest.TheVariants.{NoWait, First}
-use Rattle.end.specs.declared.Nearest.{Nearest}
-use Rattle.end.specs.declared.Nearest.TheVariants.{Nobody, Found}
 use Rattle.end.specs.State.{is_member, is_crashed, source_at, moment_of, on_source, with_clock}
 use Rattle.end.specs.Records.{record_at}
 use Rattle.end.specs.Sound.{all_of, heard_tests}

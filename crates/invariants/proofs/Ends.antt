@@ -17,8 +17,7 @@ use Rattle.end.specs.declared.Status.{Status}
 use Rattle.end.specs.declared.Slot.{Slot}
 use Rattle.end.specs.declared.Slot.TheVariants.{Empty}
 use Rattle.end.specs.declared.Record.{Record}
-use Rattle.end.specs.declared.Heard.{Heard}
-use Rattle.end.specs.declared.Heard.TheVariants.{Never, At}
+use Rattle.end.specs.Parts.{Heard, Never, At}
 use Rattle.end.specs.declared.Source.{Source}
 use Rattle.end.specs.declared.End.{End}
 use Rattle.end.specs.State.{no_record, no_source, no_attempt, blank_record, first_distance, unheard, unheard_sources, source_at, is_member}

@@ -14,12 +14,7 @@ use Rattle.message.specs.Entry.{as_host}
 use Rattle.message.specs.Message.{Meaning}
 use Rattle.message.specs.Question.{host_in, same_host}
 use Rattle.message.proofs.QuestionLaws.{and_both}
-use Rattle.end.specs.declared.Span.{Span}
-use Rattle.end.specs.declared.Span.TheVariants.{Closed, Open}
-use Rattle.end.specs.declared.Origin.{Origin}
-use Rattle.end.specs.declared.Origin.TheVariants.{NoOrigin, From}
-use Rattle.end.specs.declared.Nearest.{Nearest}
-use Rattle.end.specs.declared.Nearest.TheVariants.{Nobody, Found}
+use Rattle.end.specs.Parts.{Span, Closed, Open, Origin, NoOrigin, From, Nearest, Nobody, Found}
 use Rattle.end.specs.declared.End.{End}
 use Rattle.end.specs.State.{source_at, distance_to, is_member}
 use Rattle.end.specs.Records.{fetchable}

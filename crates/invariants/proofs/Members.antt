@@ -26,9 +26,7 @@ use Rattle.end.specs.declared.Decision.{Decision}
 use Rattle.end.specs.declared.Decision.TheVariants.{Ignores, Opens, Takes, Repairs, Hushes, Replies, Learns, BacksOff, Clashes, Expresses}
 use Rattle.end.specs.declared.Slot.{Slot}
 use Rattle.end.specs.declared.Slot.TheVariants.{Empty, Held, Waiting}
-use Rattle.end.specs.declared.Reply.TheVariants.{No, Due}
-use Rattle.end.specs.declared.Earliest.{Earliest}
-use Rattle.end.specs.declared.Earliest.TheVariants.{NoWait, First}
+use Rattle.end.specs.Parts.{No, Due, Earliest, NoWait, First}
 use Rattle.end.specs.State.{source_at, is_member, moment_of, on_source, distance_to}
 use Rattle.end.specs.Records.{within, record_at, is_held, is_above}
 use Rattle.end.specs.Round.{Drawn}

@@ -16,8 +16,7 @@ use Rattle.end.specs.declared.Status.{Status}
 use Rattle.end.specs.declared.Status.TheVariants.{Idle, Joining, Member, Leaving, Crashed}
 use Rattle.end.specs.declared.Move.{Move}
 use Rattle.end.specs.declared.Move.TheVariants.{Join, Joined, Leave, Left, Crash}
-use Rattle.end.specs.declared.Span.{Span}
-use Rattle.end.specs.declared.Span.TheVariants.{Closed, Open}
+use Rattle.end.specs.Parts.{Span, Closed, Open}
 use Rattle.end.specs.declared.Source.{Source}
 use Rattle.end.specs.declared.End.{End}
 use Rattle.end.specs.State.{no_source, is_member, is_crashed, source_at, moment_of}

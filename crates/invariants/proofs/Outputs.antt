@@ -21,25 +21,16 @@ use Rattle.message.proofs.SectionLaws.{All, none, some}
 use Rattle.message.proofs.EntryLaws.{CueFits}
 use Rattle.roundtrip.proofs.RoundTrip.{accepts, fits_of_lem, meaning_accepted, read_back, read_message}
 use Rattle.end.specs.declared.Request.{Request}
-use Rattle.end.specs.declared.Express.{Express}
-use Rattle.end.specs.declared.Express.TheVariants.{Unset, Soon}
-use Rattle.end.specs.declared.Pair.{Pair}
+use Rattle.end.specs.Parts.{Express, Unset, Soon, Pair, No, Due, Span, Closed, Open, Earliest, NoWait, First, Nearest, Nobody, Found}
 use Rattle.end.specs.declared.Slot.{Slot}
 use Rattle.end.specs.declared.Slot.TheVariants.{Empty, Held, Waiting}
-use Rattle.end.specs.declared.Reply.TheVariants.{No, Due}
 use Rattle.end.specs.declared.Record.{Record}
-use Rattle.end.specs.declared.Span.{Span}
-use Rattle.end.specs.declared.Span.TheVariants.{Closed, Open}
 use Rattle.end.specs.declared.Says.{Says}
 use Rattle.end.specs.declared.Says.TheVariants.{Data, Rqst, Repl, Xprs}
 use Rattle.end.specs.declared.Decision.{Decision}
 use Rattle.end.specs.declared.Decision.TheVariants.{Ignores, Opens, Takes, Repairs, Hushes, Replies, Learns, BacksOff, Clashes, Expresses}
 use Rattle.end.specs.declared.Move.{Move}
 use Rattle.end.specs.declared.End.{End}
-use Rattle.end.specs.declared.Earliest.{Earliest}
-use Rattle.end.specs.declared.Earliest.TheVariants.{NoWait, First}
-use Rattle.end.specs.declared.Nearest.{Nearest}
-use Rattle.end.specs.declared.Nearest.TheVariants.{Nobody, Found}
 use Rattle.end.specs.State.{source_at, is_member, is_crashed, moment_of, with_clock}
 use Rattle.end.specs.Records.{is_held, reply_in, express_in}
 use Rattle.end.specs.Sound.{all_of, time_in, is_no_pair, express_sound, span_tests}

@@ -10,14 +10,9 @@ use Rattle.message.specs.Cue.{cue_in}
 use Rattle.message.specs.Question.{same_host}
 use Rattle.message.proofs.QuestionLaws.{and_both}
 use Rattle.end.specs.declared.Request.{Request}
-use Rattle.end.specs.declared.Express.{Express}
-use Rattle.end.specs.declared.Express.TheVariants.{Unset, Soon}
-use Rattle.end.specs.declared.Pair.{Pair}
-use Rattle.end.specs.declared.Pair.TheVariants.{NoPair, Kept}
+use Rattle.end.specs.Parts.{Express, Unset, Soon, Pair, NoPair, Kept, Reply, No, Due}
 use Rattle.end.specs.declared.Slot.{Slot}
 use Rattle.end.specs.declared.Slot.TheVariants.{Empty, Held, Waiting}
-use Rattle.end.specs.declared.Reply.{Reply}
-use Rattle.end.specs.declared.Reply.TheVariants.{No, Due}
 use Rattle.end.specs.declared.Record.{Record}
 use Rattle.end.specs.declared.Moment.{Moment}
 use Rattle.end.specs.Records.{place, is_held, reply_in, with_reply, express_in, with_express}

@@ -15,15 +15,10 @@ use Rattle.message.specs.declared.CueNumber.{CueNumber}
 use Rattle.message.specs.Cue.{cue_in}
 use Rattle.message.specs.Question.{same_host}
 use Rattle.message.specs.Entry.{as_number}
-use Rattle.end.specs.declared.Express.{Express}
-use Rattle.end.specs.declared.Express.TheVariants.{Unset, Soon}
+use Rattle.end.specs.Parts.{Express, Unset, Soon, Origin, NoOrigin, From, Span, Closed, Open}
 use Rattle.end.specs.declared.Record.{Record}
-use Rattle.end.specs.declared.Origin.{Origin}
-use Rattle.end.specs.declared.Origin.TheVariants.{NoOrigin, From}
 use Rattle.end.specs.declared.Source.{Source}
 use Rattle.end.specs.declared.Moment.{Moment}
-use Rattle.end.specs.declared.Span.{Span}
-use Rattle.end.specs.declared.Span.TheVariants.{Closed, Open}
 use Rattle.end.specs.State.{no_record, blank_record, with_names, with_origin}
 use Rattle.end.specs.Records.{within, is_above, start, place, raw_at, record_at}
 use Rattle.end.specs.Round.{Drawn, request_at}

@@ -14,12 +14,8 @@ use Rattle.message.specs.Cue.{cue_in}
 use Rattle.message.specs.Question.{same_host}
 use Rattle.message.specs.declared.CueNumber.{CueNumber}
 use Rattle.end.specs.declared.Request.{Request}
-use Rattle.end.specs.declared.Express.{Express}
-use Rattle.end.specs.declared.Express.TheVariants.{Unset}
-use Rattle.end.specs.declared.Pair.{Pair}
-use Rattle.end.specs.declared.Pair.TheVariants.{NoPair, Kept}
+use Rattle.end.specs.Parts.{Express, Unset, Pair, NoPair, Kept, No, Due}
 use Rattle.end.specs.declared.Slot.TheVariants.{Empty, Waiting}
-use Rattle.end.specs.declared.Reply.TheVariants.{No, Due}
 use Rattle.end.specs.declared.Record.{Record}
 use Rattle.end.specs.declared.Source.{Source}
 use Rattle.end.specs.declared.Moment.{Moment}

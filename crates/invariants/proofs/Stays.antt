@@ -16,8 +16,7 @@ use Rattle.end.specs.declared.Params.{Params}
 use Rattle.end.specs.declared.Status.TheVariants.{Idle, Crashed}
 use Rattle.end.specs.declared.Says.{Says}
 use Rattle.end.specs.declared.Says.TheVariants.{Data, Rqst, Repl, Xprs}
-use Rattle.end.specs.declared.Span.{Span}
-use Rattle.end.specs.declared.Span.TheVariants.{Closed, Open}
+use Rattle.end.specs.Parts.{Span, Closed, Open}
 use Rattle.end.specs.declared.End.{End}
 use Rattle.end.specs.State.{fresh_end, source_at, is_member, is_crashed, moment_of, with_clock}
 use Rattle.end.specs.Round.{Drawn}

@@ -19,10 +19,7 @@ use Rattle.message.specs.Kind.{row_of, most_number}
 use Rattle.message.specs.Message.{DATA, RQST, SESS, ANNC, counts_of}
 use Rattle.message.specs.Question.{first_no, meaning_questions, kind_has_counts, in_range, window_fits, hosts_fit, host_in, report_in, echo_in, not_from, report_source, echo_host, same_host, ticks_in}
 use Rattle.message.proofs.QuestionLaws.{and_both}
-use Rattle.end.specs.declared.Span.{Span}
-use Rattle.end.specs.declared.Span.TheVariants.{Closed, Open}
-use Rattle.end.specs.declared.Heard.{Heard}
-use Rattle.end.specs.declared.Heard.TheVariants.{Never, At}
+use Rattle.end.specs.Parts.{Span, Closed, Open, Heard, Never, At}
 use Rattle.end.specs.declared.End.{End}
 use Rattle.end.specs.State.{no_source, moment_of}
 use Rattle.end.specs.Sound.{all_of, span_tests, heard_tests}

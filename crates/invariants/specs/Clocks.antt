@@ -1,7 +1,7 @@
 -- Clocks, as statements; proofs/Clocks.antt and proofs/Lists.antt prove each.
 use Rattle.std.specs.Prelude.{◌≡◌, true, List, ℕ, ◌≤◌, ◌<◌}
 use Rattle.message.specs.declared.Host.{Host}
-use Rattle.end.specs.declared.Heard.TheVariants.{At}
+use Rattle.end.specs.Parts.{At}
 use Rattle.end.specs.declared.End.{End}
 use Rattle.end.specs.State.{source_at}
 use Rattle.end.specs.Sound.{sound_of}

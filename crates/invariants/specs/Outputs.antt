@@ -7,8 +7,7 @@ use Rattle.message.specs.declared.Name.{Name}
 use Rattle.message.specs.Message.{DATA, RQST, REPL, SESS, XPRS, FTCH, LATE, ANNC, Meaning, meaning_from}
 use Rattle.message.specs.Question.{same_host, read_of}
 use Rattle.message.specs.declared.Verdict.TheVariants.{Accepted}
-use Rattle.end.specs.declared.Span.TheVariants.{Open}
-use Rattle.end.specs.declared.Pair.{Pair}
+use Rattle.end.specs.Parts.{Open, Pair}
 use Rattle.end.specs.declared.Record.{Record}
 use Rattle.end.specs.declared.End.{End}
 use Rattle.end.specs.State.{source_at, distance_to, moment_of}

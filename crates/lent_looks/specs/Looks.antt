@@ -2,10 +2,7 @@
 -- there is no such value.
 use Rattle.std.specs.Prelude.{ℕ, cond, List, get_or, ltb}
 use Rattle.message.specs.Limit.{host_limit}
-use Rattle.end.specs.declared.Span.{Span}
-use Rattle.end.specs.declared.Span.TheVariants.{Closed, Open}
-use Rattle.end.specs.declared.Origin.{Origin}
-use Rattle.end.specs.declared.Origin.TheVariants.{NoOrigin, From}
+use Rattle.end.specs.Parts.{Span, Closed, Open, Origin, NoOrigin, From}
 use Rattle.end.specs.declared.Source.{Source}
 use Rattle.end.specs.declared.End.{End}
 use Rattle.end.specs.State.{no_source}

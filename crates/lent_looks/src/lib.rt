@@ -94,8 +94,8 @@ fn first_of(span: Span) -> u64
     ensures { result ≡ first_of span }
 {
     match span {
-        Span::Closed => NONE,
-        Span::Open(first, _) => first.0 as u64,
+        None => NONE,
+        Some((first, _)) => first.0 as u64,
     }
 }
 
@@ -103,8 +103,8 @@ fn last_of(span: Span) -> u64
     ensures { result ≡ last_of span }
 {
     match span {
-        Span::Closed => NONE,
-        Span::Open(_, last) => last.0 as u64,
+        None => NONE,
+        Some((_, last)) => last.0 as u64,
     }
 }
 
@@ -112,8 +112,8 @@ fn origin_of(origin: Origin) -> u64
     ensures { result ≡ origin_of origin }
 {
     match origin {
-        Origin::NoOrigin => NONE,
-        Origin::From(n) => n.0 as u64,
+        None => NONE,
+        Some(n) => n.0 as u64,
     }
 }
 

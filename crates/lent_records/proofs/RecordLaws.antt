@@ -10,8 +10,7 @@ use Rattle.message.proofs.QuestionLaws.{and_both}
 use Rattle.message.specs.Section.{flat}
 use Rattle.end.specs.declared.Slot.{Slot}
 use Rattle.end.specs.declared.Slot.TheVariants.{Empty, Held, Waiting}
-use Rattle.end.specs.declared.Express.TheVariants.{Unset, Soon}
-use Rattle.end.specs.declared.Reply.TheVariants.{No, Due}
+use Rattle.end.specs.Parts.{Unset, Soon, No, Due}
 use Rattle.end.specs.declared.Record.{Record}
 use Rattle.lent_fields.specs.Fields.{many, all_pass, Two, free}
 use Rattle.lent_fields.proofs.Codec.{Codec, number_codec, bytes_codec, both_codec, beside, retest, struct_codec, enum_codec, refit, array_codec}

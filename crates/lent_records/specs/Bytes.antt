@@ -11,10 +11,7 @@ use Rattle.message.specs.Entry.{as_host}
 use Rattle.message.proofs.SectionLaws.{All}
 use Rattle.end.specs.declared.Slot.{Slot}
 use Rattle.end.specs.declared.Slot.TheVariants.{Empty, Held, Waiting}
-use Rattle.end.specs.declared.Express.{Express}
-use Rattle.end.specs.declared.Express.TheVariants.{Unset, Soon}
-use Rattle.end.specs.declared.Reply.{Reply}
-use Rattle.end.specs.declared.Reply.TheVariants.{No, Due}
+use Rattle.end.specs.Parts.{Express, Unset, Soon, Reply, No, Due}
 use Rattle.end.specs.declared.Request.{Request}
 use Rattle.end.specs.declared.Record.{Record}
 use Rattle.lent_fields.specs.Fields.{number, part, Below, Long}

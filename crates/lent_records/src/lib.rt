@@ -40,8 +40,8 @@ fn five_held(reply: Reply) -> Five
     ensures { result ≡ five_held reply }
 {
     match reply {
-        Reply::No => make(1, 0, 0, 0, 0),
-        Reply::Due(due, who) => make(2, who.0, due, 0, 0),
+        None => make(1, 0, 0, 0, 0),
+        Some((due, who)) => make(2, who.0, due, 0, 0),
     }
 }
 
@@ -49,8 +49,8 @@ fn five_waiting(q: Request, x: Express) -> Five
     ensures { result ≡ five_waiting q x }
 {
     match x {
-        Express::Unset => make(3, q.round, q.due, q.quiet, 0),
-        Express::Soon(due) => make(4, q.round, q.due, q.quiet, due),
+        None => make(3, q.round, q.due, q.quiet, 0),
+        Some(due) => make(4, q.round, q.due, q.quiet, due),
     }
 }
 
@@ -81,16 +81,16 @@ fn slot_of(f: Five) -> Slot
         return Slot::Empty;
     }
     if f.tag == 1 {
-        return Slot::Held(Reply::No);
+        return Slot::Held(None);
     }
     if f.tag == 2 {
-        return Slot::Held(Reply::Due(f.a, Host(f.small)));
+        return Slot::Held(Some((f.a, Host(f.small))));
     }
     let q = request_of(f);
     if f.tag == 3 {
-        return Slot::Waiting(q, Express::Unset);
+        return Slot::Waiting(q, None);
     }
-    Slot::Waiting(q, Express::Soon(f.c))
+    Slot::Waiting(q, Some(f.c))
 }
 
 // Whether the five numbers are those of a slot.

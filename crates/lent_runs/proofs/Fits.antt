@@ -18,17 +18,8 @@ use Rattle.end.specs.declared.Status.{Status}
 use Rattle.end.specs.declared.Status.TheVariants.{Idle, Joining, Member, Leaving, Crashed}
 use Rattle.end.specs.declared.Slot.{Slot}
 use Rattle.end.specs.declared.Slot.TheVariants.{Empty, Held, Waiting}
-use Rattle.end.specs.declared.Express.TheVariants.{Unset, Soon}
-use Rattle.end.specs.declared.Reply.TheVariants.{No, Due}
-use Rattle.end.specs.declared.Pair.{Pair}
-use Rattle.end.specs.declared.Pair.TheVariants.{NoPair, Kept}
-use Rattle.end.specs.declared.Heard.{Heard}
-use Rattle.end.specs.declared.Heard.TheVariants.{Never, At}
-use Rattle.end.specs.declared.Origin.{Origin}
-use Rattle.end.specs.declared.Origin.TheVariants.{NoOrigin, From}
+use Rattle.end.specs.Parts.{Unset, Soon, No, Due, Pair, NoPair, Kept, Heard, Never, At, Origin, NoOrigin, From, Span, Closed, Open}
 use Rattle.end.specs.declared.Record.{Record}
-use Rattle.end.specs.declared.Span.{Span}
-use Rattle.end.specs.declared.Span.TheVariants.{Closed, Open}
 use Rattle.end.specs.declared.Source.{Source}
 use Rattle.end.specs.declared.End.{End}
 use Rattle.end.specs.State.{no_record, no_source, no_attempt, is_member}

@@ -19,13 +19,9 @@ use Rattle.message.proofs.QuestionLaws.{and_both}
 use borrow.Author.Tests.{ltb-true}
 use Rattle.end.specs.declared.Slot.{Slot}
 use Rattle.end.specs.declared.Slot.TheVariants.{Empty, Held, Waiting}
-use Rattle.end.specs.declared.Reply.TheVariants.{No, Due}
-use Rattle.end.specs.declared.Heard.{Heard}
-use Rattle.end.specs.declared.Heard.TheVariants.{Never, At}
+use Rattle.end.specs.Parts.{No, Due, Heard, Never, At, Span, Closed, Open, Earliest, NoWait, First, Nearest, Nobody, Found}
 use Rattle.end.specs.declared.Record.{Record}
 use Rattle.end.specs.declared.Attempt.{Attempt}
-use Rattle.end.specs.declared.Span.{Span}
-use Rattle.end.specs.declared.Span.TheVariants.{Closed, Open}
 use Rattle.end.specs.declared.Source.{Source}
 use Rattle.end.specs.declared.End.{End}
 use Rattle.end.specs.declared.Moment.{Moment}
@@ -35,10 +31,6 @@ use Rattle.end.specs.declared.Decision.{Decision}
 use Rattle.end.specs.declared.Decision.TheVariants.{Ignores, Opens, Takes, Repairs, Hushes, Replies, Learns, BacksOff, Clashes, Expresses}
 use Rattle.end.specs.declared.Says.{Says}
 use Rattle.end.specs.declared.Says.TheVariants.{Data, Rqst, Repl, Xprs}
-use Rattle.end.specs.declared.Earliest.{Earliest}
-use Rattle.end.specs.declared.Earliest.TheVariants.{NoWait, First}
-use Rattle.end.specs.declared.Nearest.{Nearest}
-use Rattle.end.specs.declared.Nearest.TheVariants.{Nobody, Found}
 use Rattle.end.specs.State.{no_record, no_source, no_attempt, blank_record, unheard, unheard_sources, source_at, distance_to, is_member, moment_of, with_clock, on_source}
 use Rattle.end.specs.Records.{within, place, record_at, is_above, with_record, fetchable, attempt_at, with_attempt}
 use Rattle.end.specs.Round.{next_round}

@@ -13,14 +13,7 @@ use Rattle.numbers.specs.Number.{digits}
 use Rattle.message.specs.Entry.{as_host, as_number}
 use Rattle.message.specs.Section.{flat}
 use Rattle.message.proofs.SectionLaws.{All}
-use Rattle.end.specs.declared.Span.{Span}
-use Rattle.end.specs.declared.Span.TheVariants.{Closed, Open}
-use Rattle.end.specs.declared.Pair.{Pair}
-use Rattle.end.specs.declared.Pair.TheVariants.{NoPair, Kept}
-use Rattle.end.specs.declared.Heard.{Heard}
-use Rattle.end.specs.declared.Heard.TheVariants.{Never, At}
-use Rattle.end.specs.declared.Origin.{Origin}
-use Rattle.end.specs.declared.Origin.TheVariants.{NoOrigin, From}
+use Rattle.end.specs.Parts.{Span, Closed, Open, Pair, NoPair, Kept, Heard, Never, At, Origin, NoOrigin, From}
 use Rattle.end.specs.declared.Attempt.{Attempt}
 use Rattle.end.specs.declared.Source.{Source}
 use Rattle.lent_records.specs.Bytes.{record_width, record_from, record_test, record_bytes, RecordsFit}

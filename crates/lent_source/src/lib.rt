@@ -23,9 +23,9 @@ fn span_of(tag: u8, first: u16, last: u16) -> Span
     ensures { result ≡ span_of tag first last }
 {
     if tag == 0 {
-        return Span::Closed;
+        return None;
     }
-    Span::Open(CueNumber(first), CueNumber(last))
+    Some((CueNumber(first), CueNumber(last)))
 }
 
 pub fn get_span(s: &[u8], at: usize) -> Span
@@ -64,8 +64,8 @@ fn put_span(s: &mut [u8], at: usize, span: Span)
     ensures span_fits { SpanFits span }
 {
     match span {
-        Span::Closed => put_three(s, at, 0, 0, 0),
-        Span::Open(first, last) => put_three(s, at, 1, first.0, last.0),
+        None => put_three(s, at, 0, 0, 0),
+        Some((first, last)) => put_three(s, at, 1, first.0, last.0),
     }
 }
 
@@ -74,9 +74,9 @@ fn pair_of(tag: u8, a: u8, b: u8, n: u16) -> Pair
     ensures { result ≡ pair_of tag a b n }
 {
     if tag == 0 {
-        return Pair::NoPair;
+        return None;
     }
-    Pair::Kept(Host(a), Host(b), CueNumber(n))
+    Some((Host(a), Host(b), CueNumber(n)))
 }
 
 fn get_pair(s: &[u8], at: usize) -> Pair
@@ -118,8 +118,8 @@ fn put_pair(s: &mut [u8], at: usize, pair: Pair)
     ensures pair_fits { PairFits pair }
 {
     match pair {
-        Pair::NoPair => put_four(s, at, 0, 0, 0, 0),
-        Pair::Kept(a, b, n) => put_four(s, at, 1, a.0, b.0, n.0),
+        None => put_four(s, at, 0, 0, 0, 0),
+        Some((a, b, n)) => put_four(s, at, 1, a.0, b.0, n.0),
     }
 }
 
@@ -128,9 +128,9 @@ fn heard_of(tag: u8, stamp: u64, when: u64, hosts: u8) -> Heard
     ensures { result ≡ heard_of tag stamp when hosts }
 {
     if tag == 0 {
-        return Heard::Never;
+        return None;
     }
-    Heard::At(stamp, when, hosts)
+    Some((stamp, when, hosts))
 }
 
 fn get_heard(s: &[u8], at: usize) -> Heard
@@ -172,8 +172,8 @@ fn put_heard(s: &mut [u8], at: usize, heard: Heard)
     ensures heard_fits { HeardFits heard }
 {
     match heard {
-        Heard::Never => put_times(s, at, 0, 0, 0, 0),
-        Heard::At(stamp, when, hosts) => put_times(s, at, 1, stamp, when, hosts),
+        None => put_times(s, at, 0, 0, 0, 0),
+        Some((stamp, when, hosts)) => put_times(s, at, 1, stamp, when, hosts),
     }
 }
 
@@ -182,9 +182,9 @@ fn origin_of(tag: u8, n: u16) -> Origin
     ensures { result ≡ origin_of tag n }
 {
     if tag == 0 {
-        return Origin::NoOrigin;
+        return None;
     }
-    Origin::From(CueNumber(n))
+    Some(CueNumber(n))
 }
 
 pub fn get_origin(s: &[u8], at: usize) -> Origin
@@ -220,8 +220,8 @@ fn put_origin(s: &mut [u8], at: usize, origin: Origin)
     ensures origin_fits { OriginFits origin }
 {
     match origin {
-        Origin::NoOrigin => put_one(s, at, 0, 0),
-        Origin::From(n) => put_one(s, at, 1, n.0),
+        None => put_one(s, at, 0, 0),
+        Some(n) => put_one(s, at, 1, n.0),
     }
 }
 

@@ -32,13 +32,13 @@ fn unheard_source(distance: u64) -> Source
     };
     let untried = state::no_attempt();
     Source {
-        span: Span::Closed,
+        span: None,
         missed: 0,
-        pair: Pair::NoPair,
+        pair: None,
         distance,
-        heard: Heard::Never,
+        heard: None,
         names: [blank; 64],
-        origin: Origin::NoOrigin,
+        origin: None,
         attempts: [untried; 64],
     }
 }

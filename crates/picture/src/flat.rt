@@ -74,16 +74,16 @@ fn holding(kind: u64, a: u64, b: u64, c: u64) -> Held {
 
 fn replied(r: Reply) -> Held {
     match r {
-        Reply::No => holding(HELD, 0, 0, 0),
-        Reply::Due(due, requester) => holding(REPLIES, due, requester.0 as u64, 0),
+        None => holding(HELD, 0, 0, 0),
+        Some((due, requester)) => holding(REPLIES, due, requester.0 as u64, 0),
     }
 }
 
 fn with_express(h: Held, x: Express) -> Held {
     let mut t = h;
     match x {
-        Express::Unset => t.express = 0,
-        Express::Soon(due) => {
+        None => t.express = 0,
+        Some(due) => {
             t.express = 1;
             t.soon = due;
         }
@@ -142,8 +142,8 @@ pub fn is_blank(f: Flat) -> bool {
 fn with_span(h: Head, s: Span) -> Head {
     let mut t = h;
     match s {
-        Span::Closed => t.open = 0,
-        Span::Open(first, last) => {
+        None => t.open = 0,
+        Some((first, last)) => {
             t.open = 1;
             t.first = first.0 as u64;
             t.last = last.0 as u64;
@@ -155,8 +155,8 @@ fn with_span(h: Head, s: Span) -> Head {
 fn with_pair(h: Head, pair: Pair) -> Head {
     let mut t = h;
     match pair {
-        Pair::NoPair => t.paired = 0,
-        Pair::Kept(requester, sender, number) => {
+        None => t.paired = 0,
+        Some((requester, sender, number)) => {
             t.paired = 1;
             t.requester = requester.0 as u64;
             t.sender = sender.0 as u64;
@@ -169,8 +169,8 @@ fn with_pair(h: Head, pair: Pair) -> Head {
 fn with_heard(h: Head, heard: Heard) -> Head {
     let mut t = h;
     match heard {
-        Heard::Never => t.heard = 0,
-        Heard::At(stamp, when, reported) => {
+        None => t.heard = 0,
+        Some((stamp, when, reported)) => {
             t.heard = 1;
             t.stamp = stamp;
             t.when = when;
@@ -183,8 +183,8 @@ fn with_heard(h: Head, heard: Heard) -> Head {
 fn with_origin(h: Head, origin: Origin) -> Head {
     let mut t = h;
     match origin {
-        Origin::NoOrigin => t.known = 0,
-        Origin::From(number) => {
+        None => t.known = 0,
+        Some(number) => {
             t.known = 1;
             t.origin = number.0 as u64;
         }

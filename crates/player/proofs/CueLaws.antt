@@ -17,15 +17,9 @@ use Rattle.roundtrip.proofs.RoundTrip.{accepted}
 use Rattle.end.specs.declared.End.{End}
 use Rattle.end.specs.declared.Slot.{Slot}
 use Rattle.end.specs.declared.Slot.TheVariants.{Empty, Held, Waiting}
-use Rattle.end.specs.declared.Reply.TheVariants.{No, Due}
-use Rattle.end.specs.declared.Earliest.{Earliest}
-use Rattle.end.specs.declared.Earliest.TheVariants.{NoWait, First}
-use Rattle.end.specs.declared.Nearest.{Nearest}
-use Rattle.end.specs.declared.Nearest.TheVariants.{Nobody, Found}
+use Rattle.end.specs.Parts.{No, Due, Earliest, NoWait, First, Nearest, Nobody, Found, Span, Closed, Open}
 use Rattle.end.specs.declared.Says.{Says}
 use Rattle.end.specs.declared.Says.TheVariants.{Data, Rqst, Repl, Xprs}
-use Rattle.end.specs.declared.Span.{Span}
-use Rattle.end.specs.declared.Span.TheVariants.{Closed, Open}
 use Rattle.end.specs.declared.Moment.{Moment}
 use Rattle.end.specs.declared.Record.{Record}
 use Rattle.end.specs.declared.Word.{Word}

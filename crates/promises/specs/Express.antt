@@ -6,8 +6,7 @@ use Rattle.message.specs.Entry.{as_host}
 use Rattle.message.specs.Message.{XPRS, meaning_from, bytes_of}
 use Rattle.end.specs.declared.Params.{Params}
 use Rattle.end.specs.declared.Request.{Request}
-use Rattle.end.specs.declared.Express.TheVariants.{Unset, Soon}
-use Rattle.end.specs.declared.Pair.TheVariants.{NoPair}
+use Rattle.end.specs.Parts.{Unset, Soon, NoPair}
 use Rattle.end.specs.declared.Slot.TheVariants.{Waiting}
 use Rattle.end.specs.declared.End.{End}
 use Rattle.end.specs.State.{source_at, distance_to, with_clock, on_source}

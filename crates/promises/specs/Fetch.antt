@@ -9,7 +9,7 @@ use Rattle.message.specs.Entry.{as_host}
 use Rattle.message.specs.Message.{FTCH, LATE, Meaning, meaning_from, bytes_of}
 use Rattle.message.specs.Question.{same_host}
 use Rattle.end.specs.declared.Params.{Params}
-use Rattle.end.specs.declared.Origin.TheVariants.{From}
+use Rattle.end.specs.Parts.{From}
 use Rattle.end.specs.declared.End.{End}
 use Rattle.end.specs.State.{source_at, is_member, is_crashed, moment_of, with_clock, on_source}
 use Rattle.end.specs.Records.{is_held, fetchable, attempt_at}

@@ -3,7 +3,7 @@ use Rattle.std.specs.Prelude.{◌≡◌, List, ℕ, ◌+◌, ◌≤◌, ◌<◌,
 use Rattle.message.specs.declared.Host.{Host}
 use Rattle.end.specs.declared.Params.{Params}
 use Rattle.end.specs.declared.Wait.{Wait}
-use Rattle.end.specs.declared.Earliest.TheVariants.{NoWait, First}
+use Rattle.end.specs.Parts.{NoWait, First}
 use Rattle.end.specs.declared.End.{End}
 use Rattle.end.specs.State.{with_clock}
 use Rattle.end.specs.Answer.{Out, Nothing, Did}

@@ -3,8 +3,7 @@
 -- private or taken away below no longer fits here.
 use Rattle.std.specs.Prelude.{◌≡◌, false}
 use Rattle.end.specs.declared.Record.{Record}
-use Rattle.end.specs.declared.Span.{Span}
-use Rattle.end.specs.declared.Span.TheVariants.{Closed}
+use Rattle.end.specs.Parts.{Span, Closed}
 use Rattle.end.specs.declared.Moment.{Moment}
 use Rattle.end.specs.declared.Word.{Word}
 use Rattle.end.specs.Records.{is_held}

@@ -9,7 +9,7 @@ use Rattle.message.specs.Entry.{as_host}
 use Rattle.message.specs.Message.{meaning_from}
 use Rattle.message.specs.Question.{same_host}
 use Rattle.end.specs.declared.Request.{Request}
-use Rattle.end.specs.declared.Express.TheVariants.{Soon}
+use Rattle.end.specs.Parts.{Soon}
 use Rattle.end.specs.declared.Slot.TheVariants.{Waiting}
 use Rattle.end.specs.declared.End.{End}
 use Rattle.end.specs.State.{source_at, distance_to, is_member}

@@ -10,7 +10,7 @@ use Rattle.end.specs.Opening.{opening_of}
 use Rattle.end.specs.Run.{CueArray, Call, World, seen, Fresh}
 use Rattle.end.specs.Answer.{Out, Did}
 use Rattle.invariants.specs.Lists.{through, Declared, NoneAs3}
-use Rattle.end.specs.declared.Heard.TheVariants.{At}
+use Rattle.end.specs.Parts.{At}
 use Rattle.end.specs.State.{source_at}
 use Rattle.invariants.specs.Outputs.{RightOut}
 

@@ -6,17 +6,13 @@ use mathlib.Core.Bool.{Bool, true, false, cond}
 use mathlib.Core.List.{List}
 use lib.ListN.{get_or}
 use lib.Dec.{eqb}
-use borrow.Author.Tests.{le-leb, lt-leb}
+use borrow.Author.Tests.{le-leb}
 use Rattle.message.specs.declared.Host.{Host}
 use Rattle.message.specs.declared.CueNumber.{CueNumber}
 use Rattle.end.specs.declared.Request.{Request}
 use Rattle.end.specs.declared.Slot.{Slot}
 use Rattle.end.specs.declared.Slot.TheVariants.{Waiting}
-use Rattle.end.specs.declared.Express.{Express}
-use Rattle.end.specs.declared.Express.TheVariants.{Unset, Soon}
-use Rattle.end.specs.declared.Pair.{Pair}
-use Rattle.end.specs.declared.Pair.TheVariants.{Kept}
-use Rattle.end.specs.declared.Reply.TheVariants.{No, Due}
+use Rattle.end.specs.Parts.{Express, Unset, Soon, Pair, Kept, No, Due}
 use Rattle.end.specs.declared.Record.{Record}
 use Rattle.end.specs.declared.Source.{Source}
 use Rattle.end.specs.declared.Moment.{Moment}
@@ -60,9 +56,6 @@ express-dropped n s x slot r = rw (x, slot, r)
 module _ {pair : Pair} {r s : Host} {k : CueNumber} (e : pair ≡ Kept r s k) where
   pub latest_new : (requester sender : Host) (n : CueNumber) → k.0 ≤ n.0 → Kept requester sender n ≡ latest pair requester sender n
   latest_new requester sender n l = rw (e, le-leb k.0 n.0 l)
-
-  pub latest_old : (requester sender : Host) (n : CueNumber) → n.0 < k.0 → Kept r s k ≡ latest pair requester sender n
-  latest_old requester sender n l = rw (e, lt-leb k.0 n.0 l)
 
   pub kept-requester : (me : Host) → eqb r.0 me.0 ≡ is_requester me pair
   kept-requester me = rw e

@@ -9,8 +9,7 @@ ghost use Rattle.end.specs.State.{blank_record, with_origin};
 ghost use Rattle.end.specs.Records.{record_at, with_record};
 ghost use Rattle.end.specs.Round.{draw_at, request_at, reply_due};
 ghost use Rattle.end.specs.Names.{set_round, hold, set_reply, quiet_reply, drop_express, latest, keep_pair, is_requester, open_at};
-ghost use Rattle.end.specs.declared.Express.TheVariants.{Unset, Soon};
-ghost use Rattle.end.specs.declared.Origin.TheVariants.{From};
+ghost use Rattle.end.specs.Parts.{Unset, Soon, From};
 ghost use Rattle.end.specs.Ready.{Ranges, Numbered};
 
 use end::{Draw, Express, Moment, Origin, Pair, Record, Reply, Request, Slot, Source, Span};
@@ -108,7 +107,7 @@ pub fn hold_cue(s: Source, n: CueNumber, cue: [u8; 24]) -> Source
 {
     let r = record_at(s, n);
     let kept = Record {
-        slot: Slot::Held(Reply::No),
+        slot: Slot::Held(None),
         cue,
         hush: r.hush,
     };
@@ -132,7 +131,7 @@ pub fn set_reply(
     let r = record_at(s, n);
     let was = r.slot;
     let cue = r.cue;
-    let slot = state::with_reply(Reply::Due(due, requester), was);
+    let slot = state::with_reply(Some((due, requester)), was);
     let answering = Record {
         slot,
         cue,
@@ -150,7 +149,7 @@ pub fn quiet_reply(s: Source, t: Moment, n: CueNumber, d: u64) -> Source
     let r = record_at(s, n);
     let was = r.slot;
     let cue = r.cue;
-    let slot = state::with_reply(Reply::No, was);
+    let slot = state::with_reply(None, was);
     let hushed = Record { slot, cue, hush };
     with_record(s, n, hushed)
 }
@@ -162,7 +161,7 @@ pub fn drop_express(s: Source, n: CueNumber) -> Source
     let r = record_at(s, n);
     let was = r.slot;
     let cue = r.cue;
-    let slot = state::with_express(Express::Unset, was);
+    let slot = state::with_express(None, was);
     let dropped = Record {
         slot,
         cue,
@@ -178,10 +177,10 @@ fn latest(pair: Pair, requester: Host, sender: Host, n: CueNumber) -> Pair
     ensures { result ≡ latest pair requester sender n }
 {
     match pair {
-        Pair::NoPair => Pair::Kept(requester, sender, n),
-        Pair::Kept(_, _, k) => {
+        None => Some((requester, sender, n)),
+        Some((_, _, k)) => {
             if k.0 <= n.0 {
-                Pair::Kept(requester, sender, n)
+                Some((requester, sender, n))
             } else {
                 pair
             }
@@ -202,8 +201,8 @@ fn is_requester(me: Host, pair: Pair) -> bool
     ensures { result ≡ is_requester me pair }
 {
     match pair {
-        Pair::NoPair => false,
-        Pair::Kept(requester, _, _) => requester.0 == me.0,
+        None => false,
+        Some((requester, _, _)) => requester.0 == me.0,
     }
 }
 
@@ -213,9 +212,9 @@ pub fn express_by_data(t: Moment, pair: Pair) -> Express
     ensures { result ≡ cond (is_requester t.me pair) (Soon (t.clock + t.params.express)) Unset }
 {
     if is_requester(t.me, pair) {
-        Express::Soon(t.clock + t.params.express)
+        Some(t.clock + t.params.express)
     } else {
-        Express::Unset
+        None
     }
 }
 
@@ -230,13 +229,13 @@ pub fn open_at(s: Source, n: CueNumber) -> Source
     let names = s.names;
     let attempts = s.attempts;
     Source {
-        span: Span::Open(n, n),
+        span: Some((n, n)),
         missed: s.missed,
         pair,
         distance: s.distance,
         heard,
         names,
-        origin: Origin::From(n),
+        origin: Some(n),
         attempts,
     }
 }

@@ -14,7 +14,7 @@ use Rattle.message.specs.Message.{REPL, XPRS, meaning_from}
 use Rattle.message.specs.Question.{same_host}
 use Rattle.message.proofs.QuestionLaws.{and_both}
 use Rattle.end.specs.declared.Request.{Request}
-use Rattle.end.specs.declared.Express.TheVariants.{Unset, Soon}
+use Rattle.end.specs.Parts.{Unset, Soon}
 use Rattle.end.specs.declared.Slot.{Slot}
 use Rattle.end.specs.declared.Slot.TheVariants.{Empty, Held, Waiting}
 use Rattle.end.specs.declared.End.{End}

@@ -9,8 +9,7 @@ use lib.Dec.{leb, ltb}
 use borrow.Author.Tests.{leb-true, ltb-true, ltb-false}
 use Rattle.message.specs.Entry.{as_host}
 use Rattle.message.proofs.QuestionLaws.{and_both, or_either}
-use Rattle.end.specs.declared.Span.{Span}
-use Rattle.end.specs.declared.Span.TheVariants.{Closed, Open}
+use Rattle.end.specs.Parts.{Span, Closed, Open}
 use Rattle.end.specs.declared.End.{End}
 use Rattle.end.specs.State.{source_at, is_member}
 use Rattle.end.specs.Sound.{sound_of}

@@ -13,8 +13,7 @@ use Rattle.message.specs.Message.{RQST, REPL, Meaning, meaning_from}
 use Rattle.message.specs.Question.{same_host}
 use Rattle.message.proofs.QuestionLaws.{and_both}
 use Rattle.end.specs.declared.Request.{Request}
-use Rattle.end.specs.declared.Reply.{Reply}
-use Rattle.end.specs.declared.Reply.TheVariants.{No, Due}
+use Rattle.end.specs.Parts.{Reply, No, Due}
 use Rattle.end.specs.declared.End.{End}
 use Rattle.end.specs.State.{source_at, distance_to}
 use Rattle.end.specs.Records.{is_below, reply_in}

@@ -7,7 +7,7 @@ use Rattle.message.specs.Entry.{as_host, as_number}
 use Rattle.message.specs.Question.{same_host}
 use Rattle.end.specs.declared.Params.{Params}
 use Rattle.end.specs.declared.Request.{Request}
-use Rattle.end.specs.declared.Express.TheVariants.{Soon}
+use Rattle.end.specs.Parts.{Soon}
 use Rattle.end.specs.declared.Slot.TheVariants.{Waiting}
 use Rattle.end.specs.Event.{Action, Else, Report as Reporting}
 use Rattle.end.specs.Opening.{house_params}

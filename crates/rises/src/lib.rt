@@ -144,7 +144,7 @@ fn risen(
     let origin = s.origin;
     let attempts = s.attempts;
     Source {
-        span: Span::Open(CueNumber(lowest), CueNumber(highest)),
+        span: Some((CueNumber(lowest), CueNumber(highest))),
         missed,
         pair,
         distance: s.distance,
@@ -164,8 +164,8 @@ fn rise_with(s: Source, t: Moment, draws: &[Draw], x: Express, n: CueNumber) -> 
 {
     let span = s.span;
     match span {
-        Span::Closed => s,
-        Span::Open(first, last) => risen(s, t, draws, x, first, last, n),
+        None => s,
+        Some((first, last)) => risen(s, t, draws, x, first, last, n),
     }
 }
 
@@ -176,7 +176,7 @@ pub fn rise_to(s: Source, t: Moment, draws: &[Draw], n: CueNumber) -> Source
     requires counted { Counted s }
     ensures { result ≡ rise t draws.now n.0 s s.span }
 {
-    rise_with(s, t, draws, Express::Unset, n)
+    rise_with(s, t, draws, None, n)
 }
 
 // Last of a source rises to n, by a DATA.

@@ -173,8 +173,8 @@ fn bounds(rt: &impl Print, first: CueNumber, last: CueNumber) -> io::Result<()> 
 fn span(rt: &impl Print, s: Source) -> io::Result<()> {
     let span = s.span;
     match span {
-        Span::Closed => print(rt, b" closed       "),
-        Span::Open(first, last) => bounds(rt, first, last),
+        None => print(rt, b" closed       "),
+        Some((first, last)) => bounds(rt, first, last),
     }
 }
 

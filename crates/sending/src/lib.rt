@@ -18,8 +18,8 @@ fn extend(s: Source, t: Moment, draws: &[Draw], n: CueNumber) -> Source
 {
     let span = s.span;
     match span {
-        Span::Closed => state::with_span(s, Span::Open(n, n)),
-        Span::Open(_, _) => rises::rise_to(s, t, draws, n),
+        None => state::with_span(s, Some((n, n))),
+        Some((_, _)) => rises::rise_to(s, t, draws, n),
     }
 }
 

@@ -89,5 +89,5 @@ pub fn hear(t: Moment, m: Message, s: Source) -> Source
     let said = m.counts.reports;
     let reports = m.reports;
     let reported = reported_in(reports, said);
-    state::with_heard(s, d, Heard::At(m.stamp, t.clock, reported))
+    state::with_heard(s, d, Some((m.stamp, t.clock, reported)))
 }

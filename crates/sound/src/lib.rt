@@ -28,8 +28,8 @@ fn reply_sound(me: Host, source: Host, reply: Reply) -> bool
     ensures { result ≡ all_of (reply_tests me source reply) }
 {
     match reply {
-        Reply::No => true,
-        Reply::Due(due, requester) => {
+        None => true,
+        Some((due, requester)) => {
             (due < TIME_LIMIT)
                 & (requester.0 < 8)
                 & !(requester.0 == me.0)
@@ -57,8 +57,8 @@ fn express_sound(pair: Pair, x: Express) -> bool
     ensures { result ≡ express_sound pair x }
 {
     match x {
-        Express::Unset => true,
-        Express::Soon(due) => (due < TIME_LIMIT) & !state::is_no_pair(pair),
+        None => true,
+        Some(due) => (due < TIME_LIMIT) & !state::is_no_pair(pair),
     }
 }
 
@@ -90,8 +90,8 @@ fn is_within(span: Span, n: u64) -> bool
     ensures { result ≡ within span n }
 {
     match span {
-        Span::Closed => false,
-        Span::Open(first, last) => (first.0 as u64 <= n) & (n <= last.0 as u64),
+        None => false,
+        Some((first, last)) => (first.0 as u64 <= n) & (n <= last.0 as u64),
     }
 }
 
@@ -128,8 +128,8 @@ fn span_sound(own: bool, next: u32, missed: u32, span: Span) -> bool
     ensures { result ≡ all_of (span_tests own next missed span) }
 {
     match span {
-        Span::Closed => missed == 0,
-        Span::Open(first, last) => {
+        None => missed == 0,
+        Some((first, last)) => {
             let low = first.0 as u64;
             let high = last.0 as u64;
             (low <= high)
@@ -146,8 +146,8 @@ fn pair_sound(me: Host, pair: Pair) -> bool
     ensures { result ≡ all_of (pair_tests me pair) }
 {
     match pair {
-        Pair::NoPair => true,
-        Pair::Kept(requester, sender, n) => {
+        None => true,
+        Some((requester, sender, n)) => {
             let number = n.0 as u32;
             (requester.0 < 8) & (sender.0 < 8) & !(sender.0 == me.0) & (number < NUMBERS)
         }
@@ -164,8 +164,8 @@ fn heard_sound(own: bool, clock: u64, heard: Heard) -> bool
     ensures { result ≡ all_of (heard_tests own clock heard) }
 {
     match heard {
-        Heard::Never => true,
-        Heard::At(stamp, when, _) => !own & (stamp < TICKS_LIMIT) & (when <= clock),
+        None => true,
+        Some((stamp, when, _)) => !own & (stamp < TICKS_LIMIT) & (when <= clock),
     }
 }
 
@@ -173,8 +173,8 @@ fn is_closed(span: Span) -> bool
     ensures { result ≡ is_closed span }
 {
     match span {
-        Span::Closed => true,
-        Span::Open(_, _) => false,
+        None => true,
+        Some((_, _)) => false,
     }
 }
 
@@ -182,8 +182,8 @@ fn is_never(heard: Heard) -> bool
     ensures { result ≡ is_never heard }
 {
     match heard {
-        Heard::Never => true,
-        Heard::At(_, _, _) => false,
+        None => true,
+        Some((_, _, _)) => false,
     }
 }
 
@@ -192,13 +192,13 @@ fn origin_sound(own: bool, span: Span, origin: Origin) -> bool
     ensures { result ≡ origin_sound own span origin }
 {
     match span {
-        Span::Closed => match origin {
-            Origin::NoOrigin => true,
-            Origin::From(_) => false,
+        None => match origin {
+            None => true,
+            Some(_) => false,
         },
-        Span::Open(first, _) => match origin {
-            Origin::NoOrigin => own,
-            Origin::From(n) => !own & (n.0 <= first.0),
+        Some((first, _)) => match origin {
+            None => own,
+            Some(n) => !own & (n.0 <= first.0),
         },
     }
 }
@@ -231,8 +231,8 @@ fn lowest_of(origin: Origin) -> u64
     ensures upper_bound { result < number_limit }
 {
     match origin {
-        Origin::NoOrigin => 0,
-        Origin::From(first) => {
+        None => 0,
+        Some(first) => {
             let n = first.0 as u64;
             if n < KEPT { 0 } else { n - KEPT }
         }

@@ -7,8 +7,7 @@ use borrow.Author.Tests.{eqb-true, leb-true}
 use Rattle.message.specs.declared.Host.{Host}
 use Rattle.message.specs.Question.{same_host}
 use Rattle.end.specs.declared.Record.{Record}
-use Rattle.end.specs.declared.Span.{Span}
-use Rattle.end.specs.declared.Span.TheVariants.{Closed, Open}
+use Rattle.end.specs.Parts.{Span, Closed, Open}
 use Rattle.end.specs.declared.Source.{Source}
 use Rattle.end.specs.declared.End.{End}
 use Rattle.end.specs.State.{is_member, source_at}

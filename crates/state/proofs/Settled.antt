@@ -10,12 +10,8 @@ use Rattle.message.specs.Entry.{as_host}
 use Rattle.message.specs.Question.{same_host}
 use Rattle.end.specs.declared.Slot.{Slot}
 use Rattle.end.specs.declared.Slot.TheVariants.{Empty, Held, Waiting}
-use Rattle.end.specs.declared.Reply.TheVariants.{No, Due}
+use Rattle.end.specs.Parts.{No, Due, Pair, Span, Heard, Never, At}
 use Rattle.end.specs.declared.Record.{Record}
-use Rattle.end.specs.declared.Pair.{Pair}
-use Rattle.end.specs.declared.Span.{Span}
-use Rattle.end.specs.declared.Heard.{Heard}
-use Rattle.end.specs.declared.Heard.TheVariants.{Never, At}
 use Rattle.end.specs.declared.End.{End}
 use Rattle.end.specs.State.{no_source, is_member, source_at, with_clock}
 use Rattle.end.specs.Records.{within, raw_at, reply_in}

@@ -4,8 +4,7 @@ use Prim.Native.Nat.{ℕ}
 use mathlib.Core.Bool.{◌&&◌}
 use lib.Dec.{ltb, leb}
 use Rattle.message.specs.declared.CueNumber.{CueNumber}
-use Rattle.end.specs.declared.Span.{Span}
-use Rattle.end.specs.declared.Span.TheVariants.{Open}
+use Rattle.end.specs.Parts.{Span, Open}
 use Rattle.end.specs.Records.{within, is_below, is_above}
 
 module _ {x : Span} {first last : CueNumber} (n : ℕ) (e : x ≡ Open first last) where

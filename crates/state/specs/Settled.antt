@@ -2,9 +2,7 @@
 -- numbers and is counted, no stamp was heard in the future, and none from oneself. Soundness gives it, and a clock not below the state's keeps it.
 use Rattle.std.specs.Prelude.{◌≡◌, ℕ, ◌<◌}
 use Rattle.message.specs.declared.Host.{Host}
-use Rattle.end.specs.declared.Reply.{Reply}
-use Rattle.end.specs.declared.Reply.TheVariants.{No, Due}
-use Rattle.end.specs.declared.Heard.TheVariants.{Never}
+use Rattle.end.specs.Parts.{Reply, No, Due, Never}
 use Rattle.end.specs.declared.End.{End}
 use Rattle.end.specs.State.{source_at}
 use Rattle.end.specs.Records.{record_at, reply_in}

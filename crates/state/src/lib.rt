@@ -63,8 +63,8 @@ pub fn is_no(reply: Reply) -> bool
     ensures { result ≡ is_no reply }
 {
     match reply {
-        Reply::No => true,
-        Reply::Due(_, _) => false,
+        None => true,
+        Some((_, _)) => false,
     }
 }
 
@@ -73,9 +73,9 @@ pub fn reply_in(slot: Slot) -> Reply
     ensures { result ≡ reply_in slot }
 {
     match slot {
-        Slot::Empty => Reply::No,
+        Slot::Empty => None,
         Slot::Held(reply) => reply,
-        Slot::Waiting(_, _) => Reply::No,
+        Slot::Waiting(_, _) => None,
     }
 }
 
@@ -95,8 +95,8 @@ pub fn express_in(slot: Slot) -> Express
     ensures { result ≡ express_in slot }
 {
     match slot {
-        Slot::Empty => Express::Unset,
-        Slot::Held(_) => Express::Unset,
+        Slot::Empty => None,
+        Slot::Held(_) => None,
         Slot::Waiting(_, x) => x,
     }
 }
@@ -116,8 +116,8 @@ pub fn is_no_pair(pair: Pair) -> bool
     ensures { result ≡ is_no_pair pair }
 {
     match pair {
-        Pair::NoPair => true,
-        Pair::Kept(_, _, _) => false,
+        None => true,
+        Some((_, _, _)) => false,
     }
 }
 
@@ -127,8 +127,8 @@ pub fn start_of(span: Span) -> u64
     ensures upper_bound { result < number_limit }
 {
     match span {
-        Span::Closed => 0,
-        Span::Open(first, _) => first.0 as u64,
+        None => 0,
+        Some((first, _)) => first.0 as u64,
     }
 }
 
@@ -145,8 +145,8 @@ pub fn is_within(span: Span, n: CueNumber) -> bool
     ensures { result ≡ within span n.0 }
 {
     match span {
-        Span::Closed => false,
-        Span::Open(first, last) => (first.0 <= n.0) & (n.0 <= last.0),
+        None => false,
+        Some((first, last)) => (first.0 <= n.0) & (n.0 <= last.0),
     }
 }
 
@@ -154,8 +154,8 @@ pub fn is_below(span: Span, n: CueNumber) -> bool
     ensures { result ≡ is_below span n.0 }
 {
     match span {
-        Span::Closed => false,
-        Span::Open(first, _) => n.0 < first.0,
+        None => false,
+        Some((first, _)) => n.0 < first.0,
     }
 }
 
@@ -163,8 +163,8 @@ pub fn is_above(span: Span, n: CueNumber) -> bool
     ensures { result ≡ is_above span n.0 }
 {
     match span {
-        Span::Closed => false,
-        Span::Open(_, last) => last.0 < n.0,
+        None => false,
+        Some((_, last)) => last.0 < n.0,
     }
 }
 
@@ -175,8 +175,8 @@ pub fn fetchable(origin: Origin, n: u32) -> bool
     ensures { result ≡ fetchable origin n }
 {
     match origin {
-        Origin::NoOrigin => false,
-        Origin::From(first) => (n < first.0 as u32) & (first.0 as u64 <= n as u64 + KEPT),
+        None => false,
+        Some(first) => (n < first.0 as u32) & (first.0 as u64 <= n as u64 + KEPT),
     }
 }
 

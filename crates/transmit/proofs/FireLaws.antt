@@ -12,18 +12,12 @@ use Rattle.message.specs.declared.Name.{Name}
 use Rattle.message.specs.Limit.{number_limit}
 use Rattle.message.specs.Entry.{as_host, as_number}
 use Rattle.end.specs.declared.Answer.{Answer}
-use Rattle.end.specs.declared.Reply.TheVariants.{No, Due}
+use Rattle.end.specs.Parts.{No, Due, Express, Unset, Soon, Span, Closed, Open, Earliest, NoWait, First}
 use Rattle.end.specs.declared.Slot.{Slot}
 use Rattle.end.specs.declared.Slot.TheVariants.{Empty, Held, Waiting}
-use Rattle.end.specs.declared.Express.{Express}
-use Rattle.end.specs.declared.Express.TheVariants.{Unset, Soon}
 use Rattle.end.specs.declared.Record.{Record}
-use Rattle.end.specs.declared.Span.{Span}
-use Rattle.end.specs.declared.Span.TheVariants.{Closed, Open}
 use Rattle.end.specs.declared.Source.{Source}
 use Rattle.end.specs.declared.Wait.{Wait}
-use Rattle.end.specs.declared.Earliest.{Earliest}
-use Rattle.end.specs.declared.Earliest.TheVariants.{NoWait, First}
 use Rattle.end.specs.declared.Moment.{Moment}
 use Rattle.end.specs.declared.End.{End}
 use Rattle.end.specs.State.{no_source, source_at, distance_to, moment_of, with_sources, with_source, on_source}

@@ -5,14 +5,12 @@ use Rattle.message.specs.declared.Name.{Name}
 use Rattle.message.specs.Entry.{as_host, as_number}
 use Rattle.message.specs.Message.{bytes_of}
 use Rattle.end.specs.declared.Request.{Request}
-use Rattle.end.specs.declared.Reply.TheVariants.{No, Due}
+use Rattle.end.specs.Parts.{No, Due, Earliest, NoWait, First}
 use Rattle.end.specs.declared.Slot.{Slot}
 use Rattle.end.specs.declared.Slot.TheVariants.{Empty, Held, Waiting}
 use Rattle.end.specs.declared.Record.{Record}
 use Rattle.end.specs.declared.Source.{Source}
 use Rattle.end.specs.declared.Moment.{Moment}
-use Rattle.end.specs.declared.Earliest.{Earliest}
-use Rattle.end.specs.declared.Earliest.TheVariants.{NoWait, First}
 use Rattle.end.specs.State.{blank_record}
 use Rattle.end.specs.Records.{record_at}
 use Rattle.end.specs.Round.{next_round}

@@ -27,11 +27,11 @@ fn name_of(first: Earliest) -> Name
     ensures { result ≡ name_of first }
 {
     match first {
-        Earliest::NoWait => Name {
+        None => Name {
             source: Host(0),
             number: CueNumber(0),
         },
-        Earliest::First(w) => w.name,
+        Some(w) => w.name,
     }
 }
 
@@ -40,8 +40,8 @@ fn rank_of(first: Earliest) -> u8
     ensures { result ≡ rank_of first }
 {
     match first {
-        Earliest::NoWait => REPLY,
-        Earliest::First(w) => w.rank,
+        None => REPLY,
+        Some(w) => w.rank,
     }
 }
 
@@ -50,8 +50,8 @@ fn record_of(s: Source, first: Earliest) -> Record
     ensures { result ≡ record_of s first }
 {
     match first {
-        Earliest::NoWait => records::blank_record(),
-        Earliest::First(w) => records::record_at(s, w.name.number),
+        None => records::blank_record(),
+        Some(w) => records::record_at(s, w.name.number),
     }
 }
 
@@ -63,8 +63,8 @@ fn asker_in(me: Host, slot: Slot) -> Host
         Slot::Empty => me,
         Slot::Waiting(_, _) => me,
         Slot::Held(reply) => match reply {
-            Reply::No => me,
-            Reply::Due(_, requester) => requester,
+            None => me,
+            Some((_, requester)) => requester,
         },
     }
 }
@@ -74,8 +74,8 @@ fn kept_sender(pair: Pair) -> Host
     ensures { result ≡ kept_sender pair }
 {
     match pair {
-        Pair::NoPair => Host(0),
-        Pair::Kept(_, sender, _) => sender,
+        None => Host(0),
+        Some((_, sender, _)) => sender,
     }
 }
 
@@ -110,8 +110,8 @@ fn fired_answer(
         Slot::Empty => Answer::Nothing,
         Slot::Waiting(_, _) => put_request(t, rank, name, kept, cue, out),
         Slot::Held(reply) => match reply {
-            Reply::No => Answer::Nothing,
-            Reply::Due(_, requester) => compose::put_name(REPL, t, name, requester, 1, cue, out),
+            None => Answer::Nothing,
+            Some((_, requester)) => compose::put_name(REPL, t, name, requester, 1, cue, out),
         },
     }
 }
@@ -147,8 +147,8 @@ fn fired_source(
         Slot::Empty => s,
         Slot::Waiting(q, _) => asked_source(t, draws, rank, n, q, s),
         Slot::Held(reply) => match reply {
-            Reply::No => s,
-            Reply::Due(_, _) => records::quiet_reply(s, t, n, d),
+            None => s,
+            Some((_, _)) => records::quiet_reply(s, t, n, d),
         },
     }
 }
@@ -203,8 +203,8 @@ fn announced_answer(t: Moment, span: Span, out: &mut [u8]) -> Answer
     ensures out_after { out.new ≡ buffer_of (Did (announced_effect t span)) out.old }
 {
     match span {
-        Span::Closed => Answer::Nothing,
-        Span::Open(first, last) => compose::put_announce(t, first, last, out),
+        None => Answer::Nothing,
+        Some((first, last)) => compose::put_announce(t, first, last, out),
     }
 }
 

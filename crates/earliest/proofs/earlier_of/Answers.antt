@@ -2,8 +2,8 @@
 use Rattle.earliest.proofs.Offers.{earlier_new, earlier_old}
 use Rattle.earliest.proofs.earlier_of.Goals as goal
 
-pub returns-in-NoWait : goal.returns-in-NoWait
-returns-in-NoWait c = rw c.in-NoWait.is
+pub returns-in-None : goal.returns-in-None
+returns-in-None c = rw c.in-None.is
 
 pub returns-then-is_before : goal.returns-then-is_before
 returns-then-is_before c = search earlier_new

@@ -3,8 +3,7 @@ use Prim.Native.Nat.{ℕ}
 use lib.ListN.{get_or}
 use borrow.Author.Rules.{rules}
 use Rattle.message.specs.Entry.{as_host}
-use Rattle.end.specs.declared.Earliest.{Earliest}
-use Rattle.end.specs.declared.Earliest.TheVariants.{NoWait}
+use Rattle.end.specs.Parts.{Earliest, NoWait}
 use Rattle.end.specs.declared.End.{End}
 use Rattle.end.specs.State.{no_source}
 use Rattle.end.specs.Records.{width}

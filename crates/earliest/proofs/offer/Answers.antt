@@ -5,5 +5,5 @@ use Rattle.earliest.proofs.offer.Goals as goal
 pub returns-in-Waiting : goal.returns-in-Waiting
 returns-in-Waiting c = search offered-request
 
-pub returns-in-Due : goal.returns-in-Due
-returns-in-Due c = search offered_reply
+pub returns-in-Some : goal.returns-in-Some
+returns-in-Some c = search offered_reply

@@ -2,5 +2,5 @@
 use Rattle.earliest.proofs.Offers.{offered-express}
 use Rattle.earliest.proofs.offer_express.Goals as goal
 
-pub returns-in-Soon : goal.returns-in-Soon
-returns-in-Soon c = search offered-express
+pub returns-in-Some : goal.returns-in-Some
+returns-in-Some c = search offered-express

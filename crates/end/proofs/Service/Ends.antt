@@ -17,8 +17,7 @@ use Rattle.message.proofs.QuestionLaws.{all-passed}
 use Rattle.message.proofs.SectionLaws as sections
 use Rattle.end.specs.declared.Status.{Status}
 use Rattle.end.specs.declared.Status.TheVariants.{Idle, Joining, Member, Leaving, Crashed}
-use Rattle.end.specs.declared.Span.{Span}
-use Rattle.end.specs.declared.Span.TheVariants.{Closed, Open}
+use Rattle.end.specs.Parts.{Span, Closed, Open}
 use Rattle.end.specs.declared.Says.{Says}
 use Rattle.end.specs.declared.Says.TheVariants.{Data, Rqst, Repl, Xprs}
 use Rattle.end.specs.declared.Move.{Move}

@@ -19,21 +19,14 @@ use Rattle.message.specs.Question.{host_in, number_in, report_in, same_host}
 use Rattle.message.proofs.QuestionLaws.{and_both}
 use Rattle.message.proofs.SectionLaws.{none, some}
 use Rattle.roundtrip.proofs.ThereAndBack.{Fits}
-use Rattle.end.specs.declared.Express.TheVariants.{Unset}
-use Rattle.end.specs.declared.Reply.TheVariants.{No, Due}
+use Rattle.end.specs.Parts.{Unset, No, Due, Span, Closed, Open, Nearest, Nobody, Found, Earliest, NoWait, First}
 use Rattle.end.specs.declared.Slot.{Slot}
 use Rattle.end.specs.declared.Slot.TheVariants.{Empty, Held, Waiting}
 use Rattle.end.specs.declared.Record.{Record}
-use Rattle.end.specs.declared.Span.{Span}
-use Rattle.end.specs.declared.Span.TheVariants.{Closed, Open}
 use Rattle.end.specs.declared.Source.{Source}
 use Rattle.end.specs.declared.Moment.{Moment}
 use Rattle.end.specs.declared.Attempt.{Attempt}
-use Rattle.end.specs.declared.Nearest.{Nearest}
-use Rattle.end.specs.declared.Nearest.TheVariants.{Nobody, Found}
 use Rattle.end.specs.declared.End.{End}
-use Rattle.end.specs.declared.Earliest.{Earliest}
-use Rattle.end.specs.declared.Earliest.TheVariants.{NoWait, First}
 use Rattle.end.specs.State.{no_source, source_at, with_source, moment_of, distance_to, on_source}
 use Rattle.end.specs.Records.{within, is_above, record_at, with_record, is_held, with_attempt}
 use Rattle.end.specs.Round.{request_at, next_round, quiet_after_reply}

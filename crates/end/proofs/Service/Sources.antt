@@ -11,13 +11,10 @@ use lib.Dec.{eqb, leb}
 use borrow.Author.Tests.{eqb-false, eq-eqb, leb-true, le-leb, lt-leb, ltb-true, ltb-false}
 use Rattle.numbers.proofs.Cases.{by_order}
 use Rattle.message.specs.declared.CueNumber.{CueNumber}
-use Rattle.end.specs.declared.Express.{Express}
-use Rattle.end.specs.declared.Reply.{Reply}
+use Rattle.end.specs.Parts.{Express, Reply, Span, Closed, Open}
 use Rattle.end.specs.declared.Slot.{Slot}
 use Rattle.end.specs.declared.Slot.TheVariants.{Empty, Held, Waiting}
 use Rattle.end.specs.declared.Record.{Record}
-use Rattle.end.specs.declared.Span.{Span}
-use Rattle.end.specs.declared.Span.TheVariants.{Closed, Open}
 use Rattle.end.specs.declared.Source.{Source}
 use Rattle.end.specs.State.{blank_record}
 use Rattle.end.specs.Records.{is_closed, within, is_above, is_held, record_at, with_record, with_reply, with_express}

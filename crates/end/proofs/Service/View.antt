@@ -11,8 +11,7 @@ use Rattle.message.specs.Entry.{as_host}
 use Rattle.message.specs.Message.{LATE, Meaning}
 use Rattle.end.specs.declared.Slot.{Slot}
 use Rattle.end.specs.declared.Slot.TheVariants.{Empty, Held, Waiting}
-use Rattle.end.specs.declared.Span.{Span}
-use Rattle.end.specs.declared.Span.TheVariants.{Closed, Open}
+use Rattle.end.specs.Parts.{Span, Closed, Open}
 use Rattle.end.specs.declared.Source.{Source}
 use Rattle.end.specs.declared.End.{End}
 use Rattle.end.specs.State.{source_at, is_member}

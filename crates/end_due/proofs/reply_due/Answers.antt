@@ -1,5 +1,5 @@
 use Rattle.end_due.proofs.reply_due.Goals as goal
 
 -- `end_due::reply_due` meets its contract.
-pub returns-in-Due : goal.returns-in-Due
-returns-in-Due c = rw c.in-Due.is c.lesser.ensures
+pub returns-in-Some : goal.returns-in-Some
+returns-in-Some c = rw c.in-Some.is c.lesser.ensures

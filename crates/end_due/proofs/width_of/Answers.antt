@@ -7,10 +7,10 @@ use Rattle.end_due.proofs.width_of.Goals as goal
 pub overflow_sub-result : goal.overflow_sub-result
 overflow_sub-result c = search in_order_lem
 
-pub returns-in-Closed : goal.returns-in-Closed
-returns-in-Closed c = rw c.in-Closed.is (record { value = refl; result_bound = omega arith })
+pub returns-in-None : goal.returns-in-None
+returns-in-None c = rw c.in-None.is (record { value = refl; result_bound = omega arith })
 
-pub returns-in-Open : goal.returns-in-Open
-returns-in-Open c =
-    let it = open_width c.requires c.in-Open.is in
+pub returns-in-Some : goal.returns-in-Some
+returns-in-Some c =
+    let it = open_width c.requires c.in-Some.is in
     record { value = it.0; result_bound = it.1 }

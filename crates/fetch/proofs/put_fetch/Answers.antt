@@ -7,9 +7,9 @@ pub returns-then-not-may : goal.returns-then-not-may
 unfolding answer_of buffer_of
 returns-then-not-may c = rw (c.if-not-may.true) (record { value = refl; out_after = refl })
 
-pub returns-in-Nobody : goal.returns-in-Nobody
+pub returns-in-None : goal.returns-in-None
 unfolding answer_of buffer_of
-returns-in-Nobody c = rw (c.if-not-may.false, c.in-Nobody.is) (record { value = refl; out_after = refl })
+returns-in-None c = rw (c.if-not-may.false, c.in-None.is) (record { value = refl; out_after = refl })
 
-pub returns-in-Found : goal.returns-in-Found
-returns-in-Found c = rw (c.if-not-may.false, c.in-Found.is) (record { value = c.put_name.ensures.value; out_after = c.put_name.ensures.out_after })
+pub returns-in-Some : goal.returns-in-Some
+returns-in-Some c = rw (c.if-not-may.false, c.in-Some.is) (record { value = c.put_name.ensures.value; out_after = c.put_name.ensures.out_after })

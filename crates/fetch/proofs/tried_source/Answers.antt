@@ -8,12 +8,12 @@ returns-then-not-may c = rw (c.if-not-may.true)
 
 pub try_host-requires : goal.try_host-requires
 try_host-requires c =
-    subst Hosted c.in-Found.is c.requires
+    subst Hosted c.in-Some.is c.requires
 
-pub returns-in-Nobody : goal.returns-in-Nobody
-returns-in-Nobody c =
-    rw (c.if-not-may.false, c.in-Nobody.is)
+pub returns-in-None : goal.returns-in-None
+returns-in-None c =
+    rw (c.if-not-may.false, c.in-None.is)
 
-pub returns-in-Found : goal.returns-in-Found
-returns-in-Found c =
-    rw (c.if-not-may.false, c.in-Found.is) c.try_host.ensures
+pub returns-in-Some : goal.returns-in-Some
+returns-in-Some c =
+    rw (c.if-not-may.false, c.in-Some.is) c.try_host.ensures

@@ -2,5 +2,5 @@
 use Rattle.records.proofs.Steps.{kept-requester}
 use Rattle.records.proofs.is_requester.Goals as goal
 
-pub returns-in-Kept : goal.returns-in-Kept
-returns-in-Kept c = search kept-requester
+pub returns-in-Some : goal.returns-in-Some
+returns-in-Some c = search kept-requester

@@ -1,7 +1,7 @@
 use mathlib.Core.Path.{◌≡◌}
 use Prim.Native.Nat.{ℕ, ◌-◌}
 use mathlib.Core.List.{List}
-use Rattle.end.specs.declared.Express.{Express}
+use Rattle.end.specs.Parts.{Express}
 use Rattle.end.specs.declared.Record.{Record}
 use Rattle.end.specs.declared.Moment.{Moment}
 use Rattle.end.specs.Names.{expressed, asked, filled}

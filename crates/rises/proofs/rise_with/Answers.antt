@@ -7,19 +7,18 @@ use mathlib.Core.Path.{◌≡◌}
 use Prim.Native.Nat.{ℕ}
 use Rattle.end.specs.declared.Record.{Record}
 use Rattle.end.specs.declared.Source.{Source}
-use Rattle.end.specs.declared.Span.{Span}
-use Rattle.end.specs.declared.Span.TheVariants.{Closed}
+use Rattle.end.specs.Parts.{Span, Closed}
 use Rattle.rises.proofs.rise_with.Goals as goal
 
 rise_closed : (new : ℕ → Record) (n : ℕ) (s : Source) (x : Span) → x ≡ Closed → s ≡ rise_with new n s x
 unfolding rise_with
 rise_closed new n s x e = rw e
 
-pub returns-in-Closed : goal.returns-in-Closed
-returns-in-Closed c = rise_closed _ _ _ _ c.in-Closed.is
+pub returns-in-None : goal.returns-in-None
+returns-in-None c = rise_closed _ _ _ _ c.in-None.is
 
 pub risen-requires : goal.risen-requires
 risen-requires c = search (count_small, rules)
 
-pub returns-in-Open : goal.returns-in-Open
-returns-in-Open c = search rise_open
+pub returns-in-Some : goal.returns-in-Some
+returns-in-Some c = search rise_open

@@ -2,12 +2,12 @@
 use Rattle.sending.proofs.SendLaws.{first-sent, later-sent}
 use Rattle.sending.proofs.extend.Goals as goal
 
-pub returns-in-Closed : goal.returns-in-Closed
-returns-in-Closed c =
+pub returns-in-None : goal.returns-in-None
+returns-in-None c =
     let a = c.args in
-    first-sent a.t a.draws.now a.n.0 a.s c.with_span.result c.in-Closed.is c.with_span.ensures
+    first-sent a.t a.draws.now a.n.0 a.s c.with_span.result c.in-None.is c.with_span.ensures
 
-pub returns-in-Open : goal.returns-in-Open
-returns-in-Open c =
+pub returns-in-Some : goal.returns-in-Some
+returns-in-Some c =
     let a = c.args in
-    later-sent a.t a.draws.now a.n.0 a.s c.rise_to.result _ _ c.in-Open.is c.rise_to.ensures
+    later-sent a.t a.draws.now a.n.0 a.s c.rise_to.result _ _ c.in-Some.is c.rise_to.ensures

@@ -2,8 +2,7 @@ use mathlib.Core.Path.{◌≡◌}
 use Prim.Native.Nat.{◌-◌, ◌<◌}
 use native.Mathlib.Omega.{arith}
 use Rattle.message.specs.declared.CueNumber.{CueNumber}
-use Rattle.end.specs.declared.Origin.{Origin}
-use Rattle.end.specs.declared.Origin.TheVariants.{From}
+use Rattle.end.specs.Parts.{Origin, From}
 use Rattle.end.specs.Sound.{lowest}
 use Rattle.sound.proofs.lowest_of.Goals as goal
 

@@ -2,10 +2,7 @@ use mathlib.Core.Path.{◌≡◌}
 use mathlib.Core.Bool.{Bool, not, ◌&&◌}
 use lib.Dec.{leb}
 use Rattle.message.specs.declared.CueNumber.{CueNumber}
-use Rattle.end.specs.declared.Span.{Span}
-use Rattle.end.specs.declared.Span.TheVariants.{Open}
-use Rattle.end.specs.declared.Origin.{Origin}
-use Rattle.end.specs.declared.Origin.TheVariants.{From}
+use Rattle.end.specs.Parts.{Span, Open, Origin, From}
 use Rattle.end.specs.Sound.{origin_sound}
 use Rattle.sound.proofs.origin_sound.Goals as goal
 
@@ -14,5 +11,5 @@ both_open : (own : Bool) {x : Span} {o : Origin} {first last n : CueNumber} → 
     → not own && leb n.0 first.0 ≡ origin_sound own x o
 both_open own p q = rw (p, q)
 
-pub returns-in-From-origin : goal.returns-in-From-origin
-returns-in-From-origin c = search both_open
+pub returns-in-Some-origin : goal.returns-in-Some-origin
+returns-in-Some-origin c = search both_open

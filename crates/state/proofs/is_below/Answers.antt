@@ -2,5 +2,5 @@
 use Rattle.state.proofs.Spans.{open_below}
 use Rattle.state.proofs.is_below.Goals as goal
 
-pub returns-in-Open : goal.returns-in-Open
-returns-in-Open c = search open_below
+pub returns-in-Some : goal.returns-in-Some
+returns-in-Some c = search open_below

@@ -2,5 +2,5 @@
 use Rattle.state.proofs.Spans.{open_within}
 use Rattle.state.proofs.is_within.Goals as goal
 
-pub returns-in-Open : goal.returns-in-Open
-returns-in-Open c = search open_within
+pub returns-in-Some : goal.returns-in-Some
+returns-in-Some c = search open_within

@@ -3,9 +3,9 @@ use mathlib.Core.Path.{refl}
 use Rattle.end.specs.Answer.{answer_of, buffer_of}
 use Rattle.transmit.proofs.announced_answer.Goals as goal
 
-pub returns-in-Closed : goal.returns-in-Closed
+pub returns-in-None : goal.returns-in-None
 unfolding answer_of buffer_of
-returns-in-Closed c = rw c.in-Closed.is (record { value = refl; out_after = refl })
+returns-in-None c = rw c.in-None.is (record { value = refl; out_after = refl })
 
-pub returns-in-Open : goal.returns-in-Open
-returns-in-Open c = rw c.in-Open.is (record { value = c.put_announce.ensures.value; out_after = c.put_announce.ensures.out_after })
+pub returns-in-Some : goal.returns-in-Some
+returns-in-Some c = rw c.in-Some.is (record { value = c.put_announce.ensures.value; out_after = c.put_announce.ensures.out_after })

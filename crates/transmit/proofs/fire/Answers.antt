@@ -2,7 +2,7 @@
 use mathlib.Core.Path.{refl, sym, subst}
 use Prim.Native.Nat.{◌<◌}
 use native.Mathlib.Omega.{arith}
-use Rattle.end.specs.declared.Earliest.{Earliest}
+use Rattle.end.specs.Parts.{Earliest}
 use Rattle.transmit.specs.Fired.{name_of}
 use Rattle.transmit.proofs.FireLaws.{Named, named, Chosen, asker-host, waited, fire-gives}
 use Rattle.transmit.proofs.fire.Goals as goal

@@ -10,9 +10,9 @@ returns-in-Empty c = rw c.in-Empty.is (record { value = refl; out_after = refl }
 pub returns-in-Waiting : goal.returns-in-Waiting
 returns-in-Waiting c = rw c.in-Waiting.is (record { value = c.put_request.ensures.value; out_after = c.put_request.ensures.out_after })
 
-pub returns-in-No : goal.returns-in-No
+pub returns-in-None : goal.returns-in-None
 unfolding answer_of buffer_of
-returns-in-No c = rw c.in-Held.is ((rw c.in-No.is (record { value = refl; out_after = refl })))
+returns-in-None c = rw c.in-Held.is ((rw c.in-None.is (record { value = refl; out_after = refl })))
 
-pub returns-in-Due : goal.returns-in-Due
-returns-in-Due c = rw c.in-Held.is ((rw c.in-Due.is (record { value = c.put_name.ensures.value; out_after = c.put_name.ensures.out_after })))
+pub returns-in-Some : goal.returns-in-Some
+returns-in-Some c = rw c.in-Held.is ((rw c.in-Some.is (record { value = c.put_name.ensures.value; out_after = c.put_name.ensures.out_after })))

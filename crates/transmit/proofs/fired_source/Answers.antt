@@ -11,9 +11,9 @@ returns-in-Empty c = rw c.in-Empty.is
 pub returns-in-Waiting : goal.returns-in-Waiting
 returns-in-Waiting c = rw c.in-Waiting.is c.asked_source.ensures
 
-pub returns-in-No : goal.returns-in-No
-returns-in-No c = rw c.in-Held.is (rw c.in-No.is)
+pub returns-in-None : goal.returns-in-None
+returns-in-None c = rw c.in-Held.is (rw c.in-None.is)
 
-pub returns-in-Due : goal.returns-in-Due
-returns-in-Due c =
-    rw c.in-Held.is (rw c.in-Due.is c.quiet_reply.ensures)
+pub returns-in-Some : goal.returns-in-Some
+returns-in-Some c =
+    rw c.in-Held.is (rw c.in-Some.is c.quiet_reply.ensures)

@@ -1,5 +1,5 @@
 -- `transmit::kept_sender` meets its contract: the pair is the one that was matched.
 use Rattle.transmit.proofs.kept_sender.Goals as goal
 
-pub returns-in-NoPair : goal.returns-in-NoPair
-returns-in-NoPair c = rw c.in-NoPair.is
+pub returns-in-None : goal.returns-in-None
+returns-in-None c = rw c.in-None.is

@@ -1,5 +1,5 @@
 -- `transmit::record_of` meets its contract: the wait is the one that was matched.
 use Rattle.transmit.proofs.record_of.Goals as goal
 
-pub returns-in-First : goal.returns-in-First
-returns-in-First c = rw c.in-First.is c.record_at.ensures
+pub returns-in-Some : goal.returns-in-Some
+returns-in-Some c = rw c.in-Some.is c.record_at.ensures

@@ -28,19 +28,15 @@ pub fn source_of(h: Host) -> Host
 pub fn may_on(name: Name, s: Source) -> bool
     ensures { result ≡ may_on name s }
 {
-    let origin = s.origin;
-    let done = state::attempt_at(s, name.number);
-    let below = state::fetchable(origin, name.number.0 as u32);
-    (name.source.0 < 8) & (below & !done.late)
+    let below = state::fetchable(s.origin, name.number.0 as u32);
+    name.source.0 < 8 && below && !state::attempt_at(s, name.number).late
 }
 
 pub fn may_fetch(e: End, name: Name) -> bool
     ensures { result ≡ may_fetch e name }
 {
     let from = source_of(name.source);
-    let at = from.0 as usize;
-    let s = e.sources[at];
-    may_on(name, s)
+    may_on(name, e.sources[from.0 as usize])
 }
 
 // ---- whom to ask
@@ -50,10 +46,7 @@ fn reported_by(heard: Heard, source: Host) -> bool
     requires { source.0 < host_limit }
     ensures { result ≡ reported_by heard source }
 {
-    match heard {
-        None => false,
-        Some((_, _, reported)) => numbers::bits::has_host(reported, source.0),
-    }
+    heard.is_some_and(|(_, _, reported)| numbers::bits::has_host(reported, source.0))
 }
 
 // The nearer of the nearest so far and a host d away; of two that are as near the one met first stays.
@@ -61,14 +54,8 @@ fn nearer(best: Nearest, h: Host, d: u64) -> Nearest
     ensures { result ≡ nearer best h d }
 {
     match best {
-        None => Some((h, d)),
-        Some((k, least)) => {
-            if d < least {
-                Some((h, d))
-            } else {
-                Some((k, least))
-            }
-        }
+        Some((_, least)) if least <= d => best,
+        _ => Some((h, d)),
     }
 }
 
@@ -77,10 +64,9 @@ fn offer(me: Host, source: Host, tried: Hosts, h: Host, s: Source, best: Nearest
     requires { (source.0 < host_limit) × (h.0 < host_limit) }
     ensures { result ≡ offered me source tried h s best }
 {
-    let heard = s.heard;
-    let other = !(h.0 == me.0);
+    let other = h.0 != me.0;
     let untried = !numbers::bits::has_host(tried, h.0);
-    if (other & reported_by(heard, source)) & untried {
+    if other && reported_by(s.heard, source) && untried {
         nearer(best, h, s.distance)
     } else {
         best
@@ -93,11 +79,8 @@ pub fn nearest(me: Host, sources: [Source; 8], source: Host, tried: Hosts) -> Ne
     ensures { result ≡ nearest_of me sources source tried host_limit }
 {
     let mut best = None;
-    let mut h: usize = 0;
-    while h < 8 {
-        let s = sources[h];
-        best = offer(me, source, tried, Host(h as u8), s, best);
-        h += 1;
+    for (h, s) in sources.iter().enumerate() {
+        best = offer(me, source, tried, Host(h as u8), *s, best);
     }
     best
 }
@@ -109,14 +92,7 @@ pub fn try_host(s: Source, n: CueNumber, h: Host) -> Source
 {
     let was = state::attempt_at(s, n);
     let tried = numbers::bits::with_host(was.tried, h.0);
-    state::with_attempt(
-        s,
-        n,
-        Attempt {
-            tried,
-            late: was.late,
-        },
-    )
+    state::with_attempt(s, n, Attempt { tried, ..was })
 }
 
 // ---- the kinds 22 and 23
@@ -126,8 +102,7 @@ pub fn may_answer(me: Host, x: NameEntry, s: Source) -> bool
     ensures { result ≡ answers me x s }
 {
     let known = records::record_at(s, x.name.number);
-    let slot = known.slot;
-    (x.host.0 == me.0) & state::is_held(slot)
+    x.host.0 == me.0 && state::is_held(known.slot)
 }
 
 // Whether the end, `me`, fetched the cue, tried this sender for it, and has not handed it out.
@@ -136,5 +111,5 @@ pub fn may_hand(me: Host, x: NameEntry, sender: Host, s: Source) -> bool
     ensures { result ≡ hands me x sender s }
 {
     let was = state::attempt_at(s, x.name.number);
-    (x.host.0 == me.0) & (numbers::bits::has_host(was.tried, sender.0) & !was.late)
+    x.host.0 == me.0 && numbers::bits::has_host(was.tried, sender.0) && !was.late
 }

@@ -1,4 +1,5 @@
 pub mod Tools
+pub mod PartLaws
 pub mod RecordLaws
 pub mod Lacking
 pub mod RiseLaws

@@ -2,7 +2,7 @@
 use mathlib.Core.Path.{◌≡◌, refl, sym, ap, ◌∙◌, subst}
 use mathlib.Core.Bool.{Bool, true, false, cond, ◌&&◌, ◌||◌}
 use mathlib.Core.List.{List, [], ◌∷◌, ◌++◌}
-use mathlib.Core.Option.{Option, none, some}
+use Rattle.std.specs.Prelude.{Option, Some, None, is_some, option_map}
 use Prim.Native.Nat.{ℕ, zero, suc, ◌-◌}
 use native.Mathlib.Omega.{arith}
 use lib.ListN.{length, get_or, replicate}
@@ -24,11 +24,9 @@ use Rattle.end.specs.declared.Answer.TheVariants as answer
 use Rattle.end.specs.Messages.{message_name, message_cue}
 use Rattle.end.specs.Answer.{Out, Got, Refused, Did, answer_of, buffer_of}
 use Rattle.display_window.specs.declared.Window.{Window}
-use Rattle.display_window.specs.declared.Window.TheVariants.{Unstarted, Started}
-use Rattle.display_window.specs.declared.Missing.TheVariants as missing
+use Rattle.display_window.specs.Parts.{Unstarted, Started}
 use Rattle.display_window.specs.declared.Lost.{Lost}
 use Rattle.display_window.specs.Window.{window_sound, none_lost, start_at, lowest_missing}
-use Rattle.display_window.specs.Frame.{is_started, missing_of}
 use Rattle.display.specs.declared.Display.{Display}
 use Rattle.display.specs.declared.Shown.{Shown}
 use Rattle.display.specs.Display.{hosts_apart, sound_of, with_clock, with_window}
@@ -120,28 +118,28 @@ Shows h r out last = (r ≡ shown_of h) × (last ≡ buffer_of (Did h.effect) ou
 shows_as : (h k : Hearing) (r : Shown) (out last : List ℕ) → h ≡ k → Shows h r out last → Shows k r out last
 shows_as h k r out last e s = subst (λ (x : Hearing). Shows x r out last) e s
 
-later : (d : Display) (w : Window) (kind : ℕ) (from : Host) (name : Name) (lead : CueNumber) (cue : List ℕ) → is_started w ≡ true
+later : (d : Display) (w : Option Window) (kind : ℕ) (from : Host) (name : Name) (lead : CueNumber) (cue : List ℕ) → is_some w ≡ true
     → let m = saying kind from name lead cue in
     heard_in w m d ≡ later_of (is_original d m || is_repair d m) (is_announced d m) name lead cue d
 unfolding heard_in
 later d Unstarted kind from name lead cue h = let z : ◌≡◌ {A = ℕ} 0 1 = cc in absurd (omega arith)
-later d (Started trail top set) kind from name lead cue h = refl
+later d (Started v) kind from name lead cue h = refl
 
-first : (d : Display) (w : Window) (m : Meaning) → is_started w ≡ false
+first : (d : Display) (w : Option Window) (m : Meaning) → is_some w ≡ false
     → heard_in w m d
     ≡ cond (is_original d m) (hearing (Got (message_name m) (message_cue m)) none_lost (with_window d (start_at (message_name m).number.0))) (passed_over d)
 unfolding heard_in
 first d Unstarted m h = refl
-first d (Started trail top set) m h = let z : ◌≡◌ {A = ℕ} 0 1 = cc in absurd (omega arith)
+first d (Started v) m h = let z : ◌≡◌ {A = ℕ} 0 1 = cc in absurd (omega arith)
 
-by_parts : (d : Display) (w : Window) (m : Meaning)
+by_parts : (d : Display) (w : Option Window) (m : Meaning)
     → heard_in w m d ≡ heard_in w (saying m.kind m.sender (message_name m) (get_or m.names 1 blank_name).name.number (message_cue m)) d
 unfolding heard_in
 by_parts d Unstarted m = refl
-by_parts d (Started trail lead set) m = refl
+by_parts d (Started v) m = refl
 
 module _ (d : Display) (kind : ℕ) (from : Host) (name : Name) (lead : CueNumber) (cue : List ℕ) (own its started : Bool)
-    (p : own ≡ same_host from d.sender) (q : its ≡ same_host name.source d.sender) (s : started ≡ is_started d.window) where
+    (p : own ≡ same_host from d.sender) (q : its ≡ same_host name.source d.sender) (s : started ≡ is_some d.window) where
   abbrev This : Meaning
   This = saying kind from name lead cue
 
@@ -204,10 +202,10 @@ pub record Read (bytes : List ℕ) (m : Message) : Type 0 where
   pub held : m ≡ held_as meaning
   pub does : (d : Display) → act_of (Hear bytes) d ≡ heard_in d.window meaning d
 
-zeros_pass : (d : Display) (w : Window) → passed_over d ≡ heard_in w zeros d
+zeros_pass : (d : Display) (w : Option Window) → passed_over d ≡ heard_in w zeros d
 unfolding heard_in
 zeros_pass d Unstarted = refl
-zeros_pass d (Started trail lead set) = refl
+zeros_pass d (Started v) = refl
 
 pub read : (bytes : List ℕ) (m : Message) → m ≡ (read_of bytes).message → read_refusal bytes ≡ 0 → Read bytes m
 unfolding read_of
@@ -248,19 +246,19 @@ step-refused d clock q out r a n e = refused-gives d Step clock q out r (a ∙ s
 
 -- ---- the lowest missing number
 -- what the code's answer says of the definition's
-pub missing_at : (o : Option ℕ) (n : CueNumber) → missing_of o ≡ missing.Number n → o ≡ some n.0
-missing_at none n h = let z : ◌≡◌ {A = ℕ} 0 1 = cc in absurd (omega arith)
-missing_at (some j) n h = let e : as_number j ≡ n = cc in ap (λ (x : CueNumber). some x.0) e
+pub missing_at : (o : Option ℕ) (n : CueNumber) → option_map as_number o ≡ Some n → o ≡ Some n.0
+missing_at None n h = let z : ◌≡◌ {A = ℕ} 0 1 = cc in absurd (omega arith)
+missing_at (Some j) n h = let e : as_number j ≡ n = cc in ap (λ (x : CueNumber). Some x.0) e
 
-pub missing_no : (o : Option ℕ) → missing_of o ≡ missing.NoneMissing → o ≡ none
-missing_no none h = refl
-missing_no (some j) h = let z : ◌≡◌ {A = ℕ} 0 1 = cc in absurd (omega arith)
+pub missing_no : (o : Option ℕ) → option_map as_number o ≡ None → o ≡ None
+missing_no None h = refl
+missing_no (Some j) h = let z : ◌≡◌ {A = ℕ} 0 1 = cc in absurd (omega arith)
 
 pub step-shows : (d : Display) (o : Option ℕ) (r : Shown) (out last : List ℕ) → lowest_missing d.window ≡ o → Shows (request_if o d) r out last
     → Shows (step_of d) r out last
 unfolding step_of
 step-shows d o r out last e w = shows_as _ _ r out last (ap (λ (x : Option ℕ). request_if x d) (sym e)) w
 
-pub step_rests : (d : Display) (r : Shown) (out : List ℕ) → lowest_missing d.window ≡ none → r ≡ shown_of (request_if none d) → Shows (step_of d) r out out
+pub step_rests : (d : Display) (r : Shown) (out : List ℕ) → lowest_missing d.window ≡ None → r ≡ shown_of (request_if None d) → Shows (step_of d) r out out
 unfolding buffer_of
-step_rests d r out e w = step-shows d none r out out e (w, refl)
+step_rests d r out e w = step-shows d None r out out e (w, refl)

@@ -1,11 +1,11 @@
 -- A display: its state, when it is sound, and how it is opened. Document 02, P11: "Foyer displays send no cues and follow one sender each, by
 -- the simplified PGM of source document 003."
-use Rattle.std.specs.Prelude.{ℕ, zero, suc, Bool, not, ◌&&◌, List, [], ◌∷◌}
+use Rattle.std.specs.Prelude.{Option, ℕ, zero, suc, Bool, not, ◌&&◌, List, [], ◌∷◌}
 use Rattle.message.specs.declared.Host.{Host}
 use Rattle.message.specs.Entry.{as_host}
 use Rattle.message.specs.Question.{Question, ask, first_no, host_in, ticks_in, same_host, verdict_for}
 use Rattle.display_window.specs.declared.Window.{Window}
-use Rattle.display_window.specs.declared.Window.TheVariants.{Unstarted}
+use Rattle.display_window.specs.Parts.{Unstarted}
 use Rattle.display_window.specs.Window.{window_sound}
 use Rattle.display.specs.declared.Display.{Display}
 use Rattle.display.specs.declared.OpenedDisplay.{OpenedDisplay}
@@ -39,5 +39,5 @@ opening_of own sender =
 abbrev pub with_clock : Display → ℕ → Display
 with_clock d clock = record { own = d.own; sender = d.sender; clock = clock; window = d.window }
 
-abbrev pub with_window : Display → Window → Display
+abbrev pub with_window : Display → Option Window → Display
 with_window d window = record { own = d.own; sender = d.sender; clock = d.clock; window = window }

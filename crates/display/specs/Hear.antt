@@ -1,12 +1,12 @@
 -- What a display does with a message. Document 02, P11. Which numbers that loses is said by the crate display_window.
-use Rattle.std.specs.Prelude.{ℕ, ◌-◌, Bool, cond, ◌&&◌, ◌||◌, get_or, eqb}
+use Rattle.std.specs.Prelude.{Option, ℕ, ◌-◌, Bool, cond, ◌&&◌, ◌||◌, get_or, eqb}
 use Rattle.message.specs.Entry.{blank_name}
 use Rattle.message.specs.Message.{DATA, REPL, ANNC, Meaning, Datagram, Probe, Saying}
 use Rattle.message.specs.Question.{same_host}
 use Rattle.end.specs.Messages.{message_name, message_cue}
 use Rattle.end.specs.Answer.{Effect, Got, Done, Ignored}
 use Rattle.display_window.specs.declared.Window.{Window}
-use Rattle.display_window.specs.declared.Window.TheVariants.{Unstarted, Started}
+use Rattle.display_window.specs.Parts.{Unstarted, Started}
 use Rattle.display_window.specs.declared.Lost.{Lost}
 use Rattle.display_window.specs.Window.{raised, is_new, start_at, taken, none_lost, lost_by}
 use Rattle.display.specs.declared.Display.{Display}
@@ -51,10 +51,10 @@ cue_of m n d =
 abbrev pub announced_of : Meaning → Display → Hearing
 announced_of m d = hearing Done (lost_by (trail_in m) d.window) (with_window d (raised (trail_in m) (lead_in m) d.window))
 
-unfoldable pub heard_in : Window → Meaning → Display → Hearing
+unfoldable pub heard_in : Option Window → Meaning → Display → Hearing
 heard_in Unstarted m d =
     cond (is_original d m) (hearing (Got (message_name m) (message_cue m)) none_lost (with_window d (start_at (message_name m).number.0))) (passed_over d)
-heard_in (Started trail lead set) m d =
+heard_in (Started w) m d =
     cond (is_original d m || is_repair d m) (cue_of m (message_name m).number.0 d) (cond (is_announced d m) (announced_of m d) (passed_over d))
 
 -- a probe is passed over

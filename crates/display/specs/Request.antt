@@ -1,6 +1,5 @@
 -- What a step of a display puts out. Document 02, P11: "A step puts out RQST of the lowest missing number, or gives Nothing".
-use Rattle.std.specs.Prelude.{ℕ, [], ◌∷◌}
-use Rattle.std.proofs.Math.Option.{Option, none, some}
+use Rattle.std.specs.Prelude.{Option, Some, None, ℕ, [], ◌∷◌}
 use Rattle.message.specs.Entry.{as_number}
 use Rattle.message.specs.Message.{RQST, Meaning, bytes_of}
 use Rattle.end.specs.Answer.{Out, Nothing}
@@ -21,8 +20,8 @@ request_for d n = record {
 }
 
 abbrev pub request_if : Option ℕ → Display → Hearing
-request_if none d = hearing Nothing none_lost d
-request_if (some n) d = hearing (Out (bytes_of (request_for d n))) none_lost d
+request_if None d = hearing Nothing none_lost d
+request_if (Some n) d = hearing (Out (bytes_of (request_for d n))) none_lost d
 
 unfoldable pub step_of : Display → Hearing
 step_of d = request_if (lowest_missing d.window) d

@@ -1,15 +1,14 @@
 -- Some calls on a display, worked out by hand: display 3, which follows host 1. Document 02, P11. What is heard are bytes, those of messages that
 -- the reader accepts but for the rows of refusals.
-use Rattle.std.specs.Prelude.{ℕ, List, [], ◌∷◌, ◌++◌, replicate}
+use Rattle.std.specs.Prelude.{Option, ℕ, List, [], ◌∷◌, ◌++◌, replicate}
 use Rattle.message.specs.declared.Name.{Name}
 use Rattle.message.specs.declared.NameEntry.{NameEntry}
 use Rattle.message.specs.Entry.{as_host, as_number, blank_cue}
 use Rattle.message.specs.Message.{DATA, RQST, REPL, SESS, XPRS, FTCH, LATE, ANNC, Meaning, bytes_of}
 use Rattle.end.specs.Answer.{Effect, Out, Got, Done, Ignored, Nothing, Did}
 use Rattle.display_window.specs.declared.Window.{Window}
-use Rattle.display_window.specs.declared.Window.TheVariants.{Unstarted, Started}
-use Rattle.display_window.specs.declared.Above.{Above}
-use Rattle.display_window.specs.declared.Above.TheVariants.{NoneAbove, Between}
+use Rattle.display_window.specs.Parts.{Unstarted, started, NoneAbove, between}
+use Rattle.display_window.specs.declared.Span.{Span}
 use Rattle.display_window.specs.declared.Lost.{Lost}
 use Rattle.display_window.specs.Window.{none_lost}
 use Rattle.display.specs.declared.Display.{Display}
@@ -18,11 +17,11 @@ use Rattle.display.specs.Call.{Hear, Step, question_of, Result, event_of}
 
 -- ---- displays
 
-abbrev pub display_at : Window → Display
+abbrev pub display_at : Option Window → Display
 display_at w = record { own = as_host 3; sender = as_host 1; clock = 0; window = w }
 
-abbrev pub window : ℕ → ℕ → ℕ → Window
-window trail lead set = Started (as_number trail) (as_number lead) set
+abbrev pub window : ℕ → ℕ → ℕ → Option Window
+window trail lead set = started (as_number trail) (as_number lead) set
 
 -- ---- messages
 
@@ -52,22 +51,22 @@ cue_minus_two = 255 ∷ 254 ∷ replicate 22 0
 abbrev pub got : ℕ → Effect
 got n = Got (named 1 n) blank_cue
 
-abbrev pub losing : ℕ → ℕ → Above → Lost
+abbrev pub losing : ℕ → ℕ → Option Span → Lost
 losing trail set above = record { trail = as_number trail; set = set; above = above }
 
 -- ---- what is heard: a window, the message, and the answer, the losses and the window that follow
 
 pub record Row : Type 0 where
-  pub before : Window
+  pub before : Option Window
   pub message : Meaning
   pub effect : Effect
   pub lost : Lost
-  pub then : Window
+  pub then : Option Window
 
-abbrev pub row : Window → Meaning → Effect → Lost → Window → Row
+abbrev pub row : Option Window → Meaning → Effect → Lost → Option Window → Row
 row before message effect lost then = record { before = before; message = message; effect = effect; lost = lost; then = then }
 
-abbrev pub ignores : Window → Meaning → Row
+abbrev pub ignores : Option Window → Meaning → Row
 ignores w message = row w message Ignored none_lost w
 
 abbrev pub heard_by : Row → Result
@@ -81,11 +80,11 @@ rows =
     -- the start
     row Unstarted (data_of 1 5) (got 5) none_lost (window 5 5 1)
     -- trail is 7 then: 5 was received, and 6 is above the old lead
-    ∷ row (window 5 5 1) (data_of 1 70) (got 70) (losing 5 0 (Between (as_number 6) (as_number 6))) (window 7 70 9223372036854775808)
+    ∷ row (window 5 5 1) (data_of 1 70) (got 70) (losing 5 0 (between (as_number 6) (as_number 6))) (window 7 70 9223372036854775808)
     -- the 53 numbers 7 to 59 are lost
     ∷ row (window 7 70 9223372036854775808) (announced 1 60 70) Done (losing 7 9007199254740991 NoneAbove) (window 60 70 1024)
     -- 60 to 69 in the set, and 71 to 199 above the old lead: all of the old window is passed
-    ∷ row (window 60 70 1024) (announced 1 200 210) Done (losing 60 1023 (Between (as_number 71) (as_number 199))) (window 200 210 0)
+    ∷ row (window 60 70 1024) (announced 1 200 210) Done (losing 60 1023 (between (as_number 71) (as_number 199))) (window 200 210 0)
     ∷ row (window 200 210 0) (data_of 1 205) (got 205) (losing 200 0 NoneAbove) (window 200 210 32)
     -- a repeat, and a cue below trail
     ∷ ignores (window 200 210 32) (data_of 1 205)
@@ -99,14 +98,14 @@ rows =
     ∷ row (window 0 63 0) (announced 1 64 127) Done (losing 0 18446744073709551615 NoneAbove) (window 64 127 0)
     -- the first and the last number
     ∷ row Unstarted (data_of 1 0) (got 0) none_lost (window 0 0 1)
-    ∷ row (window 0 0 1) (data_of 1 65535) (got 65535) (losing 0 0 (Between (as_number 1) (as_number 65471))) (window 65472 65535 9223372036854775808)
+    ∷ row (window 0 0 1) (data_of 1 65535) (got 65535) (losing 0 0 (between (as_number 1) (as_number 65471))) (window 65472 65535 9223372036854775808)
     ∷ row Unstarted (data_of 1 65535) (got 65535) none_lost (window 65535 65535 1)
     -- a REPL before the start, one of another's cue, and one of the sender's
     ∷ ignores Unstarted (repair_of 1 5)
     ∷ ignores (window 5 5 1) (repair_of 0 6)
     ∷ row (window 5 5 1) (repair_of 1 6) (got 6) (losing 5 0 NoneAbove) (window 5 6 3)
     -- a REPL that loses, a repeat, and one below trail
-    ∷ row (window 5 5 1) (repair_of 1 70) (got 70) (losing 5 0 (Between (as_number 6) (as_number 6))) (window 7 70 9223372036854775808)
+    ∷ row (window 5 5 1) (repair_of 1 70) (got 70) (losing 5 0 (between (as_number 6) (as_number 6))) (window 7 70 9223372036854775808)
     ∷ ignores (window 200 210 32) (repair_of 1 205)
     ∷ ignores (window 200 210 32) (repair_of 1 199)
     -- another cue than zeros
@@ -134,10 +133,10 @@ foreseen_rows (r ∷ rs) = foreseen r ∷ foreseen_rows rs
 
 -- ---- steps: 6 is the lowest number that window 5..8 with 5 and 8 received lacks, and its RQST goes out at clock 392
 
-abbrev pub stepping : Window → Result
+abbrev pub stepping : Option Window → Result
 stepping w = event_of (display_at w) Step 392 128
 
-abbrev pub steps_to : Effect → Window → Result
+abbrev pub steps_to : Effect → Option Window → Result
 steps_to effect w = record { outcome = Did effect; lost = none_lost; left = with_clock (display_at w) 392 }
 
 abbrev pub request6 : List ℕ
@@ -173,7 +172,7 @@ old_gives =
 
 -- ---- refusals: a display, the call with its clock and room, and the number
 
-abbrev pub at5 : Window → Display
+abbrev pub at5 : Option Window → Display
 at5 w = with_clock (display_at w) 5
 
 abbrev pub hosts : ℕ → ℕ → Display

@@ -4,19 +4,18 @@
 // Rows (cases). What holds over the list of a display's calls is stated and proved in the crate display_history.
 #![tactic(auto)]
 
-ghost use Rattle.std.specs.Prelude.{◌≡◌, true, ◌-◌, ◌≤◌, ◌<◌, length};
-ghost use Rattle.std.proofs.Math.Option.{none, some};
+ghost use Rattle.std.specs.Prelude.{◌≡◌, Some, None, true, ◌-◌, ◌≤◌, ◌<◌, length};
 ghost use Rattle.message.specs.Limit.{room_needed};
 ghost use Rattle.message.specs.Message.{Meaning, held_as, Small, number_width, meaning_of};
 ghost use Rattle.end.specs.Answer.{Got, Done, Did, Refused, answer_of, buffer_of};
 ghost use Rattle.display_window.specs.Window.{window_sound, raised, start_at, taken, none_lost, lost_by};
-ghost use Rattle.display.specs.Display.{hosts_apart, sound_of, fresh, opening_of, with_clock, with_window};
+ghost use Rattle.display.specs.Display.{hosts_apart, sound_of, fresh, opening_of, with_window};
 ghost use Rattle.display.specs.Hear.{hearing, passed_over, heard_in};
 ghost use Rattle.display.specs.Request.{request_for, request_if, step_of};
 ghost use Rattle.display.specs.Call.{Hear, Step, gives, leaves};
 ghost use Rattle.display.specs.Frame.{shown_of, first_of, Ready, saying, later_of};
 
-use display_window::{Lost, Missing, Window};
+use display_window::{Lost, Window};
 use end::Answer;
 use message::{
     ANNC, Counts, CueNumber, DATA, HOST_LIMIT, Host, Message, Name, NameEntry, REPL, ROOM_NEEDED,
@@ -29,7 +28,7 @@ pub struct Display {
     pub own: Host,
     pub sender: Host,
     pub clock: u64,
-    pub window: Window,
+    pub window: Option<Window>,
 }
 
 // What a call gives: its answer (Refused, Out, Got, Done, Ignored or Nothing), the numbers that became lost, and the display that it leaves.
@@ -62,69 +61,40 @@ fn fresh(own: Host, sender: Host) -> Display
         own,
         sender,
         clock: 0,
-        window: Window::Unstarted,
+        window: None,
     }
 }
 
 // Opens a display: question 12. Refused, it gives a fresh display of host 0 that follows host 1 beside the number.
+#[tactic(auto, unfolding(crate::specs::Display::opening_of))]
 pub fn open(own: Host, sender: Host) -> OpenedDisplay
     ensures { result ≡ opening_of own sender }
 {
     if hosts_apart(own, sender) {
-        let display = fresh(own, sender);
         OpenedDisplay {
             verdict: Verdict::Accepted,
-            display,
+            display: fresh(own, sender),
         }
     } else {
-        let display = fresh(Host(0), Host(1));
         OpenedDisplay {
             verdict: Verdict::Refused(12),
-            display,
+            display: fresh(Host(0), Host(1)),
         }
     }
 }
 
+#[tactic(auto, unfolding(crate::specs::Display::sound_of))]
 fn sound(d: Display) -> bool
     ensures { result ≡ sound_of d }
 {
-    let own = d.own;
-    let sender = d.sender;
-    let window = d.window;
-    hosts_apart(own, sender) & ((d.clock < TICKS_LIMIT) & display_window::window_sound(window))
-}
-
-fn with_clock(d: Display, clock: u64) -> Display
-    ensures { result ≡ with_clock d clock }
-{
-    let own = d.own;
-    let sender = d.sender;
-    let window = d.window;
-    Display {
-        own,
-        sender,
-        clock,
-        window,
-    }
-}
-
-fn with_window(d: Display, window: Window) -> Display
-    ensures { result ≡ with_window d window }
-{
-    let own = d.own;
-    let sender = d.sender;
-    let clock = d.clock;
-    Display {
-        own,
-        sender,
-        clock,
-        window,
-    }
+    hosts_apart(d.own, d.sender)
+        & ((d.clock < TICKS_LIMIT) & display_window::window_sound(d.window))
 }
 
 // ---- messages
 
 // A cue is handed out: it stands in the first output bytes.
+#[tactic(auto, unfolding(end::specs::Answer::answer_of, end::specs::Answer::buffer_of))]
 fn hand_out(name: Name, cue: &[u8; 24], out: &mut [u8]) -> Answer
     requires { room_needed ≤ length out.old }
     ensures value { result ≡ answer_of (Did (Got name cue.now)) }
@@ -134,13 +104,13 @@ fn hand_out(name: Name, cue: &[u8; 24], out: &mut [u8]) -> Answer
     Answer::Got(name)
 }
 
+#[tactic(auto, unfolding(end::specs::Answer::answer_of))]
 fn passed_over(d: Display) -> Shown
     ensures { result ≡ shown_of (passed_over d) }
 {
-    let lost = display_window::none_lost();
     Shown {
         answer: Answer::Ignored,
-        lost,
+        lost: display_window::none_lost(),
         display: d,
     }
 }
@@ -151,14 +121,18 @@ fn started(d: Display, name: Name, cue: [u8; 24], out: &mut [u8]) -> Shown
     ensures value { result ≡ shown_of (hearing (Got name cue) none_lost (with_window d (start_at name.number.0))) }
     ensures out_after { out.new ≡ buffer_of (Did (Got name cue)) out.old }
 {
-    let n = name.number;
-    let answer = hand_out(name, &cue, out);
-    let lost = display_window::none_lost();
-    let display = with_window(d, Window::Started(n, n, 1));
+    let window = Window {
+        trail: name.number,
+        lead: name.number,
+        set: 1,
+    };
     Shown {
-        answer,
-        lost,
-        display,
+        answer: hand_out(name, &cue, out),
+        lost: display_window::none_lost(),
+        display: Display {
+            window: Some(window),
+            ..d
+        },
     }
 }
 
@@ -169,36 +143,34 @@ fn got(d: Display, name: Name, cue: [u8; 24], out: &mut [u8]) -> Shown
     ensures out_after { out.new ≡ buffer_of (Did (Got name cue)) out.old }
 {
     let n = name.number;
-    let window = d.window;
-    let answer = hand_out(name, &cue, out);
-    let low = display_window::trail_for(n);
-    let lost = display_window::lost_by(low, window);
-    let next = display_window::taken(n, window);
-    let display = with_window(d, next);
     Shown {
-        answer,
-        lost,
-        display,
+        answer: hand_out(name, &cue, out),
+        lost: display_window::lost_by(display_window::trail_for(n), d.window),
+        display: Display {
+            window: display_window::taken(n, d.window),
+            ..d
+        },
     }
 }
 
 // The sender's trail and lead.
+#[tactic(auto, unfolding(end::specs::Answer::answer_of))]
 fn announced(d: Display, trail: CueNumber, lead: CueNumber) -> Shown
     requires { window_sound d.window ≡ true }
     ensures { result ≡ shown_of (hearing Done (lost_by trail.0 d.window) (with_window d (raised trail.0 lead.0 d.window))) }
 {
-    let window = d.window;
-    let lost = display_window::lost_by(trail, window);
-    let next = display_window::raised(trail, lead, window);
-    let display = with_window(d, next);
     Shown {
         answer: Answer::Done,
-        lost,
-        display,
+        lost: display_window::lost_by(trail, d.window),
+        display: Display {
+            window: display_window::raised(trail, lead, d.window),
+            ..d
+        },
     }
 }
 
 // What a message says to a display that has started, by its kind and sender.
+#[tactic(auto, unfolding(end::specs::Answer::buffer_of))]
 fn heard_later(
     d: Display,
     cues: bool,
@@ -212,17 +184,14 @@ fn heard_later(
     ensures value { result ≡ shown_of (later_of cues tells name lead cue d) }
     ensures out_after { out.new ≡ buffer_of (Did (later_of cues tells name lead cue d).effect) out.old }
 {
-    let window = d.window;
-    let n = name.number;
-    let new = display_window::is_new(window, n);
     if cues {
-        if new {
+        if display_window::is_new(d.window, name.number) {
             got(d, name, cue, out)
         } else {
             passed_over(d)
         }
     } else if tells {
-        announced(d, n, lead)
+        announced(d, name.number, lead)
     } else {
         passed_over(d)
     }
@@ -242,14 +211,11 @@ fn heard(
     ensures value { result ≡ shown_of (heard_in d.window (saying kind from name lead cue) d) }
     ensures out_after { out.new ≡ buffer_of (Did (heard_in d.window (saying kind from name lead cue) d).effect) out.old }
 {
-    let window = d.window;
-    let sender = d.sender;
-    let source = name.source;
-    let by_sender = message::same_host(from, sender);
+    let by_sender = message::same_host(from, d.sender);
     let original = (kind == DATA) & by_sender;
-    let repair = (kind == REPL) & message::same_host(source, sender);
+    let repair = (kind == REPL) & message::same_host(name.source, d.sender);
     let tells = (kind == ANNC) & by_sender;
-    if display_window::is_started(window) {
+    if d.window.is_some() {
         heard_later(d, original | repair, tells, name, lead, cue, out)
     } else if original {
         started(d, name, cue, out)
@@ -263,14 +229,16 @@ fn heard_message(d: Display, m: Message, out: &mut [u8]) -> Shown
     ensures value { (M : Meaning) → m ≡ held_as M → result ≡ shown_of (heard_in d.window M d) }
     ensures out_after { (M : Meaning) → m ≡ held_as M → out.new ≡ buffer_of (Did (heard_in d.window M d).effect) out.old }
 {
-    let names = m.names;
-    let first = names[0];
-    let second = names[1];
-    let from = m.sender;
-    let name = first.name;
-    let lead = second.name.number;
-    let cue = m.cue;
-    heard(d, m.kind, from, name, lead, cue, out)
+    let [first, second] = m.names;
+    heard(
+        d,
+        m.kind,
+        m.sender,
+        first.name,
+        second.name.number,
+        m.cue,
+        out,
+    )
 }
 
 // ---- requests
@@ -280,25 +248,24 @@ fn request_for(d: Display, number: CueNumber) -> Message
     ensures result_value { meaning_of result ≡ request_for d number.0 }
     ensures small { Small (number_width result.kind) result.counts }
 {
-    let sender = d.own;
-    let source = d.sender;
-    let mut names = [message::no_name(); 2];
-    names[0] = NameEntry {
-        name: Name { source, number },
-        host: sender,
-    };
-    let counts = Counts {
-        names: 1,
-        cues: 0,
-        reports: 0,
-        echoes: 0,
+    let asked = NameEntry {
+        name: Name {
+            source: d.sender,
+            number,
+        },
+        host: d.own,
     };
     Message {
         kind: RQST,
-        sender,
+        sender: d.own,
         stamp: d.clock,
-        counts,
-        names,
+        counts: Counts {
+            names: 1,
+            cues: 0,
+            reports: 0,
+            echoes: 0,
+        },
+        names: [asked, message::no_name()],
         cue: [0; 24],
         reports: [message::no_report(); 8],
         echoes: [message::no_echo(); 7],
@@ -307,26 +274,24 @@ fn request_for(d: Display, number: CueNumber) -> Message
 
 fn requested(d: Display, number: CueNumber, out: &mut [u8]) -> Shown
     requires { room_needed ≤ length out.old }
-    ensures value { result ≡ shown_of (request_if (some number.0) d) }
-    ensures out_after { out.new ≡ buffer_of (Did (request_if (some number.0) d).effect) out.old }
+    ensures value { result ≡ shown_of (request_if (Some number.0) d) }
+    ensures out_after { out.new ≡ buffer_of (Did (request_if (Some number.0) d).effect) out.old }
 {
-    let m = request_for(d, number);
-    let len = layout::put_message(out, m);
-    let lost = display_window::none_lost();
+    let len = layout::put_message(out, request_for(d, number));
     Shown {
         answer: Answer::Out(len),
-        lost,
+        lost: display_window::none_lost(),
         display: d,
     }
 }
 
+#[tactic(auto, unfolding(end::specs::Answer::answer_of))]
 fn nothing_missing(d: Display) -> Shown
-    ensures { result ≡ shown_of (request_if none d) }
+    ensures { result ≡ shown_of (request_if None d) }
 {
-    let lost = display_window::none_lost();
     Shown {
         answer: Answer::Nothing,
-        lost,
+        lost: display_window::none_lost(),
         display: d,
     }
 }
@@ -336,11 +301,9 @@ fn stepped(d: Display, out: &mut [u8]) -> Shown
     ensures value { result ≡ shown_of (step_of d) }
     ensures out_after { out.new ≡ buffer_of (Did (step_of d).effect) out.old }
 {
-    let window = d.window;
-    let lowest = display_window::lowest_missing(window);
-    match lowest {
-        Missing::Number(n) => requested(d, n, out),
-        Missing::NoneMissing => nothing_missing(d),
+    match display_window::lowest_missing(d.window) {
+        Some(n) => requested(d, n, out),
+        None => nothing_missing(d),
     }
 }
 
@@ -356,13 +319,13 @@ fn refusal(d: Display, clock: u64, room: usize, own: u8) -> u8
     message::asked(ROOM_NEEDED <= room, 1, three)
 }
 
+#[tactic(auto, unfolding(end::specs::Answer::answer_of))]
 fn refused(number: u8, d: Display) -> Shown
     ensures { result ≡ record { answer = answer_of (Refused number); lost = none_lost; display = d } }
 {
-    let lost = display_window::none_lost();
     Shown {
         answer: Answer::Refused(number),
-        lost,
+        lost: display_window::none_lost(),
         display: d,
     }
 }
@@ -373,13 +336,10 @@ pub fn hear(d: Display, clock: u64, bytes: &[u8], out: &mut [u8]) -> Shown
     ensures out_after { out.new ≡ leaves d (Hear bytes.now) clock out.old }
 {
     let reading = reader::read(bytes);
-    let verdict = reading.verdict;
-    let message = reading.message;
-    let own = message::number_of(verdict);
+    let own = message::number_of(reading.verdict);
     let q = refusal(d, clock, out.len(), own);
     if q == 0 {
-        let display = with_clock(d, clock);
-        heard_message(display, message, out)
+        heard_message(Display { clock, ..d }, reading.message, out)
     } else {
         refused(q, d)
     }
@@ -392,8 +352,7 @@ pub fn step(d: Display, clock: u64, out: &mut [u8]) -> Shown
 {
     let q = refusal(d, clock, out.len(), 0);
     if q == 0 {
-        let display = with_clock(d, clock);
-        stepped(display, out)
+        stepped(Display { clock, ..d }, out)
     } else {
         refused(q, d)
     }

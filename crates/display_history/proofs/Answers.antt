@@ -3,6 +3,8 @@ use mathlib.Core.Path.{◌≡◌, refl, sym, ap, ◌∙◌, subst}
 use mathlib.Core.Bool.{Bool, true, false, cond, not, ◌&&◌, ◌||◌}
 use mathlib.Core.List.{List, [], ◌∷◌}
 use mathlib.Core.Logic.{⊎_elim}
+use Rattle.std.specs.Prelude as rust
+use Rattle.std.specs.Prelude.{Some, None}
 use mathlib.Core.Option.{Option, none, some}
 use Prim.Native.Nat.{ℕ, ◌+◌, ◌-◌, ◌≤◌, ◌<◌, max}
 use native.Mathlib.Omega.{arith}
@@ -28,8 +30,7 @@ use Rattle.end.specs.Messages.{message_name, message_cue}
 use Rattle.end.specs.Book.{read_as}
 use Rattle.end.proofs.Tools.{by_cond, by_test, clash, clash'}
 use Rattle.end.proofs.Readings.{read_is, reads, own-source, written-reads}
-use Rattle.display_window.specs.declared.Window.{Window}
-use Rattle.display_window.specs.declared.Window.TheVariants.{Unstarted, Started}
+use Rattle.display_window.specs.Parts.{Seen, Unstarted, Started, started}
 use Rattle.display_window.specs.declared.Lost.{Lost}
 use Rattle.display_window.specs.Window.{window_sound, raised, received, is_new, start_at, taken, none_lost, lost_by, lowest_missing}
 use Rattle.display_window.proofs.WindowLaws.{SoundWindow, sound-window}
@@ -69,7 +70,7 @@ edges_of_lem true x y = refl
 edges_of_lem false x y = refl
 
 -- a cue that is not new is no higher than lead
-old_below : (trail lead : CueNumber) (set n : ℕ) → SoundWindow trail.0 lead.0 set → is_new (Started trail lead set) n ≡ false → n ≤ lead.0
+old_below : (trail lead : CueNumber) (set n : ℕ) → SoundWindow trail.0 lead.0 set → is_new (started trail lead set) n ≡ false → n ≤ lead.0
 unfolding is_new
 old_below trail lead set n w old =
     by_order lead.0 n
@@ -105,45 +106,45 @@ module _ (d : Display) (m : Meaning)
   tells-effect : (cond (is_announced d m) (announced_of m d) (passed_over d)).effect ≡ cond (is_announced d m) Done Ignored
   tells-effect = effect_of (is_announced d m) (announced_of m d) (passed_over d)
 
-  pub heard-answer : (times : ℕ) (w : Window) → is_new d.window n ≡ (is_from w n && eqb times 0) → (heard_in w m d).effect ≡ answered w d.sender m times
+  pub heard-answer : (times : ℕ) (w : Seen) → is_new d.window n ≡ (is_from w n && eqb times 0) → (heard_in w m d).effect ≡ answered w d.sender m times
   unfolding heard_in answered
   heard-answer times Unstarted new = effect_of (is_original d m) _ _ ∙ ap (λ (b : Bool). got_if b m) original_test
-  heard-answer times (Started trail lead set) new =
+  heard-answer times (Started w) new =
       effect_of (is_original d m || is_repair d m) (cue_of m n d) (cond (is_announced d m) (announced_of m d) (passed_over d))
       ∙ (λ i. cond (is_original d m || is_repair d m) (cue-effect i) (tells-effect i))
       ∙ (λ i. cond (cue_test i) (got_if (new i) m) (cond (tells_test i) Done Ignored))
 
   -- trail and lead
-  abbrev started : Hearing
-  started = hearing (Got (message_name m) (message_cue m)) none_lost (with_window d (start_at n))
+  abbrev begun : Hearing
+  begun = hearing (Got (message_name m) (message_cue m)) none_lost (with_window d (start_at n))
 
   -- a cue that is passed over moves neither
-  passed-edges : (trail lead : CueNumber) (set : ℕ) → SoundWindow trail.0 lead.0 set → is_new (Started trail lead set) n ≡ false
-      → edges_of (Started trail lead set) ≡ some (max trail.0 (n - 63), max lead.0 n)
+  passed-edges : (trail lead : CueNumber) (set : ℕ) → SoundWindow trail.0 lead.0 set → is_new (started trail lead set) n ≡ false
+      → edges_of (started trail lead set) ≡ some (max trail.0 (n - 63), max lead.0 n)
   passed-edges trail lead set w old =
       let high = old_below trail lead set n w old in
       let same : trail.0 ≡ max trail.0 (n - 63) = omega (arith, high, w.near) in
       let top : lead.0 ≡ max lead.0 n = omega (arith, high) in
       λ i. some (same i, top i)
 
-  cue-edges : (trail lead : CueNumber) (set : ℕ) → d.window ≡ Started trail lead set → SoundWindow trail.0 lead.0 set
+  cue-edges : (trail lead : CueNumber) (set : ℕ) → d.window ≡ started trail lead set → SoundWindow trail.0 lead.0 set
       → edges_of (cue_of m n d).left.window ≡ some (max trail.0 (n - 63), max lead.0 n)
   unfolding raised received
   cue-edges trail lead set p w =
       by_flag (is_new d.window n)
-      (λ new. rw new (ap (λ (v : Window). edges_of (taken n v)) p))
-      (λ old. rw old (ap edges_of p ∙ passed-edges trail lead set w (sym (ap (λ (v : Window). is_new v n) p) ∙ old)))
+      (λ new. rw new (ap (λ (v : Seen). edges_of (taken n v)) p))
+      (λ old. rw old (ap edges_of p ∙ passed-edges trail lead set w (sym (ap (λ (v : Seen). is_new v n) p) ∙ old)))
 
-  pub heard-edges : (w : Window) → d.window ≡ w → window_sound w ≡ true → edges_of (heard_in w m d).left.window ≡ edges_by w d.sender m
+  pub heard-edges : (w : Seen) → d.window ≡ w → window_sound w ≡ true → edges_of (heard_in w m d).left.window ≡ edges_by w d.sender m
   unfolding heard_in edges_by raised
-  heard-edges Unstarted p h = edges_of_lem (is_original d m) started (passed_over d) ∙ (λ i. cond (original_test i) (some (n, n)) (edges_of (p i)))
-  heard-edges (Started trail lead set) p h =
+  heard-edges Unstarted p h = edges_of_lem (is_original d m) begun (passed_over d) ∙ (λ i. cond (original_test i) (some (n, n)) (edges_of (p i)))
+  heard-edges (Started w) p h =
       edges_of_lem (is_original d m || is_repair d m) (cue_of m n d) (cond (is_announced d m) (announced_of m d) (passed_over d))
       ∙ (λ i.
       cond (is_original d m || is_repair d m)
-      (cue-edges trail lead set p (sound-window trail lead set h) i)
+      (cue-edges w.trail w.lead w.set p (sound-window w.trail w.lead w.set h) i)
       (edges_of_lem (is_announced d m) (announced_of m d) (passed_over d) i))
-      ∙ (λ i. cond (cue_test i) (some (max trail.0 (n - 63), max lead.0 n)) (cond (tells_test i) (edges_of (raised n (lead_in m) (p i))) (edges_of (p i))))
+      ∙ (λ i. cond (cue_test i) (some (max w.trail.0 (n - 63), max w.lead.0 n)) (cond (tells_test i) (edges_of (raised n (lead_in m) (p i))) (edges_of (p i))))
 
 -- what the questions leave: a DATA and a kind 24 name the host that sent them
 names-own : (b : ℕ) (s : List ℕ) (sender : Host) (k : ℕ) → (row_of k).host ≡ SourceAndSender → 0 < (row_of k).names → first_no (message_questions (b ∷ s)) ≡ 0
@@ -208,10 +209,10 @@ edges-heard d bytes clock room q =
 abbrev Keeps : Display → Hearing → Type 0
 Keeps d h = (h.left.clock ≡ d.clock) × (h.left.own ≡ d.own) × (h.left.sender ≡ d.sender)
 
-heard-keeps : (m : Meaning) (d : Display) (w : Window) → Keeps d (heard_in w m d)
+heard-keeps : (m : Meaning) (d : Display) (w : Seen) → Keeps d (heard_in w m d)
 unfolding heard_in
 heard-keeps m d Unstarted = by_cond (Keeps d) (is_original d m) (λ _. (refl, refl, refl)) (λ _. (refl, refl, refl))
-heard-keeps m d (Started trail lead set) =
+heard-keeps m d (Started w) =
     by_cond (Keeps d) (is_original d m || is_repair d m)
     (λ _. by_cond (Keeps d) (is_new d.window (message_name m).number.0) (λ _. (refl, refl, refl)) (λ _. (refl, refl, refl)))
     (λ _. by_cond (Keeps d) (is_announced d m) (λ _. (refl, refl, refl)) (λ _. (refl, refl, refl)))
@@ -225,9 +226,9 @@ acts_keep (Hear bytes) d = go (datagram_from bytes)
     go (Saying m) = heard-keeps m d d.window
 acts_keep Step d = go (lowest_missing d.window)
   where
-    go : (o : Option ℕ) → Keeps d (request_if o d)
-    go none = (refl, refl, refl)
-    go (some n) = (refl, refl, refl)
+    go : (o : rust.Option ℕ) → Keeps d (request_if o d)
+    go None = (refl, refl, refl)
+    go (Some n) = (refl, refl, refl)
 
 pub sets-clock : SetsClock
 unfolding event_of
@@ -246,21 +247,21 @@ refused-stays d c k h =
 
 -- ---- lead is a cue number
 
-abbrev pub Below : Window → Type 0
+abbrev pub Below : Seen → Type 0
 Below Unstarted = Unit {0}
-Below (Started trail lead set) = lead.0 < number_limit
+Below (Started w) = w.lead.0 < number_limit
 
-raised_below : (t l : ℕ) (w : Window) → l < number_limit → Below w → Below (raised t l w)
+raised_below : (t l : ℕ) (w : Seen) → l < number_limit → Below w → Below (raised t l w)
 unfolding raised
 raised_below t l Unstarted h b = tt
-raised_below t l (Started trail lead set) h b = omega (arith, h, b)
+raised_below t l (Started w) h b = omega (arith, h, b)
 
-received-below : (n : ℕ) (w : Window) → Below w → Below (received n w)
+received-below : (n : ℕ) (w : Seen) → Below w → Below (received n w)
 unfolding received
 received-below n Unstarted b = tt
-received-below n (Started trail lead set) b = b
+received-below n (Started w) b = b
 
-below_went : (w : Window) (h : Option ℕ) (l : Lost) (v : Window) → Went w h l v → Below w → Below v
+below_went : (w : Seen) (h : Option ℕ) (l : Lost) (v : Seen) → Went w h l v → Below w → Below v
 below_went w h l v (Stays a c e) b = rw e b
 below_went w h l v (Starts n s a c d e) b = rw e s
 below_went w h l v (Takes n s a c d e) b = rw e (received-below n (raised (n - 63) n w) (raised_below (n - 63) n w s b))
@@ -274,11 +275,11 @@ unfolding after_all
 below_all d [] b = b
 below_all d (c ∷ cs) b = below_all (after d c) cs (below_next d c b)
 
-missing-below : (w : Window) (n : ℕ) → Below w → is_missing w n ≡ true → n < number_limit
+missing-below : (w : Seen) (n : ℕ) → Below w → is_missing w n ≡ true → n < number_limit
 missing-below Unstarted n b h = clash' h
-missing-below (Started trail lead set) n b h =
-    let between = (and_both (leb trail.0 n && leb n lead.0) (not (bit set (n - trail.0))) h).0 in
-    omega (arith, b, leb-true n lead.0 (and_both (leb trail.0 n) (leb n lead.0) between).1)
+missing-below (Started w) n b h =
+    let between = (and_both (leb w.trail.0 n && leb n w.lead.0) (not (bit w.set (n - w.trail.0))) h).0 in
+    omega (arith, b, leb-true n w.lead.0 (and_both (leb w.trail.0 n) (leb n w.lead.0) between).1)
 
 -- ---- what is put out
 
@@ -322,10 +323,10 @@ none_out x e = let z : ◌≡◌ {A = ℕ} 0 1 = cc in omega arith
 handed_out_lem : (name : Name) (cue x : List ℕ) → HandsOut name cue ≡ PutsOut x → ⊥
 handed_out_lem name cue x e = let z : ◌≡◌ {A = ℕ} 0 1 = cc in omega arith
 
-heard_silent : (m : Meaning) (d : Display) (w : Window) → Silent (heard_in w m d)
+heard_silent : (m : Meaning) (d : Display) (w : Seen) → Silent (heard_in w m d)
 unfolding heard_in
 heard_silent m d Unstarted = by_cond Silent (is_original d m) (λ _. handed_out_lem (message_name m) (message_cue m)) (λ _. none_out)
-heard_silent m d (Started trail lead set) =
+heard_silent m d (Started w) =
     by_cond Silent (is_original d m || is_repair d m)
     (λ _. by_cond Silent (is_new d.window (message_name m).number.0) (λ _. handed_out_lem (message_name m) (message_cue m)) (λ _. none_out))
     (λ _. by_cond Silent (is_announced d m) (λ _. none_out) (λ _. none_out))

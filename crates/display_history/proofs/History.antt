@@ -16,8 +16,7 @@ use Rattle.message.specs.declared.Host.{Host}
 use Rattle.message.proofs.QuestionLaws.{and_both}
 use Rattle.end.specs.Answer.{class_in}
 use Rattle.end.proofs.Tools.{clash'}
-use Rattle.display_window.specs.declared.Window.{Window}
-use Rattle.display_window.specs.declared.Window.TheVariants.{Unstarted, Started}
+use Rattle.display_window.specs.Parts.{Seen, Unstarted, Started, started}
 use Rattle.display_window.specs.declared.Lost.{Lost}
 use Rattle.display_window.specs.Window.{is_new, unreceived, none_lost, lost_by}
 use Rattle.display_window.proofs.WindowLaws.{SoundWindow}
@@ -38,8 +37,8 @@ handed d c = handed_in (class_in (event_of d c.event c.clock c.room).outcome)
 abbrev losses : Display → Call → Lost
 losses d c = (event_of d c.event c.clock c.room).lost
 
-call_went : (d : Display) (c : Call) (w : Window) → d.window ≡ w → Went w (handed d c) (losses d c) (after d c).window
-call_went d c w p = subst (λ (x : Window). Went x (handed d c) (losses d c) (after d c).window) p (went d c.event c.clock c.room)
+call_went : (d : Display) (c : Call) (w : Seen) → d.window ≡ w → Went w (handed d c) (losses d c) (after d c).window
+call_went d c w p = subst (λ (x : Seen). Went x (handed d c) (losses d c) (after d c).window) p (went d c.event c.clock c.room)
 
 -- numbers above one lead and up to the next
 spans : (l m k n : ℕ) → l ≤ m → m ≤ k → one (ltb l n && leb n m) + one (ltb m n && leb n k) ≡ one (ltb l n && leb n k)
@@ -54,7 +53,7 @@ spans l m k n a b =
 -- a window that is sound, in numbers
 data WindowIs (d : Display) : Type 0 where
   Not : d.window ≡ Unstarted → WindowIs d
-  Is : (t l s : ℕ) → d.window ≡ Started (as_number t) (as_number l) s → SoundWindow t l s → WindowIs d
+  Is : (t l s : ℕ) → d.window ≡ started (as_number t) (as_number l) s → SoundWindow t l s → WindowIs d
 
 sound-next : (d : Display) (c : Call) → WindowIs d → WindowIs (after d c)
 sound-next d c (Not p) = go (unstarted_went (handed d c) (losses d c) (after d c).window (call_went d c Unstarted p))
@@ -67,11 +66,11 @@ sound-next d c (Is t l s p w) =
     Is r.trail r.lead r.set r.is r.sound
 
 -- ---- once started
-pub record Ran (t l s n : ℕ) (ts : List Told) (v : Window) : Type 0 where
+pub record Ran (t l s n : ℕ) (ts : List Told) (v : Seen) : Type 0 where
   pub trail : ℕ
   pub lead : ℕ
   pub set : ℕ
-  pub is : v ≡ Started (as_number trail) (as_number lead) set
+  pub is : v ≡ started (as_number trail) (as_number lead) set
   pub sound : SoundWindow trail lead set
   pub trails : t ≤ trail
   pub leads : l ≤ lead
@@ -79,7 +78,7 @@ pub record Ran (t l s n : ℕ) (ts : List Told) (v : Window) : Type 0 where
       ≡ one ((leb t n && leb n l) && not (bit s (n - t))) + one (ltb l n && leb n lead)
   pub held : trail ≤ n → one (bit set (n - trail)) ≡ one (bit s (n - t)) + handed_out ts n
 
-ran_none : (t l s n : ℕ) → SoundWindow t l s → Ran t l s n [] (Started (as_number t) (as_number l) s)
+ran_none : (t l s n : ℕ) → SoundWindow t l s → Ran t l s n [] (started (as_number t) (as_number l) s)
 unfolding handed_out reported_lost
 ran_none t l s n w =
     let more : one (ltb l n && leb n l) ≡ 0 = by_flag (ltb l n) (λ x. rw (x, lt-leb n l (ltb-true l n x))) (λ x. rw x) in
@@ -96,7 +95,7 @@ ran_none t l s n w =
     }
 
 -- one call, and those after it
-ran_more : (t l s n : ℕ) (o : Told) (ts : List Told) (v x : Window)
+ran_more : (t l s n : ℕ) (o : Told) (ts : List Told) (v x : Seen)
     → (r : Raised t l s n (handed_in (class_in o.outcome)) o.lost x) → Ran r.trail r.lead r.set n ts v → Ran t l s n (o ∷ ts) v
 unfolding handed_out reported_lost
 ran_more t l s n o ts v x r q =
@@ -113,7 +112,7 @@ ran_more t l s n o ts v x r q =
       held = λ a. omega (arith, q.held a, r.held (omega (arith, q.trails)));
     }
 
-ran : (t l s n : ℕ) → SoundWindow t l s → (d : Display) → d.window ≡ Started (as_number t) (as_number l) s → (cs : List Call)
+ran : (t l s n : ℕ) → SoundWindow t l s → (d : Display) → d.window ≡ started (as_number t) (as_number l) s → (cs : List Call)
     → Ran t l s n (told d cs) (after_all d cs).window
 unfolding told after_all
 ran t l s n w d p [] = rw p (ran_none t l s n w)
@@ -124,11 +123,11 @@ ran t l s n w d p (c ∷ cs) =
 -- ---- before
 
 -- from trail on
-abbrev pub is_from : Window → ℕ → Bool
+abbrev pub is_from : Seen → ℕ → Bool
 is_from Unstarted n = false
-is_from (Started trail lead set) n = leb trail.0 n
+is_from (Started w) n = leb w.trail.0 n
 
-pub record Story (n : ℕ) (ts : List Told) (v : Window) : Type 0 where
+pub record Story (n : ℕ) (ts : List Told) (v : Seen) : Type 0 where
   pub once : handed_out ts n + reported_lost ts n + one (is_missing v n) ≡ one (is_covered (start_of ts) v n)
   pub missing : is_missing v n ≡ (is_between v n && eqb (handed_out ts n) 0)
   pub new : is_new v n ≡ (is_from v n && eqb (handed_out ts n) 0)
@@ -138,7 +137,7 @@ unfolding handed_out reported_lost start_of is_new
 story_none n = record { once = refl; missing = refl; new = refl }
 
 -- a call that hands out and loses nothing
-story_waits : (n : ℕ) (o : Told) (ts : List Told) (v : Window) → handed_in (class_in o.outcome) ≡ none → o.lost ≡ none_lost → Story n ts v → Story n (o ∷ ts) v
+story_waits : (n : ℕ) (o : Told) (ts : List Told) (v : Seen) → handed_in (class_in o.outcome) ≡ none → o.lost ≡ none_lost → Story n ts v → Story n (o ∷ ts) v
 unfolding handed_out reported_lost start_of
 story_waits n o ts v p q w =
     let no-loss : lost_in o.lost n ≡ 0 = ap (λ (l : Lost). lost_in l n) q ∙ none-lost n in
@@ -185,18 +184,18 @@ missing-by a true k e = rw (← e)
 missing-by a false k e = rw (← e)
 
 -- from trail on the set has what was handed out
-begun-held : (k n : ℕ) (ts : List Told) (v : Window) (r : Ran k k 1 n ts v) → r.trail ≤ n
+begun-held : (k n : ℕ) (ts : List Told) (v : Seen) (r : Ran k k 1 n ts v) → r.trail ≤ n
     → one (bit r.set (n - r.trail)) ≡ one (eqb k n) + handed_out ts n
 begun-held k n ts v r a = omega (arith, r.held a, start-held k n (omega (arith, r.trails)))
 
-begun-missing : (k n : ℕ) (ts : List Told) (v : Window) → Ran k k 1 n ts v → is_missing v n ≡ (is_between v n && eqb (one (eqb k n) + handed_out ts n) 0)
+begun-missing : (k n : ℕ) (ts : List Told) (v : Seen) → Ran k k 1 n ts v → is_missing v n ≡ (is_between v n && eqb (one (eqb k n) + handed_out ts n) 0)
 begun-missing k n ts v r =
     rw r.is
     (by_order n r.trail
     (λ a. rw (lt-leb r.trail n a))
     (λ a. missing-by (leb r.trail n && leb n r.lead) (bit r.set (n - r.trail)) (one (eqb k n) + handed_out ts n) (begun-held k n ts v r a)))
 
-begun_new : (k n : ℕ) (ts : List Told) (v : Window) → Ran k k 1 n ts v → is_new v n ≡ (is_from v n && eqb (one (eqb k n) + handed_out ts n) 0)
+begun_new : (k n : ℕ) (ts : List Told) (v : Seen) → Ran k k 1 n ts v → is_new v n ≡ (is_from v n && eqb (one (eqb k n) + handed_out ts n) 0)
 unfolding is_new
 begun_new k n ts v r =
     rw r.is
@@ -204,7 +203,7 @@ begun_new k n ts v r =
     (λ a. rw (lt-leb r.trail n a))
     (λ a. missing-by (leb r.trail n) (bit r.set (n - r.trail)) (one (eqb k n) + handed_out ts n) (begun-held k n ts v r a)))
 
-story_begins : (k n : ℕ) (o : Told) (ts : List Told) (v : Window) → handed_in (class_in o.outcome) ≡ some k → o.lost ≡ none_lost
+story_begins : (k n : ℕ) (o : Told) (ts : List Told) (v : Seen) → handed_in (class_in o.outcome) ≡ some k → o.lost ≡ none_lost
     → Ran k k 1 n ts v → Story n (o ∷ ts) v
 unfolding handed_out reported_lost start_of
 story_begins k n o ts v p q r =
@@ -299,10 +298,10 @@ received_never_reported own sender cs more n h =
     omega (arith, all, most, handed-more d cs more n)
 
 -- neither trail nor lead falls
-no_lower_lem : (t l s n : ℕ) (ts : List Told) (w v : Window) → w ≡ Started (as_number t) (as_number l) s → Ran t l s n ts v → no_lower w v ≡ true
+no_lower_lem : (t l s n : ℕ) (ts : List Told) (w v : Seen) → w ≡ started (as_number t) (as_number l) s → Ran t l s n ts v → no_lower w v ≡ true
 no_lower_lem t l s n ts w v p r = rw (p, r.is, le-leb t r.trail r.trails, le-leb l r.lead r.leads)
 
-not_yet : (w v : Window) → w ≡ Unstarted → no_lower w v ≡ true
+not_yet : (w v : Seen) → w ≡ Unstarted → no_lower w v ≡ true
 not_yet w v p = rw p
 
 lower-none : (d : Display) → WindowIs d → (more : List Call) → no_lower d.window (after_all d more).window ≡ true
@@ -324,15 +323,15 @@ start-keeps (c ∷ ts) us k h = go (handed_in (class_in c.outcome)) refl (start-
     go none p rest = let e : start_of ts ≡ some k = rw p at h in rw p (rest e)
     go (some j) p rest = let e : some j ≡ some k = rw p at h in rw p e
 
-covered_keeps : (o q : Option ℕ) (w v : Window) (n : ℕ) → ((k : ℕ) → o ≡ some k → q ≡ some k) → no_lower w v ≡ true
+covered_keeps : (o q : Option ℕ) (w v : Seen) (n : ℕ) → ((k : ℕ) → o ≡ some k → q ≡ some k) → no_lower w v ≡ true
     → is_covered o w n ≡ true → is_covered q v n ≡ true
 covered_keeps none q w v n f g h = clash' h
 covered_keeps (some k) q Unstarted v n f g h = clash' h
-covered_keeps (some k) q (Started trail lead set) Unstarted n f g h = clash' g
-covered_keeps (some k) q (Started trail lead set) (Started trail' lead' set') n f g h =
-    let both = and_both (leb k n) (leb n lead.0) h in
-    let up = leb-true lead.0 lead'.0 (and_both (leb trail.0 trail'.0) (leb lead.0 lead'.0) g).1 in
-    rw (f k refl, both.0, le-leb n lead'.0 (omega (arith, up, leb-true n lead.0 both.1)))
+covered_keeps (some k) q (Started w) Unstarted n f g h = clash' g
+covered_keeps (some k) q (Started w) (Started v) n f g h =
+    let both = and_both (leb k n) (leb n w.lead.0) h in
+    let up = leb-true w.lead.0 v.lead.0 (and_both (leb w.trail.0 v.trail.0) (leb w.lead.0 v.lead.0) g).1 in
+    rw (f k refl, both.0, le-leb n v.lead.0 (omega (arith, up, leb-true n w.lead.0 both.1)))
 
 pub none_forgotten : NoneForgotten
 none_forgotten own sender cs more n h =
@@ -343,10 +342,10 @@ none_forgotten own sender cs more n h =
     h
 
 -- the losses of a call, by its window before and after
-passes_none : (w v : Window) (n : ℕ) → w ≡ Unstarted → one (passes w v n && not (is_received_in w n)) ≡ 0
+passes_none : (w v : Seen) (n : ℕ) → w ≡ Unstarted → one (passes w v n && not (is_received_in w n)) ≡ 0
 passes_none w v n p = rw p
 
-passes-is : (w v : Window) (t l s trail lead set n : ℕ) → w ≡ Started (as_number t) (as_number l) s → v ≡ Started (as_number trail) (as_number lead) set
+passes-is : (w v : Seen) (t l s trail lead set n : ℕ) → w ≡ started (as_number t) (as_number l) s → v ≡ started (as_number trail) (as_number lead) set
     → one (passes w v n && not (is_received_in w n)) ≡ one ((leb t n && not (leb trail n)) && not (leb t n && bit s (n - t)))
 passes-is w v t l s trail lead set n p q = rw (p, q)
 
@@ -368,27 +367,27 @@ lost_as_passed own sender cs c n =
     lost_as_passed_in (after_all d cs) c n (sound-now d (Not (opened own sender)) cs)
 
 -- ---- how losses stand
-stands-none : (w : Window) (n : ℕ) → Stands w none_lost n
+stands-none : (w : Seen) (n : ℕ) → Stands w none_lost n
 stands-none w n = record {
   in_set_lem = λ h. clash' (sym (bit-none (n - 0)) ∙ (and_both (leb 0 n) (bit 0 (n - 0)) h).1);
   in_span_lem = λ h. clash' h;
 }
 
-stands_by : (t : ℕ) (w : Window) (n : ℕ) → Stands w (lost_by t w) n
+stands_by : (t : ℕ) (w : Seen) (n : ℕ) → Stands w (lost_by t w) n
 unfolding lost_by
 stands_by t Unstarted n = stands-none Unstarted n
-stands_by t (Started trail lead set) n = record {
+stands_by t (Started w) n = record {
   in_set_lem = λ h.
-      let k = min (max trail.0 t) (lead.0 + 1) - trail.0 in
-      let both = and_both (leb trail.0 n) (bit (unreceived k set) (n - trail.0)) h in
-      by_order lead.0 n
-      (λ a. clash' (sym (turned_past k set (n - trail.0) (omega (arith, leb-true trail.0 n both.0))) ∙ both.1))
-      (λ a. (rw (both.0, le-leb n lead.0 a), eq-eqb trail.0 trail.0 refl));
+      let k = min (max w.trail.0 t) (w.lead.0 + 1) - w.trail.0 in
+      let both = and_both (leb w.trail.0 n) (bit (unreceived k w.set) (n - w.trail.0)) h in
+      by_order w.lead.0 n
+      (λ a. clash' (sym (turned_past k w.set (n - w.trail.0) (omega (arith, leb-true w.trail.0 n both.0))) ∙ both.1))
+      (λ a. (rw (both.0, le-leb n w.lead.0 a), eq-eqb w.trail.0 w.trail.0 refl));
   in_span_lem = λ h.
-      by_order lead.0 n (λ a. lt-ltb lead.0 n a) (λ a. clash' (sym (span_low lead.0 (max trail.0 t) n a) ∙ h));
+      by_order w.lead.0 n (λ a. lt-ltb w.lead.0 n a) (λ a. clash' (sym (span_low w.lead.0 (max w.trail.0 t) n a) ∙ h));
 }
 
-stands : (w : Window) (h : Option ℕ) (l : Lost) (v : Window) (n : ℕ) → Went w h l v → Stands w l n
+stands : (w : Seen) (h : Option ℕ) (l : Lost) (v : Seen) (n : ℕ) → Went w h l v → Stands w l n
 stands w h l v n (Stays a b c) = rw b (stands-none w n)
 stands w h l v n (Starts k s a b c d) = rw c (stands-none w n)
 stands w h l v n (Takes k s a b c d) = rw c (stands_by (k - 63) w n)

@@ -3,6 +3,8 @@
 use mathlib.Core.Path.{◌≡◌, refl, sym, ◌∙◌, subst}
 use mathlib.Core.Bool.{true, ◌&&◌, ◌||◌}
 use mathlib.Core.List.{List, [], ◌∷◌}
+use Rattle.std.specs.Prelude as rust
+use Rattle.std.specs.Prelude.{Some, None}
 use mathlib.Core.Option.{Option, none, some}
 use Prim.Native.Nat.{ℕ, zero, suc, ◌+◌, ◌-◌, ◌≤◌, ◌<◌}
 use native.Mathlib.Omega.{arith}
@@ -20,8 +22,7 @@ use Rattle.roundtrip.proofs.RoundTrip.{accepted, kind-from}
 use Rattle.end.specs.Messages.{message_name}
 use Rattle.end.specs.Answer.{class_of, class_in}
 use Rattle.end.proofs.Tools.{by_cond}
-use Rattle.display_window.specs.declared.Window.{Window}
-use Rattle.display_window.specs.declared.Window.TheVariants.{Unstarted, Started}
+use Rattle.display_window.specs.Parts.{Seen, Unstarted, Started}
 use Rattle.display_window.specs.declared.Lost.{Lost}
 use Rattle.display_window.specs.Window.{raised, is_new, start_at, taken, none_lost, lost_by, lowest_missing}
 use Rattle.display.specs.declared.Display.{Display}
@@ -33,13 +34,13 @@ use Rattle.display_history.specs.History.{handed_in}
 use Rattle.display.proofs.CallLaws.{hear-asks, passed}
 
 -- from the window w to v, with the number h handed out and the numbers of l lost
-pub data Went (w : Window) (h : Option ℕ) (l : Lost) (v : Window) : Type 0 where
+pub data Went (w : Seen) (h : Option ℕ) (l : Lost) (v : Seen) : Type 0 where
   Stays : h ≡ none → l ≡ none_lost → v ≡ w → Went w h l v
   Starts : (n : ℕ) → n < number_limit → w ≡ Unstarted → h ≡ some n → l ≡ none_lost → v ≡ start_at n → Went w h l v
   Takes : (n : ℕ) → n < number_limit → is_new w n ≡ true → h ≡ some n → l ≡ lost_by (n - 63) w → v ≡ taken n w → Went w h l v
   Announces : (t k : ℕ) → t ≤ k → k ≤ t + 63 → k < number_limit → h ≡ none → l ≡ lost_by t w → v ≡ raised t k w → Went w h l v
 
-abbrev Does : Window → Hearing → Type 0
+abbrev Does : Seen → Hearing → Type 0
 Does w h = Went w (handed_in (class_of h.effect)) h.lost h.left.window
 
 -- ---- a message
@@ -108,11 +109,11 @@ read_small s h i =
 abbrev Small : Meaning → Type 0
 Small m = (i : ℕ) → (get_or m.names i blank_name).name.number.0 < number_limit
 
-heard_as : (d : Display) (m : Meaning) → Small m → (eqb m.kind ANNC ≡ true → Fitting m) → (w : Window) → d.window ≡ w → Does d.window (heard_in w m d)
+heard_as : (d : Display) (m : Meaning) → Small m → (eqb m.kind ANNC ≡ true → Fitting m) → (w : Seen) → d.window ≡ w → Does d.window (heard_in w m d)
 unfolding heard_in
 heard_as d m small fits Unstarted p =
     by_cond (Does d.window) (is_original d m) (λ _. Starts (message_name m).number.0 (small 0) p refl refl refl) (λ _. Stays refl refl refl)
-heard_as d m small fits (Started trail lead set) p =
+heard_as d m small fits (Started w) p =
     let n = (message_name m).number.0 in
     by_cond (Does d.window) (is_original d m || is_repair d m)
     (λ _. by_cond (Does d.window) (is_new d.window n) (λ new. Takes n (small 0) new refl refl refl) (λ _. Stays refl refl refl))
@@ -130,12 +131,12 @@ step_does : (d : Display) → Does d.window (step_of d)
 unfolding step_of
 step_does d = go (lowest_missing d.window)
   where
-    go : (o : Option ℕ) → Does d.window (request_if o d)
-    go none = Stays refl refl refl
-    go (some n) = Stays refl refl refl
+    go : (o : rust.Option ℕ) → Does d.window (request_if o d)
+    go None = Stays refl refl refl
+    go (Some n) = Stays refl refl refl
 
 -- ---- a call
-abbrev Gave : Window → Result → Type 0
+abbrev Gave : Seen → Result → Type 0
 Gave w r = Went w (handed_in (class_in r.outcome)) r.lost r.left.window
 
 message_does : (d : Display) (bytes : List ℕ) → first_no (read_questions bytes) ≡ 0 → Does d.window (hear_of (datagram_from bytes) d)

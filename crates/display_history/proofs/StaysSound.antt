@@ -2,6 +2,8 @@
 use mathlib.Core.Path.{◌≡◌, refl, sym, ◌∙◌}
 use mathlib.Core.Bool.{Bool, true, false, cond, ◌&&◌, ◌||◌}
 use mathlib.Core.List.{List, [], ◌∷◌}
+use Rattle.std.specs.Prelude as rust
+use Rattle.std.specs.Prelude.{Some, None}
 use mathlib.Core.Option.{Option, none, some}
 use Prim.Native.Nat.{ℕ}
 use native.Mathlib.Omega.{arith}
@@ -13,8 +15,7 @@ use Rattle.message.specs.Limit.{room_needed}
 use Rattle.message.specs.Message.{Meaning, Datagram, Probe, Saying, datagram_from, kind_of, kind_byte, most_number, meaning_from, counts_of, size_from}
 use Rattle.message.specs.Question.{ticks_in, kind_has_counts, in_range, hosts_fit, read_refusal}
 use Rattle.end.proofs.Tools.{by_cond}
-use Rattle.display_window.specs.declared.Window.{Window}
-use Rattle.display_window.specs.declared.Window.TheVariants.{Unstarted, Started}
+use Rattle.display_window.specs.Parts.{Seen, Unstarted, Started}
 use Rattle.display_window.specs.declared.Lost.{Lost}
 use Rattle.display_window.specs.Window.{window_sound, is_new, lowest_missing}
 use Rattle.display_window.proofs.WindowLaws.{sound-window, window-sound}
@@ -30,24 +31,24 @@ use Rattle.display_history.proofs.Moves.{Went, went}
 use Rattle.display_history.proofs.StepLaws.{started_went, Began, Waits, Begins, unstarted_went, start-sound}
 
 -- ---- a window
-window-stays : (w : Window) (h : Option ℕ) (lost : Lost) (v : Window) → window_sound w ≡ true → Went w h lost v → window_sound v ≡ true
+window-stays : (w : Seen) (h : Option ℕ) (lost : Lost) (v : Seen) → window_sound w ≡ true → Went w h lost v → window_sound v ≡ true
 window-stays Unstarted h lost v s g = go (unstarted_went h lost v g)
   where
     go : Began h lost v → window_sound v ≡ true
     go (Waits a b e) = rw e
     go (Begins k a b e) = rw e (window-sound _ _ 1 (start-sound k))
-window-stays (Started trail lead set) h lost v s g =
-    let r = started_went trail lead set 0 h lost v (sound-window trail lead set s) g in
+window-stays (Started w) h lost v s g =
+    let r = started_went w.trail w.lead w.set 0 h lost v (sound-window w.trail w.lead w.set s) g in
     rw r.is (window-sound _ _ r.set r.sound)
 
 -- ---- the hosts stay, and the clock is set
 abbrev Keeps : Display → Hearing → Type 0
 Keeps d h = (h.left.own ≡ d.own) × ((h.left.sender ≡ d.sender) × (h.left.clock ≡ d.clock))
 
-heard-keeps : (d : Display) (m : Meaning) (w : Window) → Keeps d (heard_in w m d)
+heard-keeps : (d : Display) (m : Meaning) (w : Seen) → Keeps d (heard_in w m d)
 unfolding heard_in
 heard-keeps d m Unstarted = by_cond (Keeps d) (is_original d m) (λ _. (refl, (refl, refl))) (λ _. (refl, (refl, refl)))
-heard-keeps d m (Started trail lead set) =
+heard-keeps d m (Started w) =
     by_cond (Keeps d) (is_original d m || is_repair d m)
     (λ _. by_cond (Keeps d) (is_new d.window _) (λ _. (refl, (refl, refl))) (λ _. (refl, (refl, refl))))
     (λ _. by_cond (Keeps d) (is_announced d m) (λ _. (refl, (refl, refl))) (λ _. (refl, (refl, refl))))
@@ -60,9 +61,9 @@ step_keeps : (d : Display) → Keeps d (step_of d)
 unfolding step_of
 step_keeps d = go (lowest_missing d.window)
   where
-    go : (o : Option ℕ) → Keeps d (request_if o d)
-    go none = (refl, (refl, refl))
-    go (some n) = (refl, (refl, refl))
+    go : (o : rust.Option ℕ) → Keeps d (request_if o d)
+    go None = (refl, (refl, refl))
+    go (Some n) = (refl, (refl, refl))
 
 act_keeps : (ev : Event) (d : Display) → Keeps d (act_of ev d)
 act_keeps (Hear bytes) d = read_keeps d (datagram_from bytes)

@@ -15,8 +15,7 @@ use Rattle.message.specs.Entry.{as_number}
 use Rattle.message.specs.declared.CueNumber.{CueNumber}
 use Rattle.message.proofs.QuestionLaws.{and_both}
 use Rattle.end.proofs.Tools.{clash'}
-use Rattle.display_window.specs.declared.Window.{Window}
-use Rattle.display_window.specs.declared.Window.TheVariants.{Unstarted, Started}
+use Rattle.display_window.specs.Parts.{Seen, Unstarted, started}
 use Rattle.display_window.specs.declared.Lost.{Lost}
 use Rattle.display_window.specs.Window.{raised, received, is_new, start_at, taken, none_lost, lost_by}
 use Rattle.display_window.proofs.WindowLaws.{SoundWindow}
@@ -32,11 +31,11 @@ pub none-lost : (n : ℕ) → lost_in none_lost n ≡ 0
 none-lost n = rw (bit-none (n - 0), le-leb 0 n (omega arith))
 
 -- ---- a started window: trail t, lead l and set s, and a number n
-pub record Raised (t l s n : ℕ) (h : Option ℕ) (lost : Lost) (v : Window) : Type 0 where
+pub record Raised (t l s n : ℕ) (h : Option ℕ) (lost : Lost) (v : Seen) : Type 0 where
   pub trail : ℕ
   pub lead : ℕ
   pub set : ℕ
-  pub is : v ≡ Started (as_number trail) (as_number lead) set
+  pub is : v ≡ started (as_number trail) (as_number lead) set
   pub sound : SoundWindow trail lead set
   pub trails : t ≤ trail
   pub leads : l ≤ lead
@@ -46,8 +45,8 @@ pub record Raised (t l s n : ℕ) (h : Option ℕ) (lost : Lost) (v : Window) : 
   pub held : trail ≤ n → one (bit set (n - trail)) ≡ one (bit s (n - t)) + one (is_the h n)
 
 module _ (t l s n : ℕ) (w : SoundWindow t l s) where
-  abbrev This : Window
-  This = Started (as_number t) (as_number l) s
+  abbrev This : Seen
+  This = started (as_number t) (as_number l) s
 
   -- ---- nothing changes
   stays : Raised t l s n none none_lost This
@@ -159,15 +158,15 @@ module _ (t l s n : ℕ) (w : SoundWindow t l s) where
             rw (e, now-in, ← same, new_bit Low High Old k n (omega arith) (omega arith) still_new e))
             (λ e. rw (e, other-bit Low High Old k n (omega arith) (omega arith) still_new a e, same) (omega arith))
 
-new_is : (trail lead : CueNumber) (set k : ℕ) → is_new (Started trail lead set) k ≡ true → (trail.0 ≤ k) × (bit set (k - trail.0) ≡ false)
+new_is : (trail lead : CueNumber) (set k : ℕ) → is_new (started trail lead set) k ≡ true → (trail.0 ≤ k) × (bit set (k - trail.0) ≡ false)
 unfolding is_new
 new_is trail lead set k h =
     let a = and_both (leb trail.0 k) (not (bit set (k - trail.0))) h in
     (leb-true trail.0 k a.0, not-true (bit set (k - trail.0)) a.1)
 
 -- ---- any call on a started window
-pub started_went : (trail lead : CueNumber) (set n : ℕ) (h : Option ℕ) (lost : Lost) (v : Window) → SoundWindow trail.0 lead.0 set
-    → Went (Started trail lead set) h lost v → Raised trail.0 lead.0 set n h lost v
+pub started_went : (trail lead : CueNumber) (set n : ℕ) (h : Option ℕ) (lost : Lost) (v : Seen) → SoundWindow trail.0 lead.0 set
+    → Went (started trail lead set) h lost v → Raised trail.0 lead.0 set n h lost v
 started_went trail lead set n h lost v w (Stays p q r) = rw (p, q, r) (stays trail.0 lead.0 set n w)
 started_went trail lead set n h lost v w (Starts k b e p q r) = let z : ◌≡◌ {A = ℕ} 0 1 = cc in absurd (omega arith)
 started_went trail lead set n h lost v w (Takes k b new p q r) =
@@ -176,11 +175,11 @@ started_went trail lead set n h lost v w (Takes k b new p q r) =
 started_went trail lead set n h lost v w (Announces from to a b s p q r) = rw (p, q, r) (announces trail.0 lead.0 set n w from to a b)
 
 -- ---- and on one that is not started: nothing, or its start
-pub data Began (h : Option ℕ) (lost : Lost) (v : Window) : Type 0 where
+pub data Began (h : Option ℕ) (lost : Lost) (v : Seen) : Type 0 where
   Waits : h ≡ none → lost ≡ none_lost → v ≡ Unstarted → Began h lost v
   Begins : (k : ℕ) → h ≡ some k → lost ≡ none_lost → v ≡ start_at k → Began h lost v
 
-pub unstarted_went : (h : Option ℕ) (lost : Lost) (v : Window) → Went Unstarted h lost v → Began h lost v
+pub unstarted_went : (h : Option ℕ) (lost : Lost) (v : Seen) → Went Unstarted h lost v → Began h lost v
 unfolding lost_by raised is_new
 unstarted_went h lost v (Stays p q r) = Waits p q r
 unstarted_went h lost v (Starts k b e p q r) = Begins k p q r

@@ -10,8 +10,7 @@ use Rattle.message.specs.Message.{DATA, REPL, ANNC, Meaning, Datagram, Probe, Sa
 use Rattle.message.specs.Question.{same_host, read_of}
 use Rattle.end.specs.Messages.{message_name, message_cue}
 use Rattle.end.specs.Answer.{Effect, Out, Got, Done, Ignored, Refused, Did}
-use Rattle.display_window.specs.declared.Window.{Window}
-use Rattle.display_window.specs.declared.Window.TheVariants.{Unstarted, Started}
+use Rattle.display_window.specs.Parts.{Seen, Unstarted, Started, started}
 use Rattle.display_window.specs.Window.{none_lost}
 use Rattle.display.specs.declared.Display.{Display}
 use Rattle.display.specs.Display.{opening_of, with_clock}
@@ -35,11 +34,11 @@ got_if new m = cond new (Got (message_name m) (message_cue m)) Ignored
 
 -- "It starts at its sender's first DATA"; "once started it takes any REPL of the sender's cue as that cue"; "cues below trail, it passes over";
 -- `times` is how often the number was handed out before
-unfoldable pub answered : Window → Host → Meaning → ℕ → Effect
+unfoldable pub answered : Seen → Host → Meaning → ℕ → Effect
 answered Unstarted sender m times = got_if (eqb m.kind DATA && is_of sender m) m
-answered (Started trail lead set) sender m times =
+answered (Started w) sender m times =
     cond (brings_cue m && is_of sender m)
-    (got_if (leb trail.0 (message_name m).number.0 && eqb times 0) m)
+    (got_if (leb w.trail.0 (message_name m).number.0 && eqb times 0) m)
     (cond (eqb m.kind ANNC && is_of sender m) Done Ignored)
 
 abbrev pub answered_to : Datagram Meaning → Display → (ℕ → ℕ) → Effect
@@ -55,19 +54,19 @@ AnswersHeard = (own sender : Host) (cs : List Call) (bytes : List ℕ) (clock ro
 
 -- ---- trail and lead: each is the greatest that was heard, since "values lower than it has heard .. it passes over"; kind 24 says both
 
-abbrev pub edges_of : Window → Option (ℕ × ℕ)
+abbrev pub edges_of : Seen → Option (ℕ × ℕ)
 edges_of Unstarted = none
-edges_of (Started trail lead set) = some (trail.0, lead.0)
+edges_of (Started w) = some (w.trail.0, w.lead.0)
 
-unfoldable pub edges_by : Window → Host → Meaning → Option (ℕ × ℕ)
+unfoldable pub edges_by : Seen → Host → Meaning → Option (ℕ × ℕ)
 edges_by Unstarted sender m =
     let n = (message_name m).number.0 in
     cond (eqb m.kind DATA && is_of sender m) (some (n, n)) none
-edges_by (Started trail lead set) sender m =
+edges_by (Started w) sender m =
     let n = (message_name m).number.0 in
     cond (brings_cue m && is_of sender m)
-    (some (max trail.0 (n - 63), max lead.0 n))
-    (cond (eqb m.kind ANNC && is_of sender m) (some (max trail.0 n, max lead.0 (lead_in m))) (some (trail.0, lead.0)))
+    (some (max w.trail.0 (n - 63), max w.lead.0 n))
+    (cond (eqb m.kind ANNC && is_of sender m) (some (max w.trail.0 n, max w.lead.0 (lead_in m))) (some (w.trail.0, w.lead.0)))
 
 abbrev pub edges_to : Datagram Meaning → Display → Option (ℕ × ℕ)
 edges_to Probe d = edges_of d.window

@@ -7,10 +7,9 @@ use Rattle.numbers.specs.Bits.{bit}
 use Rattle.message.specs.declared.Host.{Host}
 use Rattle.message.specs.Message.{bytes_of}
 use Rattle.end.specs.Answer.{Effect, Out, Nothing, Did, Class, PutsOut, HandsOut, HandsLate, Untouched, class_in, Outcome}
-use Rattle.display_window.specs.declared.Window.{Window}
-use Rattle.display_window.specs.declared.Window.TheVariants.{Unstarted, Started}
-use Rattle.display_window.specs.declared.Above.{Above}
-use Rattle.display_window.specs.declared.Above.TheVariants.{NoneAbove, Between}
+use Rattle.display_window.specs.Parts.{Seen, Unstarted, Started, started, NoneAbove, Above}
+use Rattle.std.specs.Prelude as rust
+use Rattle.display_window.specs.declared.Span.{Span}
 use Rattle.display_window.specs.declared.Lost.{Lost}
 use Rattle.display_window.specs.Window.{none_lost}
 use Rattle.display.specs.declared.Display.{Display}
@@ -67,9 +66,9 @@ handed_out (c ∷ cs) n = one (is_the (handed_in (class_in c.outcome)) n) + hand
 abbrev pub in_set : Lost → ℕ → Bool
 in_set l n = leb l.trail.0 n && bit l.set (n - l.trail.0)
 
-abbrev pub in_span : Above → ℕ → Bool
+abbrev pub in_span : rust.Option Span → ℕ → Bool
 in_span NoneAbove n = false
-in_span (Between from to) n = leb from.0 n && leb n to.0
+in_span (Above s) n = leb s.first.0 n && leb n s.last.0
 
 -- how often a number was reported lost
 unfoldable pub reported_lost : List Told → ℕ → ℕ
@@ -77,9 +76,9 @@ reported_lost [] n = 0
 reported_lost (c ∷ cs) n = one (in_set c.lost n) + one (in_span c.lost.above n) + reported_lost cs n
 
 -- a number of trail..lead that was not received
-abbrev pub is_missing : Window → ℕ → Bool
+abbrev pub is_missing : Seen → ℕ → Bool
 is_missing Unstarted n = false
-is_missing (Started trail lead set) n = (leb trail.0 n && leb n lead.0) && not (bit set (n - trail.0))
+is_missing (Started w) n = (leb w.trail.0 n && leb n w.lead.0) && not (bit w.set (n - w.trail.0))
 
 -- the start: the first number that was handed out
 unfoldable pub start_of : List Told → Option ℕ
@@ -91,10 +90,10 @@ start_of (c ∷ cs) = or_else (handed_in (class_in c.outcome)) (start_of cs)
     or_else (some k) l = some k
 
 -- "each number from the start to lead"
-abbrev pub is_covered : Option ℕ → Window → ℕ → Bool
+abbrev pub is_covered : Option ℕ → Seen → ℕ → Bool
 is_covered none w n = false
 is_covered (some start) Unstarted n = false
-is_covered (some start) (Started trail lead set) n = leb start n && leb n lead.0
+is_covered (some start) (Started w) n = leb start n && leb n w.lead.0
 
 -- ---- the statements
 
@@ -112,10 +111,10 @@ StaysSo = (own sender : Host) (cs more : List Call) (n : ℕ) → let d = (openi
 
 -- "Values lower than it has heard .. it passes over": neither trail nor lead ever falls, and once started a display stays so. What a higher value
 -- does is said by `EdgesHeard` (Answers.antt).
-abbrev pub no_lower : Window → Window → Bool
+abbrev pub no_lower : Seen → Seen → Bool
 no_lower Unstarted v = true
-no_lower (Started trail lead set) Unstarted = false
-no_lower (Started trail lead set) (Started trail' lead' set') = leb trail.0 trail'.0 && leb lead.0 lead'.0
+no_lower (Started w) Unstarted = false
+no_lower (Started w) (Started v) = leb w.trail.0 v.trail.0 && leb w.lead.0 v.lead.0
 
 abbrev pub NeverLower : Type 0
 NeverLower = (own sender : Host) (cs more : List Call) → let d = (opening_of own sender).display in
@@ -128,14 +127,14 @@ NoneForgotten = (own sender : Host) (cs more : List Call) (n : ℕ) → let d = 
 
 -- "A number becomes lost exactly when trail passes it before it is received, that call reports it": of one call on a display as its calls
 -- left it
-abbrev pub is_received_in : Window → ℕ → Bool
+abbrev pub is_received_in : Seen → ℕ → Bool
 is_received_in Unstarted n = false
-is_received_in (Started trail lead set) n = leb trail.0 n && bit set (n - trail.0)
+is_received_in (Started w) n = leb w.trail.0 n && bit w.set (n - w.trail.0)
 
-abbrev pub passes : Window → Window → ℕ → Bool
+abbrev pub passes : Seen → Seen → ℕ → Bool
 passes Unstarted v n = false
-passes (Started trail lead set) Unstarted n = false
-passes (Started trail lead set) (Started trail' lead' set') n = leb trail.0 n && not (leb trail'.0 n)
+passes (Started w) Unstarted n = false
+passes (Started w) (Started v) n = leb w.trail.0 n && not (leb v.trail.0 n)
 
 abbrev pub LostAsPassed : Type 0
 LostAsPassed = (own sender : Host) (cs : List Call) (c : Call) (n : ℕ) → let d = after_all (opening_of own sender).display cs in
@@ -144,19 +143,19 @@ LostAsPassed = (own sender : Host) (cs : List Call) (c : Call) (n : ℕ) → let
 
 -- "(a 64-bit set up from the old trail, and a span for those above the old lead)": what a call reports in the set is up to the old lead, and the set
 -- counts from the old trail; what it reports in the span is above the old lead. Of any display.
-abbrev pub is_between : Window → ℕ → Bool
+abbrev pub is_between : Seen → ℕ → Bool
 is_between Unstarted n = false
-is_between (Started trail lead set) n = leb trail.0 n && leb n lead.0
+is_between (Started w) n = leb w.trail.0 n && leb n w.lead.0
 
-abbrev pub is_above : Window → ℕ → Bool
+abbrev pub is_above : Seen → ℕ → Bool
 is_above Unstarted n = false
-is_above (Started trail lead set) n = ltb lead.0 n
+is_above (Started w) n = ltb w.lead.0 n
 
-abbrev pub is_trail : Window → ℕ → Bool
+abbrev pub is_trail : Seen → ℕ → Bool
 is_trail Unstarted n = false
-is_trail (Started trail lead set) n = eqb trail.0 n
+is_trail (Started w) n = eqb w.trail.0 n
 
-pub record Stands (w : Window) (l : Lost) (n : ℕ) : Type 0 where
+pub record Stands (w : Seen) (l : Lost) (n : ℕ) : Type 0 where
   pub in_set_lem : in_set l n ≡ true → (is_between w n ≡ true) × (is_trail w l.trail.0 ≡ true)
   pub in_span_lem : in_span l.above n ≡ true → is_above w n ≡ true
 
@@ -171,7 +170,7 @@ MissingIs = (own sender : Host) (cs : List Call) (n : ℕ) → let d = (opening_
 
 -- "A step puts out RQST of the lowest missing number, or gives Nothing": one that is not refused does the first where a number is missing, and
 -- gives Nothing where none is; either way it sets the clock and changes nothing else. Of any display.
-abbrev pub none_missing : Window → ℕ → Type 0
+abbrev pub none_missing : Seen → ℕ → Type 0
 none_missing w n = (k : ℕ) → k < n → is_missing w k ≡ false
 
 abbrev pub stepped : Effect → Display → Result

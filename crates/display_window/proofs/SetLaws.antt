@@ -2,7 +2,6 @@
 -- and `with_bit` are of the crate numbers, specs/Bits.antt.
 use mathlib.Core.Path.{◌≡◌, refl, sym, ap, ◌∙◌, subst}
 use mathlib.Core.Bool.{true, false, not}
-use mathlib.Core.Option.{Option, none, some}
 use Prim.Native.Nat.{ℕ, zero, suc, ◌+◌, ◌-◌, ◌*◌, ◌/◌, ◌%◌, ◌^◌, ◌≤◌, ◌<◌}
 use native.Mathlib.Nat.{pow-suc, one-mul, mod-lt, div-one, div-eq_of_lt, div-lt_iff_lt-mul, lt_of_lt_of_le}
 use native.Mathlib.Numerals.{add-one}
@@ -13,6 +12,7 @@ use borrow.Author.Tests.{eqb-true, eqb-false, eq-eqb, ne_eqb, lt-ltb, le-ltb}
 use Rattle.numbers.specs.Bits.{bit}
 use Rattle.numbers.proofs.Cases.{by_flag, by_order}
 use Rattle.numbers.proofs.BitLaws.{bit-above}
+use Rattle.std.specs.Prelude.{Option, Some, None, MatchOption}
 use Rattle.display_window.specs.Window.{unreceived, lowest_clear}
 
 -- ---- up from a place
@@ -33,12 +33,6 @@ up_none set k =
     ne_eqb (set / 2 ^ k) 0 (λ e. omega (arith, low e, one-mul (2 ^ k))) ∙ sym (le-ltb set (2 ^ k) g))
 
 -- ---- the first places turned over
-
--- a machine's 1 << k
-pub one_shifted : (k : ℕ) → k < 64 → (1 * 2 ^ k) % 2 ^ 64 ≡ 2 ^ k
-one_shifted k l =
-    let whole : (1 * 2 ^ k) % 2 ^ 64 ≡ 1 * 2 ^ k = shl_exact {a = 1} 1 k 64 (omega arith) (omega arith) in
-    whole ∙ one-mul (2 ^ k)
 
 pub turned_below : (k set : ℕ) → unreceived k set < 2 ^ k
 turned_below k set = ones_sub-lt k (set % 2 ^ k)
@@ -81,39 +75,56 @@ turned_bit (suc k) set (suc i) l =
     ∙ ap not (bit-suc set i)
 
 -- ---- the lowest place that is not in the set
-pub clear_next : (set k : ℕ) → lowest_clear set k ≡ none → bit set k ≡ false → lowest_clear set (suc k) ≡ some k
+pub clear_next : (set k : ℕ) → lowest_clear set k ≡ None → bit set k ≡ false → lowest_clear set (suc k) ≡ Some k
 unfolding lowest_clear
 clear_next set k h b = rw (h, b)
 
-pub clear_none : (set k : ℕ) → lowest_clear set k ≡ none → bit set k ≡ true → lowest_clear set (suc k) ≡ none
+pub clear_none : (set k : ℕ) → lowest_clear set k ≡ None → bit set k ≡ true → lowest_clear set (suc k) ≡ None
 unfolding lowest_clear
 clear_none set k h b = rw (h, b)
 
-pub clear-keeps : (set k i : ℕ) → lowest_clear set k ≡ some i → lowest_clear set (suc k) ≡ some i
+pub clear-keeps : (set k i : ℕ) → lowest_clear set k ≡ Some i → lowest_clear set (suc k) ≡ Some i
 unfolding lowest_clear
 clear-keeps set k i h = rw h
 
-pub clear_stays : (set k i m : ℕ) → lowest_clear set k ≡ some i → k ≤ m → lowest_clear set m ≡ some i
-clear_stays set k i zero h l = let e : k ≡ 0 = omega arith in subst (λ (n : ℕ). lowest_clear set n ≡ some i) e h
+pub clear_stays : (set k i m : ℕ) → lowest_clear set k ≡ Some i → k ≤ m → lowest_clear set m ≡ Some i
+clear_stays set k i zero h l = let e : k ≡ 0 = omega arith in subst (λ (n : ℕ). lowest_clear set n ≡ Some i) e h
 clear_stays set k i (suc m) h l =
     by_order k (suc m)
     (λ b. clear-keeps set m i (clear_stays set k i m h (omega arith)))
-    (λ g. let e : k ≡ suc m = omega arith in subst (λ (n : ℕ). lowest_clear set n ≡ some i) e h)
+    (λ g. let e : k ≡ suc m = omega arith in subst (λ (n : ℕ). lowest_clear set n ≡ Some i) e h)
 
-none-clear : (set i : ℕ) → lowest_clear set 0 ≡ some i → ⊥
+none-clear : (set i : ℕ) → lowest_clear set 0 ≡ Some i → ⊥
 unfolding lowest_clear
 none-clear set i h = let z : ◌≡◌ {A = ℕ} 0 1 = cc in omega arith
 
-pub clear-below : (set k i : ℕ) → lowest_clear set k ≡ some i → i < k
+pub clear-below : (set k i : ℕ) → lowest_clear set k ≡ Some i → i < k
 clear-below set zero i h = absurd (none-clear set i h)
 clear-below set (suc k) i h = by_answer (lowest_clear set k) refl (λ j p. clear-below set k j p)
   where
-    by_answer : (o : Option ℕ) → lowest_clear set k ≡ o → ((j : ℕ) → lowest_clear set k ≡ some j → j < k) → i < suc k
-    by_answer none p rest =
+    by_answer : (o : Option ℕ) → lowest_clear set k ≡ o → ((j : ℕ) → lowest_clear set k ≡ Some j → j < k) → i < suc k
+    by_answer None p rest =
         by_flag (bit set k)
-        (λ b. let e : none ≡ some i = sym (clear_none set k p b) ∙ h in let z : ◌≡◌ {A = ℕ} 0 1 = cc in absurd (omega arith))
-        (λ b. let e : some k ≡ some i = sym (clear_next set k p b) ∙ h in let f : k ≡ i = cc in omega arith)
-    by_answer (some j) p rest =
-        let e : some j ≡ some i = sym (clear-keeps set k j p) ∙ h in
+        (λ b. let e : None ≡ Some i = sym (clear_none set k p b) ∙ h in let z : ◌≡◌ {A = ℕ} 0 1 = cc in absurd (omega arith))
+        (λ b. let e : Some k ≡ Some i = sym (clear_next set k p b) ∙ h in let f : k ≡ i = cc in omega arith)
+    by_answer (Some j) p rest =
+        let e : Some j ≡ Some i = sym (clear-keeps set k j p) ∙ h in
         let f : j ≡ i = cc in
         omega (arith, rest j p)
+
+-- what a search from place 0 on finds is the lowest
+pub none-below : (set k : ℕ) → ((i : ℕ) → i < k → bit set i ≡ true) → lowest_clear set k ≡ None
+unfolding lowest_clear
+none-below set zero h = refl
+none-below set (suc k) h = clear_none set k (none-below set k (λ i l. h i (omega arith))) (h k (omega arith))
+
+pub lowest-below : (set k i : ℕ) → i < k → bit set i ≡ false → ((j : ℕ) → j < i → bit set j ≡ true) → lowest_clear set k ≡ Some i
+lowest-below set k i l b h = clear_stays set (suc i) i k (clear_next set i (none-below set i h) b) (omega arith)
+
+pub first-is-lowest : (set k : ℕ) (o : Option ℕ)
+    → MatchOption o
+    ((i : ℕ) → 0 ≤ i → i < k → bit set i ≡ true)
+    (λ i. (0 ≤ i) × (i < k) × (bit set i ≡ false) × ((j : ℕ) → 0 ≤ j → j < i → bit set j ≡ true))
+    → o ≡ lowest_clear set k
+first-is-lowest set k None h = rw (none-below set k (λ i l. h i (omega arith) l))
+first-is-lowest set k (Some i) h = rw (lowest-below set k i h.1 h.2 (λ j l. h.3 j (omega arith) l))

@@ -4,7 +4,7 @@
 #![tactic(auto)]
 
 use display::Display;
-use display_window::{Above, Lost};
+use display_window::Lost;
 use end::{Answer, Draw, End, Params, Stepped};
 use message::{CueNumber, Host, Name, Verdict};
 use std::io;
@@ -219,11 +219,10 @@ fn screen_of(rt: &impl Print, own: Host, sender: Host) -> io::Result<Display> {
 
 // Cues that will never be handed out: those of the set, bit i for number `lost.trail` + i, and those of a span above them.
 fn said_lost(rt: &impl Print, lost: Lost) -> io::Result<()> {
-    let above = lost.above;
     if lost.set != 0 {
         print(rt, b"lost: of the set\n")?;
     }
-    if let Above::Between(_, _) = above {
+    if lost.above.is_some() {
         print(rt, b"lost: of the span\n")?;
     }
     Ok(())

@@ -14,8 +14,7 @@ use Rattle.message.specs.Entry.{as_host}
 use Rattle.message.proofs.QuestionLaws.{and_both}
 use Rattle.layout.specs.Puts.{Puts}
 use Rattle.layout.proofs.PutLaws.{puts-next}
-use Rattle.display_window.specs.declared.Window.{Window}
-use Rattle.display_window.specs.declared.Window.TheVariants.{Unstarted, Started}
+use Rattle.display_window.specs.Parts.{Seen, Unstarted, Started}
 use Rattle.display.specs.declared.Display.{Display}
 use Rattle.lent_fields.specs.Fields.{number, Two, Below, four}
 use Rattle.lent_fields.proofs.ByteLaws.{all-over}
@@ -25,13 +24,13 @@ use Rattle.lent_display.specs.Bytes.{Four, four_bytes, window_to, window_of, is_
 use Rattle.lent_display.specs.Bytes.{mark, head_bytes, HeadFits, display_bytes, DisplayFits, display_from, is_display, Holds}
 
 -- ---- the window
-window_back : (w : Window) → window_of (window_to w).one.one.one (window_to w).one.one.two (window_to w).one.two (window_to w).two ≡ w
+window_back : (w : Seen) → window_of (window_to w).one.one.one (window_to w).one.one.two (window_to w).one.two (window_to w).two ≡ w
 window_back Unstarted = refl
-window_back (Started trail lead set) = refl
+window_back (Started w) = refl
 
-window-tested : (w : Window) → is_window (window_to w).one.one.one (window_to w).one.one.two (window_to w).one.two (window_to w).two ≡ true
+window-tested : (w : Seen) → is_window (window_to w).one.one.one (window_to w).one.one.two (window_to w).one.two (window_to w).two ≡ true
 window-tested Unstarted = refl
-window-tested (Started trail lead set) = refl
+window-tested (Started w) = refl
 
 window_forth : (tag a b set : ℕ) → is_window tag a b set ≡ true → window_to (window_of tag a b set) ≡ four tag a b set
 window_forth zero a b set h =
@@ -56,7 +55,7 @@ mark_codec =
 
 -- ---- the display
 abbrev Parts : Type 0
-Parts = Two (Two (Two (Two (Unit {0}) ℕ) ℕ) ℕ) Window
+Parts = Two (Two (Two (Two (Unit {0}) ℕ) ℕ) ℕ) Seen
 
 abbrev parts_of : Display → Parts
 parts_of d = record {

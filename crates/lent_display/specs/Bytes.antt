@@ -3,8 +3,7 @@
 use Rattle.std.specs.Prelude.{◌≡◌, ℕ, ◌+◌, Bool, true, cond, ◌&&◌, List, ◌++◌, length, eqb}
 use Rattle.numbers.specs.Number.{digits}
 use Rattle.message.specs.Entry.{as_host, as_number}
-use Rattle.display_window.specs.declared.Window.{Window}
-use Rattle.display_window.specs.declared.Window.TheVariants.{Unstarted, Started}
+use Rattle.display_window.specs.Parts.{Seen, Unstarted, Started, started}
 use Rattle.display.specs.declared.Display.{Display}
 use Rattle.lent_fields.specs.Fields.{number, Two, Below, cat_bytes, BothFit, four, is_option}
 
@@ -18,26 +17,26 @@ four_bytes x = cat_bytes (cat_bytes (cat_bytes (digits 1) (digits 2)) (digits 2)
 abbrev pub FourFit : Four → Type 0
 FourFit x = BothFit (BothFit (BothFit (Below 1) (Below 2)) (Below 2)) (Below 8) x
 
-abbrev pub window_to : Window → Four
+abbrev pub window_to : Seen → Four
 window_to Unstarted = four 0 0 0 0
-window_to (Started trail lead set) = four 1 trail.0 lead.0 set
+window_to (Started w) = four 1 w.trail.0 w.lead.0 w.set
 
-abbrev pub window_of : ℕ → ℕ → ℕ → ℕ → Window
-window_of tag trail lead set = cond (eqb tag 0) Unstarted (Started (as_number trail) (as_number lead) set)
+abbrev pub window_of : ℕ → ℕ → ℕ → ℕ → Seen
+window_of tag trail lead set = cond (eqb tag 0) Unstarted (started (as_number trail) (as_number lead) set)
 
 abbrev pub is_window : ℕ → ℕ → ℕ → ℕ → Bool
 is_window tag trail lead set = is_option tag (eqb trail 0 && eqb lead 0 && eqb set 0)
 
-abbrev pub window_from : List ℕ → ℕ → Window
+abbrev pub window_from : List ℕ → ℕ → Seen
 window_from s k = window_of (number 1 s k) (number 2 s (k + 1)) (number 2 s (k + 3)) (number 8 s (k + 5))
 
 abbrev pub window_test : List ℕ → ℕ → Bool
 window_test s k = is_window (number 1 s k) (number 2 s (k + 1)) (number 2 s (k + 3)) (number 8 s (k + 5))
 
-abbrev pub window_bytes : Window → List ℕ
+abbrev pub window_bytes : Seen → List ℕ
 window_bytes w = four_bytes (window_to w)
 
-abbrev pub WindowFits : Window → Type 0
+abbrev pub WindowFits : Seen → Type 0
 WindowFits w = FourFit (window_to w)
 
 -- ---- the display

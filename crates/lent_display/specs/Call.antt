@@ -1,14 +1,12 @@
 -- The calls on a display that a host lends as bytes, by equations: the answer as a number, and the display, the lost numbers and the output after
 -- it. What the calls on the display itself do is said by the crate display.
-use Rattle.std.specs.Prelude.{◌≡◌, ℕ, Bool, true, cond, not, ◌&&◌, List, [], ◌∷◌, ◌++◌, length, drop, leb, eqb}
+use Rattle.std.specs.Prelude.{◌≡◌, Option, ℕ, Bool, true, cond, not, ◌&&◌, List, [], ◌∷◌, ◌++◌, length, drop, leb, eqb}
 use Rattle.message.specs.Limit.{room_needed}
 use Rattle.message.specs.Question.{refusal_of}
 use Rattle.end.specs.declared.Answer.{Answer}
 use Rattle.end.specs.Answer.{answer_of, buffer_of}
-use Rattle.display_window.specs.declared.Window.{Window}
-use Rattle.display_window.specs.declared.Window.TheVariants.{Unstarted, Started}
-use Rattle.display_window.specs.declared.Above.{Above}
-use Rattle.display_window.specs.declared.Above.TheVariants.{NoneAbove, Between}
+use Rattle.display_window.specs.Parts.{Seen, Unstarted, Started, NoneAbove, Above}
+use Rattle.display_window.specs.declared.Span.{Span}
 use Rattle.display_window.specs.declared.Lost.{Lost}
 use Rattle.display.specs.declared.Display.{Display}
 use Rattle.display.specs.declared.OpenedDisplay.{OpenedDisplay}
@@ -24,9 +22,9 @@ use Rattle.lent_display.specs.Bytes.{display_width, display_from, is_display, di
 abbrev pub lost_places : ℕ
 lost_places = 4
 
-abbrev pub above_numbers : Above → List ℕ
+abbrev pub above_numbers : Option Span → List ℕ
 above_numbers NoneAbove = NONE ∷ NONE ∷ []
-above_numbers (Between first last) = first.0 ∷ last.0 ∷ []
+above_numbers (Above s) = s.first.0 ∷ s.last.0 ∷ []
 
 abbrev pub lost_numbers : Lost → List ℕ
 lost_numbers l = l.trail.0 ∷ l.set ∷ above_numbers l.above
@@ -101,10 +99,10 @@ pub record OpenIs (own sender : ℕ) (s s' : List ℕ) (n : ℕ) : Type 0 where
 abbrev pub look : (Display → ℕ) → List ℕ → ℕ
 look f s = cond (is_display s) (f (display_from s)) NONE
 
-abbrev pub trail_of : Window → ℕ
+abbrev pub trail_of : Seen → ℕ
 trail_of Unstarted = NONE
-trail_of (Started trail lead set) = trail.0
+trail_of (Started w) = w.trail.0
 
-abbrev pub lead_of : Window → ℕ
+abbrev pub lead_of : Seen → ℕ
 lead_of Unstarted = NONE
-lead_of (Started trail lead set) = lead.0
+lead_of (Started w) = w.lead.0

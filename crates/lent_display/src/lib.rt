@@ -13,7 +13,7 @@ ghost use Rattle.lent_display.specs.Bytes.{head_bytes, HeadFits, display_width, 
 ghost use Rattle.lent_display.specs.Call.{lost_places, lost_numbers, Called, call_lost, CallIs, HearIs, hear_lost, OpenIs, look, trail_of, lead_of};
 
 use display::Display;
-use display_window::{Above, Lost, Window};
+use display_window::{Lost, Window};
 use end::Answer;
 use lent_answer::NONE;
 use lent_fields::{is_option, put1, put2, put8, read1, read2, read8};
@@ -29,16 +29,20 @@ const LOST_PLACES: usize = 4;
 
 // ---- the window
 
-fn window_of(tag: u8, trail: u16, lead: u16, set: u64) -> Window
+fn window_of(tag: u8, trail: u16, lead: u16, set: u64) -> Option<Window>
     ensures { result ≡ window_of tag trail lead set }
 {
     if tag == 0 {
-        return Window::Unstarted;
+        return None;
     }
-    Window::Started(CueNumber(trail), CueNumber(lead), set)
+    Some(Window {
+        trail: CueNumber(trail),
+        lead: CueNumber(lead),
+        set,
+    })
 }
 
-fn get_window(s: &[u8]) -> Window
+fn get_window(s: &[u8]) -> Option<Window>
     requires { length s.now ≡ display_width }
     ensures { result ≡ window_from s.now 12 }
 {
@@ -71,14 +75,14 @@ fn put_four(s: &mut [u8], tag: u8, trail: u16, lead: u16, set: u64)
     put8(s, 17, set);
 }
 
-fn put_window(s: &mut [u8], window: Window)
+fn put_window(s: &mut [u8], window: Option<Window>)
     requires { length s.old ≡ display_width }
     ensures puts { Puts 12 13 (window_bytes window) s.old s.new }
     ensures window_fits { WindowFits window }
 {
     match window {
-        Window::Unstarted => put_four(s, 0, 0, 0, 0),
-        Window::Started(trail, lead, set) => put_four(s, 1, trail.0, lead.0, set),
+        None => put_four(s, 0, 0, 0, 0),
+        Some(w) => put_four(s, 1, w.trail.0, w.lead.0, w.set),
     }
 }
 
@@ -171,10 +175,8 @@ fn put_lost(lost: &mut [u64], l: Lost)
     let set = l.set;
     let above = l.above;
     match above {
-        Above::NoneAbove => put_numbers(lost, trail, set, NONE, NONE),
-        Above::Between(first, last) => {
-            put_numbers(lost, trail, set, first.0 as u64, last.0 as u64);
-        }
+        None => put_numbers(lost, trail, set, NONE, NONE),
+        Some(s) => put_numbers(lost, trail, set, s.first.0 as u64, s.last.0 as u64),
     }
 }
 
@@ -282,22 +284,16 @@ pub fn clock(s: &[u8]) -> u64
     NONE
 }
 
-fn trail_of(window: Window) -> u64
+fn trail_of(window: Option<Window>) -> u64
     ensures { result ≡ trail_of window }
 {
-    match window {
-        Window::Unstarted => NONE,
-        Window::Started(trail, _, _) => trail.0 as u64,
-    }
+    window.map_or(NONE, |w| w.trail.0 as u64)
 }
 
-fn lead_of(window: Window) -> u64
+fn lead_of(window: Option<Window>) -> u64
     ensures { result ≡ lead_of window }
 {
-    match window {
-        Window::Unstarted => NONE,
-        Window::Started(_, lead, _) => lead.0 as u64,
-    }
+    window.map_or(NONE, |w| w.lead.0 as u64)
 }
 
 pub fn trail(s: &[u8]) -> u64

@@ -5,6 +5,8 @@ use mathlib.Core.List.{List, [], ◌∷◌, ◌++◌, append-nil, map}
 use Prim.Native.Nat.{ℕ, ◌+◌, ◌-◌, ◌^◌, ◌≤◌}
 use native.Mathlib.Nat.{pow-le-pow_right}
 use native.Mathlib.Omega.{arith}
+use Rattle.std.specs.Prelude as rust
+use Rattle.std.specs.Prelude.{Some, None}
 use mathlib.Core.Option.{Option, none, some}
 use lib.ListN.{length}
 use lib.Dec.{leb, eqb}
@@ -18,8 +20,7 @@ use Rattle.end.specs.Messages.{message_name, message_cue}
 use Rattle.end.specs.Answer.{Outcome, Refused, Did, answer_of, buffer_of}
 use Rattle.end.proofs.Tools.{by_cond}
 use Rattle.invariants.proofs.Readings.{message_in_lem}
-use Rattle.display_window.specs.declared.Window.{Window}
-use Rattle.display_window.specs.declared.Window.TheVariants.{Unstarted, Started}
+use Rattle.display_window.specs.Parts.{Seen, Unstarted, Started}
 use Rattle.display_window.specs.Window.{window_sound, is_new, lowest_missing}
 use Rattle.display_window.proofs.WindowLaws.{sound-window}
 use Rattle.display.specs.declared.Display.{Display}
@@ -41,11 +42,11 @@ use Rattle.lent_runs.proofs.Numbers.{NameIn, Told as TellsPlainly, Most, first-m
 use Rattle.lent_runs.proofs.Kept.{did_not_refuse}
 
 -- ---- a sound display fits its bytes
-window-fits : (w : Window) → window_sound w ≡ true → Below w → WindowFits w
+window-fits : (w : Seen) → window_sound w ≡ true → Below w → WindowFits w
 window-fits Unstarted h b = (((omega arith, omega arith), omega arith), omega arith)
-window-fits (Started trail lead set) h b =
-    let s = sound-window trail lead set h in
-    let power : 2 ^ (lead.0 + 1 - trail.0) ≤ 2 ^ 64 = pow-le-pow_right {n = 2} (omega arith) {i = lead.0 + 1 - trail.0} {j = 64} (omega (arith, s.near)) in
+window-fits (Started w) h b =
+    let s = sound-window w.trail w.lead w.set h in
+    let power : 2 ^ (w.lead.0 + 1 - w.trail.0) ≤ 2 ^ 64 = pow-le-pow_right {n = 2} (omega arith) {i = w.lead.0 + 1 - w.trail.0} {j = 64} (omega (arith, s.near)) in
     (((omega arith, omega (arith, s.ordered, b)), omega (arith, b)), omega (arith, s.within))
 
 -- what holds of a display along its calls
@@ -175,16 +176,16 @@ abbrev Plain : Hearing → Type 0
 Plain x = TellsPlainly (Did x.effect)
 
 module _ (m : Meaning) (got : NameIn (message_name m) × (length (message_cue m) ≡ 24)) (d : Display) where
-  heard-plain : (w : Window) → Plain (heard_in w m d)
+  heard-plain : (w : Seen) → Plain (heard_in w m d)
   unfolding heard_in
   heard-plain Unstarted = by_cond Plain (is_original d m) (λ _. got) (λ _. tt)
-  heard-plain (Started trail lead set) = by_cond Plain (is_original d m || is_repair d m)
+  heard-plain (Started w) = by_cond Plain (is_original d m || is_repair d m)
       (λ _. by_cond Plain (is_new d.window (message_name m).number.0) (λ _. got) (λ _. tt))
       (λ _. by_cond Plain (is_announced d m) (λ _. tt) (λ _. tt))
 
-step-plain : (d : Display) (n : Option ℕ) → Plain (request_if n d)
-step-plain d none = tt
-step-plain d (some n) = tt
+step-plain : (d : Display) (n : rust.Option ℕ) → Plain (request_if n d)
+step-plain d None = tt
+step-plain d (Some n) = tt
 
 act_plain : (ev : Event) (d : Display) → first_no (own_questions ev) ≡ 0 → Plain (act_of ev d)
 unfolding step_of

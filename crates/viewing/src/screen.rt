@@ -171,18 +171,7 @@ fn window(line: &[u8; 1000], end: usize, at: &mut usize) -> Window {
     let trail = trace::cue_number(line, end, at);
     let lead = trace::cue_number(line, end, at);
     let set = trace::number(line, end, at);
-    Window::Started(trail, lead, set)
-}
-
-fn with_window(d: Display, seen: Window) -> Display {
-    let own = d.own;
-    let sender = d.sender;
-    Display {
-        own,
-        sender,
-        clock: d.clock,
-        window: seen,
-    }
+    Window { trail, lead, set }
 }
 
 // The display with the field that the next words give.
@@ -199,7 +188,7 @@ fn changed(d: Display, line: &[u8; 1000], end: usize, at: &mut usize) -> Display
             t.sender = sender;
         }
         words::CLOCK => t.clock = trace::number(line, end, at),
-        more::WINDOW => t = with_window(d, window(line, end, at)),
+        more::WINDOW => t.window = Some(window(line, end, at)),
         _ => trace::spoil(at),
     }
     t
@@ -215,7 +204,7 @@ fn set(
     text: &mut [u8; 65536],
 ) -> Display {
     if is_unstarted(line, end, from) {
-        return with_window(d, Window::Unstarted);
+        return Display { window: None, ..d };
     }
     let mut at = from;
     let left = changed(d, line, end, &mut at);

@@ -1,8 +1,7 @@
 // What is shown of a display: its losses, its state and its output.
 use crate::{FILLING, words as more};
 use display::Display;
-use display_window::{Above, Lost, Window};
-use message::CueNumber;
+use display_window::{Lost, Span, Window};
 use picture::text;
 use trace::words;
 
@@ -29,30 +28,25 @@ fn next(number: u64) -> u64 {
 }
 
 // ` FROM..TO`.
-fn span(text: &mut [u8; 65536], n: &mut [usize; 20], from: CueNumber, to: CueNumber) {
-    text::then(text, n, from.0 as u64);
+fn span(text: &mut [u8; 65536], n: &mut [usize; 20], s: Span) {
+    text::then(text, n, s.first.0 as u64);
     text::put(text, n, b'.');
     text::put(text, n, b'.');
-    text::number(text, n, to.0 as u64);
+    text::number(text, n, s.last.0 as u64);
 }
 
 fn is_any(lost: Lost) -> bool {
-    let above = lost.above;
-    match above {
-        Above::NoneAbove => lost.set != 0,
-        Above::Between(_, _) => true,
-    }
+    lost.set != 0 || lost.above.is_some()
 }
 
 // `; lost` and the numbers, where there are any.
 pub fn lost(text: &mut [u8; 65536], n: &mut [usize; 20], lost: Lost) {
     if is_any(lost) {
-        let above = lost.above;
         text::sign(text, n, b';');
         text::word(text, n, more::LOST);
         set(text, n, lost.trail.0, lost.set);
-        if let Above::Between(from, to) = above {
-            span(text, n, from, to);
+        if let Some(s) = lost.above {
+            span(text, n, s);
         }
     }
 }
@@ -65,16 +59,16 @@ fn field(text: &mut [u8; 65536], n: &mut [usize; 20], word: u64, v: u64) {
     text::then(text, n, v);
 }
 
-fn window(text: &mut [u8; 65536], n: &mut [usize; 20], w: Window) {
+fn window(text: &mut [u8; 65536], n: &mut [usize; 20], w: Option<Window>) {
     match w {
-        Window::Unstarted => {
+        None => {
             text::then_word(text, n, more::UNSTARTE);
             text::put(text, n, b'd');
         }
-        Window::Started(trail, lead, all) => {
-            field(text, n, more::TRAIL, trail.0 as u64);
-            field(text, n, more::LEAD, lead.0 as u64);
-            field(text, n, words::SET, all);
+        Some(w) => {
+            field(text, n, more::TRAIL, w.trail.0 as u64);
+            field(text, n, more::LEAD, w.lead.0 as u64);
+            field(text, n, words::SET, w.set);
         }
     }
 }

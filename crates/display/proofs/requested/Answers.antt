@@ -4,5 +4,5 @@ use Rattle.display.proofs.requested.Goals as goal
 
 pub returns : goal.returns
 returns c =
-    let it = put-out _ _ _ _ _ _ _ c.put_message-len.ensures.value c.put_message-len.ensures.out_after c.request_for-m.ensures.result_value c.none_lost-lost.ensures in
+    let it = put-out _ _ _ _ _ _ _ c.put_message-len.ensures.value c.put_message-len.ensures.out_after c.request_for.ensures.result_value c.none_lost.ensures in
     record { value = it.0; out_after = it.1 }

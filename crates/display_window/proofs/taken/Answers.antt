@@ -3,7 +3,4 @@ use Rattle.display_window.proofs.WindowLaws.{raised-near}
 use Rattle.display_window.proofs.taken.Goals as goal
 
 pub received-requires : goal.received-requires
-received-requires c = let a = c.args in rw (c.raised-up.ensures, c.trail_for-low.ensures) (raised-near a.n.0 a.w)
-
-pub returns : goal.returns
-returns c = rw (c.received.ensures, c.raised-up.ensures, c.trail_for-low.ensures)
+received-requires c = let a = c.args in rw (c.raised.ensures, c.trail_for.ensures) (raised-near a.n.0 a.window)

@@ -123,13 +123,3 @@ pub from-due : (e : End) (clock : ℕ) → clock < never → next_due e ≤ cloc
 from-due e clock p h =
     let late : End = with_clock e clock in
     one_found (earliest late 8) (due-found late p ∙ le-leb (next_due late) clock (rw (due-same e clock) h))
-
--- ---- the eight sources one after another
-abbrev pub through : End → ℕ → ℕ → ℕ
-through e h x = let s = get_or e.sources h no_source in names_due s x (width s.span)
-
-pub eight : (e : End) {a b c d p q r s : ℕ}
-    → s ≡ through e 7 r → r ≡ through e 6 q → q ≡ through e 5 p → p ≡ through e 4 d
-    → d ≡ through e 3 c → c ≡ through e 2 b → b ≡ through e 1 a → a ≡ through e 0 never → s ≡ next_due e
-unfolding next_due fold_up
-eight e h7 h6 h5 h4 h3 h2 h1 h0 = rw (h7, h6, h5, h4, h3, h2, h1, h0)

@@ -1,11 +1,8 @@
 use mathlib.Core.Path.{◌≡◌}
-use Prim.Native.Nat.{◌-◌, ◌≤◌}
+use Rattle.end.specs.Records.{width}
 use Rattle.end_due.specs.Due.{names_due}
 use Rattle.end_due.proofs.names_due.Given as goal
 
 -- `end_due::names_due` meets its contract: after i turns the least of the first i numbers is found.
 abbrev pub invariant-loop-i : goal.invariant-loop-i
-invariant-loop-i l = (l.i ≤ l.count) × (l.out ≡ names_due l.s l.initial.out l.i)
-
-abbrev pub decreases-loop-i : goal.decreases-loop-i
-decreases-loop-i l = l.count - l.i
+invariant-loop-i l = (l.i-end ≡ width l.s.span) × (l.out ≡ names_due l.s l.m l.i)

@@ -1,32 +1,23 @@
+use mathlib.Core.Path.{◌≡◌, refl}
+use native.Mathlib.Omega.{arith}
+use Rattle.end.specs.Fire.{fold_up}
+use Rattle.end.proofs.FireLaws.{fold_more}
 use Rattle.earliest.proofs.Numbers.{span_in}
-use Rattle.end_due.proofs.DueLaws.{eight}
-use borrow.Author.Rules.{rules}
+use Rattle.end_due.specs.Due.{next_due}
 use Rattle.end_due.proofs.next_due.Goals as goal
 
--- `end_due::next_due` meets its contract: each source is gone through at its own place, with the least of those before it.
-pub names_due-b0-requires : goal.names_due-b0-requires
-names_due-b0-requires c = search (span_in, rules)
+pub loop-s-init : goal.loop-s-init
+unfolding fold_up
+loop-s-init c = (omega arith, refl)
 
-pub names_due-b1-requires : goal.names_due-b1-requires
-names_due-b1-requires c = search (span_in, rules)
+pub names_due-out-requires : goal.names_due-out-requires
+names_due-out-requires c = span_in c.loop-s.s-index (omega arith) c.requires
 
-pub names_due-b2-requires : goal.names_due-b2-requires
-names_due-b2-requires c = search (span_in, rules)
-
-pub names_due-b3-requires : goal.names_due-b3-requires
-names_due-b3-requires c = search (span_in, rules)
-
-pub names_due-b4-requires : goal.names_due-b4-requires
-names_due-b4-requires c = search (span_in, rules)
-
-pub names_due-b5-requires : goal.names_due-b5-requires
-names_due-b5-requires c = search (span_in, rules)
-
-pub names_due-b6-requires : goal.names_due-b6-requires
-names_due-b6-requires c = search (span_in, rules)
-
-pub names_due-b7-requires : goal.names_due-b7-requires
-names_due-b7-requires c = search (span_in, rules)
+pub loop-s-preserved : goal.loop-s-preserved
+loop-s-preserved c = (omega arith, rw (c.names_due-out.ensures, c.loop-s.invariant.1, fold_more))
 
 pub returns : goal.returns
-returns c = search eight
+unfolding next_due
+returns c =
+    let e : c.loop-s.s-index ≡ 8 = omega (arith, c.loop-s.invariant.0) in
+    rw e at c.loop-s.invariant.1

@@ -23,13 +23,8 @@ pub fn reading_for(what: Event, bytes: &[u8]) -> Reading
     ensures { result ≡ reading_for what bytes.now }
 {
     match what {
-        Event::Moves(_) => unread(),
-        Event::Send => unread(),
         Event::Arrival => reader::read(bytes),
-        Event::Fire => unread(),
-        Event::Report => unread(),
-        Event::Fetch(_) => unread(),
-        Event::Announce => unread(),
+        _ => unread(),
     }
 }
 
@@ -37,11 +32,7 @@ pub fn reading_for(what: Event, bytes: &[u8]) -> Reading
 pub fn is_probe(verdict: Verdict) -> bool
     ensures { result ≡ is_probe verdict }
 {
-    match verdict {
-        Verdict::Accepted => false,
-        Verdict::Probe => true,
-        Verdict::Refused(_) => false,
-    }
+    matches!(verdict, Verdict::Probe)
 }
 
 // The event that a call counts as: a probe is a Report.
@@ -55,14 +46,5 @@ pub fn taken_as(what: Event, probe: bool) -> Event
 pub fn takes(what: Event, status: Status) -> bool
     ensures { result ≡ takes what status }
 {
-    let member = state::is_member(status);
-    match what {
-        Event::Moves(_) => true,
-        Event::Send => member,
-        Event::Arrival => member,
-        Event::Fire => member,
-        Event::Report => member,
-        Event::Fetch(_) => member,
-        Event::Announce => member,
-    }
+    matches!(what, Event::Moves(_)) || state::is_member(status)
 }

@@ -18,34 +18,32 @@ use message::{
 pub fn is_named(kind: u8) -> bool
     ensures { result ≡ is_named kind }
 {
-    (kind == DATA) | ((kind == RQST) | ((kind == REPL) | (kind == XPRS)))
+    matches!(kind, DATA | RQST | REPL | XPRS)
 }
 
 // Whether a message of this kind is about names.
 fn is_about(kind: u8) -> bool
     ensures { result ≡ is_about kind }
 {
-    is_named(kind) | ((kind == FTCH) | ((kind == LATE) | (kind == ANNC)))
+    is_named(kind) || matches!(kind, FTCH | LATE | ANNC)
 }
 
 fn says_in(kind: u8) -> Says
     ensures { result ≡ says_in kind }
 {
-    if kind == DATA {
-        return Says::Data;
+    match kind {
+        DATA => Says::Data,
+        RQST => Says::Rqst,
+        REPL => Says::Repl,
+        _ => Says::Xprs,
     }
-    if kind == RQST {
-        return Says::Rqst;
-    }
-    if kind == REPL { Says::Repl } else { Says::Xprs }
 }
 
 // The first name of a message, or a blank where it has none.
 pub fn entry_of(m: Message) -> NameEntry
     ensures { result ≡ entry_in (meaning_of m) }
 {
-    let count = m.counts.names;
-    if count == 0 {
+    if m.counts.names == 0 {
         return NameEntry {
             name: Name {
                 source: Host(0),
@@ -61,11 +59,7 @@ pub fn entry_of(m: Message) -> NameEntry
 pub fn cue_of(m: Message) -> [u8; 24]
     ensures { result ≡ message_cue (meaning_of m) }
 {
-    let count = m.counts.cues;
-    if count == 0 {
-        return [0; 24];
-    }
-    m.cue
+    if m.counts.cues == 0 { [0; 24] } else { m.cue }
 }
 
 // Who asked, as what the message says has it.
@@ -73,42 +67,30 @@ fn requester_in(says: Says, m: Message) -> Host
     ensures { result ≡ requester_in says (meaning_of m) }
 {
     match says {
-        Says::Data => m.sender,
-        Says::Rqst => m.sender,
-        Says::Repl => {
-            let entry = entry_of(m);
-            entry.host
-        }
-        Says::Xprs => m.sender,
+        Says::Repl => entry_of(m).host,
+        Says::Data | Says::Rqst | Says::Xprs => m.sender,
     }
 }
 
 pub fn asker_in(m: Message) -> Host
     ensures { result ≡ asker_in (meaning_of m) }
 {
-    let says = says_in(m.kind);
-    requester_in(says, m)
+    requester_in(says_in(m.kind), m)
 }
 
 // The word of a message about a name, with the distance d to who asked.
 pub fn word_in(m: Message, d: u64) -> Word
     ensures { result ≡ word_in (meaning_of m) d }
 {
-    let says = says_in(m.kind);
     let entry = entry_of(m);
-    let name = entry.name;
-    let named = entry.host;
-    let sender = m.sender;
-    let requester = asker_in(m);
-    let cue = cue_of(m);
     Word {
-        says,
-        name,
-        host: named,
-        sender,
-        requester,
+        says: says_in(m.kind),
+        name: entry.name,
+        host: entry.host,
+        sender: m.sender,
+        requester: asker_in(m),
         distance: d,
-        cue,
+        cue: cue_of(m),
     }
 }
 
@@ -116,9 +98,8 @@ pub fn word_in(m: Message, d: u64) -> Word
 pub fn subject_of(m: Message) -> Host
     ensures { result ≡ subject_of (meaning_of m) }
 {
-    let entry = entry_of(m);
     if is_about(m.kind) {
-        entry.name.source
+        entry_of(m).name.source
     } else {
         m.sender
     }
@@ -128,7 +109,9 @@ pub fn subject_of(m: Message) -> Host
 pub fn report_count(me: Host, m: Message) -> usize
     ensures { result ≡ cond (same_host m.sender me || is_about m.kind) 0 m.counts.reports }
 {
-    let count = m.counts.reports;
-    let none = (m.sender.0 == me.0) | is_about(m.kind);
-    if none { 0 } else { count }
+    if m.sender.0 == me.0 || is_about(m.kind) {
+        0
+    } else {
+        m.counts.reports
+    }
 }

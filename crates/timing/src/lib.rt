@@ -71,7 +71,7 @@ pub fn request_at(t: Moment, u: Draw, d: u64, k: u8) -> Request
 pub fn next_round(k: u8) -> u8
     ensures { result ≡ next_round k }
 {
-    if k < 16 { k + 1 } else { 16 }
+    k.min(15) + 1
 }
 
 // When a reply is due, with the draw u and the distance d to the requester.
@@ -100,8 +100,5 @@ pub fn half_trip(e: u64) -> u64
     ensures { result ≡ half_trip e }
 {
     let ms = (e + 7) / 8;
-    if ms < 1 {
-        return 1;
-    }
-    if 1000 < ms { 1000 } else { ms }
+    ms.clamp(1, 1000)
 }

@@ -11,14 +11,10 @@ ghost use Rattle.end.specs.Opening.{constrained_tests, house_params, opening_of}
 ghost use Rattle.message.specs.Entry.{as_host};
 ghost use Rattle.message.specs.declared.Verdict.TheVariants.{Refused};
 ghost use Rattle.end.specs.declared.Status.TheVariants.{Crashed};
-ghost use Rattle.end.specs.declared.Move.TheVariants.{Join, Joined, Leave, Left, Crash};
 ghost use Rattle.end.specs.Event.{moves, moves_to, clears, moved_end, move_of};
 ghost use Rattle.end.specs.Answer.{done, called_of};
 
-use end::{
-    Answer, End, Heard, Move, Opened, Origin, Pair, Params, Record, Slot, Source, Span, Status,
-    Stepped,
-};
+use end::{Answer, End, Move, Opened, Params, Record, Slot, Source, Status, Stepped};
 use message::{Host, Verdict};
 
 // A source of which nothing is kept.
@@ -30,7 +26,6 @@ fn unheard_source(distance: u64) -> Source
         cue: [0; 24],
         hush: 0,
     };
-    let untried = state::no_attempt();
     Source {
         span: None,
         missed: 0,
@@ -39,7 +34,7 @@ fn unheard_source(distance: u64) -> Source
         heard: None,
         names: [blank; 64],
         origin: None,
-        attempts: [untried; 64],
+        attempts: [state::no_attempt(); 64],
     }
 }
 
@@ -48,11 +43,8 @@ fn unheard_sources(me: Host) -> [Source; 8]
     requires { me.0 < host_limit }
     ensures { result ≡ unheard_sources me.0 }
 {
-    let other = unheard_source(40);
-    let own = unheard_source(0);
-    let mut sources = [other; 8];
-    let at = me.0 as usize;
-    sources[at] = own;
+    let mut sources = [unheard_source(40); 8];
+    sources[usize::from(me.0)] = unheard_source(0);
     sources
 }
 
@@ -78,15 +70,14 @@ fn params_constrained(p: Params) -> bool
 {
     let replies = p.d1 + p.d2;
     let requests = 2 * p.c1;
-    (p.c3 < p.c1) & (replies + 8 < requests) & (replies + p.d3 < requests)
+    p.c3 < p.c1 && replies + 8 < requests && replies + p.d3 < requests
 }
 
 // Question 13.
 fn params_open(p: Params) -> bool
     ensures { result ≡ (all_of (params_tests p) && all_of (constrained_tests p)) }
 {
-    let small = state::params_small(p);
-    if small { params_constrained(p) } else { false }
+    state::params_small(p) && params_constrained(p)
 }
 
 // What a refused opening gives: host 0's crashed end, otherwise fresh.
@@ -102,10 +93,9 @@ fn refused_opening(number: u8) -> Opened
         d3: 8,
         express: 0,
     };
-    let end = fresh_end(Host(0), params, Status::Crashed);
     Opened {
         verdict: Verdict::Refused(number),
-        end,
+        end: fresh_end(Host(0), params, Status::Crashed),
     }
 }
 
@@ -113,97 +103,32 @@ fn refused_opening(number: u8) -> Opened
 pub fn opening(me: Host, params: Params) -> Opened
     ensures { result ≡ opening_of me params }
 {
-    let good = params_open(params);
-    let soon = state::delay_in(params);
-    if me.0 < 8 {
-        if good {
-            if soon {
-                let end = fresh_end(me, params, Status::Idle);
-                Opened {
-                    verdict: Verdict::Accepted,
-                    end,
-                }
-            } else {
-                refused_opening(14)
-            }
-        } else {
-            refused_opening(13)
-        }
-    } else {
-        refused_opening(12)
+    if 8 <= me.0 {
+        return refused_opening(12);
+    }
+    if !params_open(params) {
+        return refused_opening(13);
+    }
+    if !state::delay_in(params) {
+        return refused_opening(14);
+    }
+    Opened {
+        verdict: Verdict::Accepted,
+        end: fresh_end(me, params, Status::Idle),
     }
 }
 
 // ---- the moves: from which status, to which, and whether what was heard is forgotten
-fn may_join(status: Status) -> bool
-    ensures { result ≡ moves Join status }
-{
-    match status {
-        Status::Idle => true,
-        Status::Joining => false,
-        Status::Member => false,
-        Status::Leaving => false,
-        Status::Crashed => false,
-    }
-}
-
-fn may_have_joined(status: Status) -> bool
-    ensures { result ≡ moves Joined status }
-{
-    match status {
-        Status::Idle => false,
-        Status::Joining => true,
-        Status::Member => false,
-        Status::Leaving => false,
-        Status::Crashed => false,
-    }
-}
-
-fn may_leave(status: Status) -> bool
-    ensures { result ≡ moves Leave status }
-{
-    match status {
-        Status::Idle => false,
-        Status::Joining => true,
-        Status::Member => true,
-        Status::Leaving => false,
-        Status::Crashed => false,
-    }
-}
-
-fn may_have_left(status: Status) -> bool
-    ensures { result ≡ moves Left status }
-{
-    match status {
-        Status::Idle => false,
-        Status::Joining => false,
-        Status::Member => false,
-        Status::Leaving => true,
-        Status::Crashed => false,
-    }
-}
-
-fn may_crash(status: Status) -> bool
-    ensures { result ≡ moves Crash status }
-{
-    match status {
-        Status::Idle => true,
-        Status::Joining => true,
-        Status::Member => true,
-        Status::Leaving => true,
-        Status::Crashed => false,
-    }
-}
 
 pub fn may_move(m: Move, status: Status) -> bool
     ensures { result ≡ moves m status }
 {
     match m {
-        Move::Join => may_join(status),
-        Move::Joined => may_have_joined(status),
-        Move::Leave => may_leave(status),
-        Move::Left => may_have_left(status),
-        Move::Crash => may_crash(status),
+        Move::Join => status == Status::Idle,
+        Move::Joined => status == Status::Joining,
+        Move::Leave => matches!(status, Status::Joining | Status::Member),
+        Move::Left => status == Status::Leaving,
+        Move::Crash => status != Status::Crashed,
     }
 }
 
@@ -222,13 +147,7 @@ fn moves_to(m: Move) -> Status
 fn forgets(m: Move) -> bool
     ensures { result ≡ clears m }
 {
-    match m {
-        Move::Join => false,
-        Move::Joined => false,
-        Move::Leave => true,
-        Move::Left => false,
-        Move::Crash => true,
-    }
+    matches!(m, Move::Leave | Move::Crash)
 }
 
 // An end that forgets what it heard; its next own number stays.
@@ -236,19 +155,18 @@ fn without_heard(e: End) -> End
     requires { e.host.0 < host_limit }
     ensures { result ≡ with_sources e (unheard_sources e.host.0) }
 {
-    let me = e.host;
-    let mut end = e;
-    let sources = unheard_sources(me);
-    end.sources = sources;
-    end
+    let sources = unheard_sources(e.host);
+    End { sources, ..e }
 }
 
 fn moved_end(e: End, m: Move) -> End
     requires { e.host.0 < host_limit }
     ensures { result ≡ moved_end m e }
 {
-    let status = moves_to(m);
-    let end = state::with_status(e, status);
+    let end = End {
+        status: moves_to(m),
+        ..e
+    };
     if forgets(m) { without_heard(end) } else { end }
 }
 
@@ -257,12 +175,10 @@ pub fn moved(e: End, m: Move) -> Stepped
     requires { e.host.0 < host_limit }
     ensures { result ≡ called_of (done (move_of m e)) }
 {
-    let status = e.status;
-    if may_move(m, status) {
-        let end = moved_end(e, m);
+    if may_move(m, e.status) {
         Stepped {
             answer: Answer::Done,
-            end,
+            end: moved_end(e, m),
         }
     } else {
         Stepped {

@@ -7,7 +7,7 @@ use Rattle.membership.proofs.moved.Goals as goal
 pub returns-then-may_move : goal.returns-then-may_move
 returns-then-may_move c =
     let a = c.args in
-    (λ i. record { answer = answer.Done; end = c.moved_end-end.ensures i }) ∙ sym (move-done a.m a.e (sym c.may_move.ensures ∙ c.if-may_move.true))
+    (λ i. record { answer = answer.Done; end = c.moved_end.ensures i }) ∙ sym (move-done a.m a.e (sym c.may_move.ensures ∙ c.if-may_move.true))
 
 pub returns-else-may_move : goal.returns-else-may_move
 returns-else-may_move c =

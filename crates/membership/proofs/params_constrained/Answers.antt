@@ -13,12 +13,12 @@ overflow_mul-requests c =
     let s = small c.args.p c.requires in
     omega (arith, s.c1)
 
-pub overflow_add-result : goal.overflow_add-result
-overflow_add-result c =
+pub overflow_add-replies-then-p : goal.overflow_add-replies-then-p
+overflow_add-replies-then-p c =
     let s = small c.args.p c.requires in
     omega (arith, s.d1, s.d2)
 
-pub overflow_add-result-2 : goal.overflow_add-result-2
-overflow_add-result-2 c =
+pub overflow_add-result : goal.overflow_add-result
+overflow_add-result c =
     let s = small c.args.p c.requires in
     omega (arith, s.d1, s.d2, s.d3)

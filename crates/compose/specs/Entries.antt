@@ -1,5 +1,5 @@
 -- The entries that an end has to report, in the places of a message, and one entry more.
-use Rattle.std.specs.Prelude.{ℕ, ◌+◌, List, [], ◌∷◌, length, set}
+use Rattle.std.specs.Prelude.{ℕ, ◌+◌, Option, Some, None, List, [], ◌∷◌, length, set}
 use Rattle.message.specs.declared.Report.{Report}
 use Rattle.message.specs.declared.Echo.{Echo}
 use Rattle.message.specs.Section.{padded}
@@ -10,6 +10,11 @@ use Rattle.end.specs.Messages.{reports_below, echoes_below}
 use Rattle.compose.specs.declared.Reports.{Reports}
 use Rattle.compose.specs.declared.Echoes.{Echoes}
 use Rattle.compose.specs.declared.Entries.{Entries}
+
+-- the cues of a message that has this one, or none
+abbrev pub listed : Option (List ℕ) → List (List ℕ)
+listed None = []
+listed (Some cue) = cue ∷ []
 
 -- these reports, and these echoes, in the first places
 abbrev pub reports_in : List Report → Reports

@@ -9,7 +9,7 @@ ghost use Rattle.end.specs.Messages.{about_name, own_entry, announce_message, re
 ghost use Rattle.end.specs.Answer.{Out, Did, answer_of, buffer_of};
 ghost use Rattle.end.specs.Ready.{HeardBy};
 ghost use Rattle.state.specs.Settled.{Settled};
-ghost use Rattle.compose.specs.Entries.{entries_below, with_report, with_echo};
+ghost use Rattle.compose.specs.Entries.{listed, entries_below, with_report, with_echo};
 
 use end::{Answer, End, Heard, Moment, Span};
 use message::{ANNC, Counts, CueNumber, Echo, Host, Message, Name, NameEntry, Report, SESS};
@@ -41,21 +41,17 @@ fn about_name(kind: u8, t: Moment, name: Name, host: Host, cues: usize, cue: [u8
     ensures result_value { meaning_of result ≡ about_name kind t name host (take cues (cue ∷ [])) }
     ensures small { Small (number_width result.kind) result.counts }
 {
-    let mut names = [message::no_name(); 2];
-    names[0] = NameEntry { name, host };
-    let counts = Counts {
-        names: 1,
-        cues,
-        reports: 0,
-        echoes: 0,
-    };
-    let sender = t.me;
     Message {
         kind,
-        sender,
+        sender: t.me,
         stamp: t.clock,
-        counts,
-        names,
+        counts: Counts {
+            names: 1,
+            cues,
+            reports: 0,
+            echoes: 0,
+        },
+        names: [NameEntry { name, host }, message::no_name()],
         cue,
         reports: [message::no_report(); 8],
         echoes: [message::no_echo(); 7],
@@ -66,11 +62,12 @@ fn about_name(kind: u8, t: Moment, name: Name, host: Host, cues: usize, cue: [u8
 fn own_entry(t: Moment, number: CueNumber) -> NameEntry
     ensures { result ≡ own_entry t number }
 {
-    let source = t.me;
-    let host = t.me;
     NameEntry {
-        name: Name { source, number },
-        host,
+        name: Name {
+            source: t.me,
+            number,
+        },
+        host: t.me,
     }
 }
 
@@ -79,21 +76,17 @@ fn announce_message(t: Moment, first: CueNumber, last: CueNumber) -> Message
     ensures result_value { meaning_of result ≡ announce_message t first last }
     ensures small { Small (number_width result.kind) result.counts }
 {
-    let mut names = [own_entry(t, first); 2];
-    names[1] = own_entry(t, last);
-    let counts = Counts {
-        names: 2,
-        cues: 0,
-        reports: 0,
-        echoes: 0,
-    };
-    let sender = t.me;
     Message {
         kind: ANNC,
-        sender,
+        sender: t.me,
         stamp: t.clock,
-        counts,
-        names,
+        counts: Counts {
+            names: 2,
+            cues: 0,
+            reports: 0,
+            echoes: 0,
+        },
+        names: [own_entry(t, first), own_entry(t, last)],
         cue: [0; 24],
         reports: [message::no_report(); 8],
         echoes: [message::no_echo(); 7],
@@ -158,15 +151,10 @@ fn all_entries(e: End) -> Entries
         count: 0,
         places: [message::no_echo(); 7],
     };
-    let mut h: u8 = 0;
-    while h < 8 {
-        let at = h as usize;
-        let s = sources[at];
-        let span = s.span;
-        let heard = s.heard;
-        reports = with_report(reports, Host(h), span);
-        echoes = with_echo(echoes, Host(h), e.clock, heard);
-        h += 1;
+    for h in 0..8u8 {
+        let s = sources[h as usize];
+        reports = with_report(reports, Host(h), s.span);
+        echoes = with_echo(echoes, Host(h), e.clock, s.heard);
     }
     Entries { reports, echoes }
 }
@@ -178,26 +166,22 @@ pub fn session_message(e: End) -> Message
     ensures small { Small (number_width result.kind) result.counts }
 {
     let entries = all_entries(e);
-    let reports = entries.reports;
-    let echoes = entries.echoes;
-    let counts = Counts {
-        names: 0,
-        cues: 0,
-        reports: reports.count,
-        echoes: echoes.count,
-    };
-    let said = reports.places;
-    let heard = echoes.places;
-    let sender = e.host;
+    let reports = entries.reports.places;
+    let echoes = entries.echoes.places;
     Message {
         kind: SESS,
-        sender,
+        sender: e.host,
         stamp: e.clock,
-        counts,
+        counts: Counts {
+            names: 0,
+            cues: 0,
+            reports: entries.reports.count,
+            echoes: entries.echoes.count,
+        },
         names: [message::no_name(); 2],
         cue: [0; 24],
-        reports: said,
-        echoes: heard,
+        reports,
+        echoes,
     }
 }
 
@@ -208,8 +192,7 @@ pub fn put(m: Message, out: &mut [u8]) -> Answer
     ensures value { result ≡ answer_of (Did (Out (bytes_of (meaning_of m)))) }
     ensures out_after { out.new ≡ buffer_of (Did (Out (bytes_of (meaning_of m)))) out.old }
 {
-    let len = layout::put_message(out, m);
-    Answer::Out(len)
+    Answer::Out(layout::put_message(out, m))
 }
 
 pub fn put_name(
@@ -217,16 +200,17 @@ pub fn put_name(
     t: Moment,
     name: Name,
     host: Host,
-    cues: usize,
-    cue: [u8; 24],
+    cue: Option<[u8; 24]>,
     out: &mut [u8],
 ) -> Answer
-    requires { (cues ≤ 1) × (room_needed ≤ length out.old) }
-    ensures value { result ≡ answer_of (Did (Out (bytes_of (about_name kind t name host (take cues (cue ∷ [])))))) }
-    ensures out_after { out.new ≡ buffer_of (Did (Out (bytes_of (about_name kind t name host (take cues (cue ∷ [])))))) out.old }
+    requires { room_needed ≤ length out.old }
+    ensures value { result ≡ answer_of (Did (Out (bytes_of (about_name kind t name host (listed cue))))) }
+    ensures out_after { out.new ≡ buffer_of (Did (Out (bytes_of (about_name kind t name host (listed cue))))) out.old }
 {
-    let m = about_name(kind, t, name, host, cues, cue);
-    put(m, out)
+    match cue {
+        None => put(about_name(kind, t, name, host, 0, [0; 24]), out),
+        Some(cue) => put(about_name(kind, t, name, host, 1, cue), out),
+    }
 }
 
 pub fn put_announce(t: Moment, first: CueNumber, last: CueNumber, out: &mut [u8]) -> Answer
@@ -234,6 +218,5 @@ pub fn put_announce(t: Moment, first: CueNumber, last: CueNumber, out: &mut [u8]
     ensures value { result ≡ answer_of (Did (Out (bytes_of (announce_message t first last)))) }
     ensures out_after { out.new ≡ buffer_of (Did (Out (bytes_of (announce_message t first last)))) out.old }
 {
-    let m = announce_message(t, first, last);
-    put(m, out)
+    put(announce_message(t, first, last), out)
 }

@@ -1,2 +1,0 @@
-pub mod CueLaws
-pub mod Ladders

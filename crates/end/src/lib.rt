@@ -22,7 +22,7 @@ pub const TIME_LIMIT: u64 = 281479271677952;
 
 // C1, C2, C3 time a request and its quiet time, D1, D2, D3 a reply and its quiet time; each in quarters, 0..32. E, `express`, is how many
 // ticks an express wait waits, 0..1000.
-#[derive(Clone, Copy)]
+#[derive(Clone, Copy, Debug, PartialEq, Eq)]
 pub struct Params {
     pub c1: u64,
     pub c2: u64,
@@ -33,7 +33,7 @@ pub struct Params {
     pub express: u64,
 }
 
-#[derive(Clone, Copy)]
+#[derive(Clone, Copy, Debug, PartialEq, Eq)]
 pub enum Status {
     Idle,
     Joining,
@@ -43,7 +43,7 @@ pub enum Status {
 }
 
 // A waiting request: its round 1..16, when it is due, and its quiet-until time, up to which a heard request changes nothing.
-#[derive(Clone, Copy)]
+#[derive(Clone, Copy, Debug, PartialEq, Eq)]
 pub struct Request {
     pub round: u8,
     pub due: u64,
@@ -90,7 +90,7 @@ pub type Origin = Option<CueNumber>;
 
 // What an end has done to fetch one of the 64 numbers below a source's first original: the hosts that it tried, and whether the cue was handed
 // out as Late.
-#[derive(Clone, Copy)]
+#[derive(Clone, Copy, Debug, PartialEq, Eq)]
 pub struct Attempt {
     pub tried: Hosts,
     pub late: bool,
@@ -123,7 +123,7 @@ pub struct End {
 }
 
 // The moves of an end's membership.
-#[derive(Clone, Copy)]
+#[derive(Clone, Copy, Debug, PartialEq, Eq)]
 pub enum Move {
     Join,
     Joined,
@@ -153,7 +153,7 @@ pub struct Moment {
 }
 
 // The kinds of a message about a name that a decision is made on. (FTCH and LATE have rules of their own.)
-#[derive(Clone, Copy)]
+#[derive(Clone, Copy, Debug, PartialEq, Eq)]
 pub enum Says {
     Data,
     Rqst,
@@ -176,7 +176,7 @@ pub struct Word {
 
 // Why an event is Ignored: document 02, P3, in its order, and P9's last reason. A decision on a message has one of those from NotOpen to
 // RequestQuiet, which lie in the name's source.
-#[derive(Clone, Copy)]
+#[derive(Clone, Copy, Debug, PartialEq, Eq)]
 pub enum Reason {
     Crashed,
     WrongStatus,
@@ -232,19 +232,21 @@ pub enum Answer {
     Exhausted,
 }
 
-// A wait that is due, as Fire compares it: its rank among waits due at one time (express, request, reply), and for which name.
+// What goes out when a wait is over, in the order of waits that are due at one time: an express request, a request, a reply.
+#[derive(Clone, Copy, Debug, PartialEq, Eq, PartialOrd, Ord)]
+pub enum Rank {
+    Xprs,
+    Rqst,
+    Repl,
+}
+
+// A wait that is due, as Fire compares it: its rank among waits due at one time, and for which name.
 #[derive(Clone, Copy)]
 pub struct Wait {
     pub due: u64,
-    pub rank: u8,
+    pub rank: Rank,
     pub name: Name,
 }
-
-pub const EXPRESS: u8 = 0;
-
-pub const REQUEST: u8 = 1;
-
-pub const REPLY: u8 = 2;
 
 // The earliest wait found so far.
 pub type Earliest = Option<Wait>;

@@ -42,7 +42,7 @@ fn put_fetch(t: Moment, name: Name, may: bool, best: Nearest, out: &mut [u8]) ->
     }
     match best {
         None => Answer::Exhausted,
-        Some((h, _)) => compose::put_name(FTCH, t, name, h, 0, [0; 24], out),
+        Some((h, _)) => compose::put_name(FTCH, t, name, h, None, out),
     }
 }
 
@@ -79,7 +79,7 @@ pub fn answer_fetch(t: Moment, x: NameEntry, sender: Host, s: Source, out: &mut 
     let known = records::record_at(s, x.name.number);
     let cue = known.cue;
     if candidates::may_answer(t.me, x, s) {
-        let answer = compose::put_name(LATE, t, x.name, sender, 1, cue, out);
+        let answer = compose::put_name(LATE, t, x.name, sender, Some(cue), out);
         Change { answer, source: s }
     } else {
         state::unchanged(s)

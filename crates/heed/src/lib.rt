@@ -138,7 +138,7 @@ fn answer_of(t: Moment, w: Word, r: Record, d: Decision, out: &mut [u8]) -> Answ
         Decision::Learns => Answer::Done,
         Decision::BacksOff(_) => Answer::Done,
         Decision::Clashes => Answer::Clash(name),
-        Decision::Expresses => compose::put_name(REPL, t, name, w.requester, 1, held, out),
+        Decision::Expresses => compose::put_name(REPL, t, name, w.requester, Some(held), out),
     }
 }
 

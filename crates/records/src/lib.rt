@@ -12,7 +12,7 @@ ghost use Rattle.end.specs.Names.{set_round, hold, set_reply, quiet_reply, drop_
 ghost use Rattle.end.specs.Parts.{Unset, Soon, From};
 ghost use Rattle.end.specs.Ready.{Ranges, Numbered};
 
-use end::{Draw, Express, Moment, Origin, Pair, Record, Reply, Request, Slot, Source, Span};
+use end::{Draw, Express, Moment, Pair, Record, Request, Slot, Source};
 use message::{CueNumber, Host};
 
 // ---- the record of a number
@@ -28,13 +28,12 @@ pub fn blank_record() -> Record
 }
 
 // What the source has of a number: nothing outside first..last.
+#[tactic(auto, unfolding(end::specs::Records::record_at))]
 pub fn record_at(s: Source, n: CueNumber) -> Record
     ensures { result ≡ record_at s n.0 }
 {
-    let span = s.span;
-    if state::is_within(span, n) {
-        let at = state::place(n.0 as u64);
-        s.names[at]
+    if state::is_within(s.span, u64::from(n.0)) {
+        s.names[state::place(u64::from(n.0))]
     } else {
         blank_record()
     }
@@ -44,9 +43,8 @@ pub fn record_at(s: Source, n: CueNumber) -> Record
 pub fn with_record(s: Source, n: CueNumber, r: Record) -> Source
     ensures { result ≡ with_record s n.0 r }
 {
-    let at = state::place(n.0 as u64);
     let mut out = s;
-    out.names[at] = r;
+    out.names[state::place(u64::from(n.0))] = r;
     out
 }
 
@@ -54,8 +52,7 @@ pub fn draw_at(draws: &[Draw], n: CueNumber) -> Draw
     requires { Numbered n.0 (length draws.now) }
     ensures { result ≡ draw_at draws.now n.0 }
 {
-    let at = state::place(n.0 as u64);
-    draws[at]
+    draws[state::place(u64::from(n.0))]
 }
 
 // ---- what happens to one name of a source
@@ -67,8 +64,7 @@ pub fn request_for(t: Moment, draws: &[Draw], d: u64, n: CueNumber, k: u8) -> Re
     requires le_k { (1 ≤ k) × (k ≤ 16) }
     ensures { result ≡ request_at t draws.now d n.0 k }
 {
-    let u = draw_at(draws, n);
-    timing::request_at(t, u, d, k)
+    timing::request_at(t, draw_at(draws, n), d, k)
 }
 
 // When a reply under a number is due, with its draw and the distance d to the requester.
@@ -77,8 +73,7 @@ fn reply_time(t: Moment, draws: &[Draw], d: u64, n: CueNumber) -> u64
     requires numbered { Numbered n.0 (length draws.now) }
     ensures { result ≡ reply_due t draws.now d n.0 }
 {
-    let u = draw_at(draws, n);
-    timing::reply_due(t, u, d)
+    timing::reply_due(t, draw_at(draws, n), d)
 }
 
 // Sets round k of a number, with the distance to the source. An express wait beside the request stays.
@@ -90,15 +85,8 @@ pub fn set_round(s: Source, t: Moment, draws: &[Draw], n: CueNumber, k: u8) -> S
 {
     let q = request_for(t, draws, s.distance, n, k);
     let r = record_at(s, n);
-    let was = r.slot;
-    let cue = r.cue;
-    let x = state::express_in(was);
-    let asked = Record {
-        slot: Slot::Waiting(q, x),
-        cue,
-        hush: r.hush,
-    };
-    with_record(s, n, asked)
+    let slot = Slot::Waiting(q, state::express_in(r.slot));
+    with_record(s, n, Record { slot, ..r })
 }
 
 // Holds a cue under a number.
@@ -106,12 +94,8 @@ pub fn hold_cue(s: Source, n: CueNumber, cue: [u8; 24]) -> Source
     ensures { result ≡ hold n.0 cue s }
 {
     let r = record_at(s, n);
-    let kept = Record {
-        slot: Slot::Held(None),
-        cue,
-        hush: r.hush,
-    };
-    with_record(s, n, kept)
+    let slot = Slot::Held(None);
+    with_record(s, n, Record { slot, cue, ..r })
 }
 
 // Sets a reply to the requester, who is d away.
@@ -129,15 +113,8 @@ pub fn set_reply(
 {
     let due = reply_time(t, draws, d, n);
     let r = record_at(s, n);
-    let was = r.slot;
-    let cue = r.cue;
-    let slot = state::with_reply(Some((due, requester)), was);
-    let answering = Record {
-        slot,
-        cue,
-        hush: r.hush,
-    };
-    with_record(s, n, answering)
+    let slot = state::with_reply(Some((due, requester)), r.slot);
+    with_record(s, n, Record { slot, ..r })
 }
 
 // Drops a number's reply and sets its reply-quiet time, for a requester who is d away.
@@ -147,11 +124,8 @@ pub fn quiet_reply(s: Source, t: Moment, n: CueNumber, d: u64) -> Source
 {
     let hush = timing::quiet_after_reply(t, d);
     let r = record_at(s, n);
-    let was = r.slot;
-    let cue = r.cue;
-    let slot = state::with_reply(None, was);
-    let hushed = Record { slot, cue, hush };
-    with_record(s, n, hushed)
+    let slot = state::with_reply(None, r.slot);
+    with_record(s, n, Record { slot, hush, ..r })
 }
 
 // Drops a number's express wait.
@@ -159,15 +133,8 @@ pub fn drop_express(s: Source, n: CueNumber) -> Source
     ensures { result ≡ drop_express n.0 s }
 {
     let r = record_at(s, n);
-    let was = r.slot;
-    let cue = r.cue;
-    let slot = state::with_express(None, was);
-    let dropped = Record {
-        slot,
-        cue,
-        hush: r.hush,
-    };
-    with_record(s, n, dropped)
+    let slot = state::with_express(None, r.slot);
+    with_record(s, n, Record { slot, ..r })
 }
 
 // ---- the kept pair
@@ -177,14 +144,8 @@ fn latest(pair: Pair, requester: Host, sender: Host, n: CueNumber) -> Pair
     ensures { result ≡ latest pair requester sender n }
 {
     match pair {
-        None => Some((requester, sender, n)),
-        Some((_, _, k)) => {
-            if k.0 <= n.0 {
-                Some((requester, sender, n))
-            } else {
-                pair
-            }
-        }
+        Some((_, _, kept)) if n.0 < kept.0 => pair,
+        _ => Some((requester, sender, n)),
     }
 }
 
@@ -192,18 +153,14 @@ fn latest(pair: Pair, requester: Host, sender: Host, n: CueNumber) -> Pair
 pub fn keep_pair(s: Source, requester: Host, sender: Host, n: CueNumber) -> Source
     ensures { result ≡ keep_pair requester sender n s }
 {
-    let pair = s.pair;
-    let kept = latest(pair, requester, sender, n);
-    state::with_pair(s, kept)
+    let pair = latest(s.pair, requester, sender, n);
+    Source { pair, ..s }
 }
 
 fn is_requester(me: Host, pair: Pair) -> bool
     ensures { result ≡ is_requester me pair }
 {
-    match pair {
-        None => false,
-        Some((requester, _, _)) => requester.0 == me.0,
-    }
+    pair.is_some_and(|(requester, _, _)| requester.0 == me.0)
 }
 
 // The express wait beside round 1 by a gap before a DATA: the kept requester sets one.
@@ -211,11 +168,7 @@ pub fn express_by_data(t: Moment, pair: Pair) -> Express
     requires { (t.clock < ticks_limit) × (t.params.express ≤ 1000) }
     ensures { result ≡ cond (is_requester t.me pair) (Soon (t.clock + t.params.express)) Unset }
 {
-    if is_requester(t.me, pair) {
-        Some(t.clock + t.params.express)
-    } else {
-        None
-    }
+    is_requester(t.me, pair).then_some(t.clock + t.params.express)
 }
 
 // ---- the first original
@@ -224,18 +177,9 @@ pub fn express_by_data(t: Moment, pair: Pair) -> Express
 pub fn open_at(s: Source, n: CueNumber) -> Source
     ensures { result ≡ with_origin (open_at n.0 s) (From n) }
 {
-    let pair = s.pair;
-    let heard = s.heard;
-    let names = s.names;
-    let attempts = s.attempts;
     Source {
         span: Some((n, n)),
-        missed: s.missed,
-        pair,
-        distance: s.distance,
-        heard,
-        names,
         origin: Some(n),
-        attempts,
+        ..s
     }
 }

@@ -44,7 +44,7 @@ pub fn send(e: End, draws: &[Draw], cue: [u8; 24], out: &mut [u8]) -> Stepped
     let mut sources = e.sources;
     let number = CueNumber(e.next as u16);
     let name = Name { source: me, number };
-    let answer = compose::put_name(DATA, t, name, me, 1, cue, out);
+    let answer = compose::put_name(DATA, t, name, me, Some(cue), out);
     let at = me.0 as usize;
     let s = sources[at];
     let s1 = sent_source(s, t, draws, number, cue);

@@ -1,20 +1,20 @@
 // The parts of an end that the steps read and change, each function one definition of the crate end, specs/State.antt and
-// specs/Records.antt. They are helpers of the crates above and no calls of the product. A field of Source or End that is added later is
-// a line in each setter here.
+// specs/Records.antt. They are helpers of the crates above and no calls of the product.
 #![tactic(auto)]
 
-ghost use Rattle.std.specs.Prelude.{◌≡◌, ◌<◌};
+ghost use Rattle.std.specs.Prelude.{◌≡◌, ◌+◌, ◌≤◌, ◌<◌};
 ghost use Rattle.message.specs.Limit.{number_limit};
 ghost use Rattle.end.specs.State.{no_attempt, moment_of, is_member, is_crashed};
-ghost use Rattle.end.specs.State.{with_span, with_pair, with_heard, with_distance, with_names, with_origin, with_clock, with_status};
-ghost use Rattle.end.specs.Records.{start, place, is_held, is_no, reply_in, with_reply, express_in, with_express};
+ghost use Rattle.end.specs.State.{with_span, with_heard, with_distance, with_clock, with_status};
+ghost use Rattle.end.specs.Records.{start, width, place, is_held, reply_in, with_reply, express_in, with_express};
 ghost use Rattle.end.specs.Records.{within, is_below, is_above, fetchable, attempt_at, with_attempt};
-ghost use Rattle.end.specs.Sound.{all_of, params_tests, delay_in, is_no_pair};
+ghost use Rattle.end.specs.Ready.{SpanIn};
+ghost use Rattle.end.specs.Sound.{all_of, params_tests, delay_in};
 ghost use Rattle.end.specs.declared.Answer.TheVariants.{Ignored};
 
 use end::{
-    Answer, Attempt, End, Express, Heard, KEPT, Moment, Origin, Pair, Params, Record, Reply, Slot,
-    Source, Span, Status,
+    Answer, Attempt, End, Express, Heard, KEPT, Moment, Origin, Params, Reply, Slot, Source, Span,
+    Status,
 };
 use message::CueNumber;
 
@@ -28,44 +28,19 @@ pub struct Change {
 pub fn is_member(status: Status) -> bool
     ensures { result ≡ is_member status }
 {
-    match status {
-        Status::Idle => false,
-        Status::Joining => false,
-        Status::Member => true,
-        Status::Leaving => false,
-        Status::Crashed => false,
-    }
+    status == Status::Member
 }
 
 pub fn is_crashed(status: Status) -> bool
     ensures { result ≡ is_crashed status }
 {
-    match status {
-        Status::Idle => false,
-        Status::Joining => false,
-        Status::Member => false,
-        Status::Leaving => false,
-        Status::Crashed => true,
-    }
+    status == Status::Crashed
 }
 
 pub fn is_held(slot: Slot) -> bool
     ensures { result ≡ is_held slot }
 {
-    match slot {
-        Slot::Empty => false,
-        Slot::Held(_) => true,
-        Slot::Waiting(_, _) => false,
-    }
-}
-
-pub fn is_no(reply: Reply) -> bool
-    ensures { result ≡ is_no reply }
-{
-    match reply {
-        None => true,
-        Some((_, _)) => false,
-    }
+    matches!(slot, Slot::Held(_))
 }
 
 // The reply beside a held cue.
@@ -73,9 +48,8 @@ pub fn reply_in(slot: Slot) -> Reply
     ensures { result ≡ reply_in slot }
 {
     match slot {
-        Slot::Empty => None,
         Slot::Held(reply) => reply,
-        Slot::Waiting(_, _) => None,
+        _ => None,
     }
 }
 
@@ -84,9 +58,8 @@ pub fn with_reply(reply: Reply, slot: Slot) -> Slot
     ensures { result ≡ with_reply reply slot }
 {
     match slot {
-        Slot::Empty => Slot::Empty,
         Slot::Held(_) => Slot::Held(reply),
-        Slot::Waiting(q, x) => Slot::Waiting(q, x),
+        other => other,
     }
 }
 
@@ -95,9 +68,8 @@ pub fn express_in(slot: Slot) -> Express
     ensures { result ≡ express_in slot }
 {
     match slot {
-        Slot::Empty => None,
-        Slot::Held(_) => None,
         Slot::Waiting(_, x) => x,
+        _ => None,
     }
 }
 
@@ -106,18 +78,8 @@ pub fn with_express(x: Express, slot: Slot) -> Slot
     ensures { result ≡ with_express x slot }
 {
     match slot {
-        Slot::Empty => Slot::Empty,
-        Slot::Held(reply) => Slot::Held(reply),
         Slot::Waiting(q, _) => Slot::Waiting(q, x),
-    }
-}
-
-pub fn is_no_pair(pair: Pair) -> bool
-    ensures { result ≡ is_no_pair pair }
-{
-    match pair {
-        None => true,
-        Some((_, _, _)) => false,
+        other => other,
     }
 }
 
@@ -126,9 +88,18 @@ pub fn start_of(span: Span) -> u64
     ensures value { result ≡ start span }
     ensures upper_bound { result < number_limit }
 {
+    span.map_or(0, |(first, _)| u64::from(first.0))
+}
+
+// How many the numbers first..last are.
+pub fn width_of(span: Span) -> u64
+    requires { SpanIn span }
+    ensures value { result ≡ width span }
+    ensures result_bound { start span + result ≤ number_limit }
+{
     match span {
         None => 0,
-        Some((first, _)) => first.0 as u64,
+        Some((first, last)) => u64::from(last.0) + 1 - u64::from(first.0),
     }
 }
 
@@ -141,31 +112,23 @@ pub fn place(n: u64) -> usize
 
 // ---- first and last
 
-pub fn is_within(span: Span, n: CueNumber) -> bool
-    ensures { result ≡ within span n.0 }
+// The number is of 64 bits: that of a place may be above every cue number.
+pub fn is_within(span: Span, n: u64) -> bool
+    ensures { result ≡ within span n }
 {
-    match span {
-        None => false,
-        Some((first, last)) => (first.0 <= n.0) & (n.0 <= last.0),
-    }
+    span.is_some_and(|(first, last)| u64::from(first.0) <= n && n <= u64::from(last.0))
 }
 
 pub fn is_below(span: Span, n: CueNumber) -> bool
     ensures { result ≡ is_below span n.0 }
 {
-    match span {
-        None => false,
-        Some((first, _)) => n.0 < first.0,
-    }
+    span.is_some_and(|(first, _)| n.0 < first.0)
 }
 
 pub fn is_above(span: Span, n: CueNumber) -> bool
     ensures { result ≡ is_above span n.0 }
 {
-    match span {
-        None => false,
-        Some((_, last)) => last.0 < n.0,
-    }
+    span.is_some_and(|(_, last)| last.0 < n.0)
 }
 
 // ---- the marks of a number below a source's first original
@@ -174,10 +137,7 @@ pub fn is_above(span: Span, n: CueNumber) -> bool
 pub fn fetchable(origin: Origin, n: u32) -> bool
     ensures { result ≡ fetchable origin n }
 {
-    match origin {
-        None => false,
-        Some(first) => (n < first.0 as u32) & (first.0 as u64 <= n as u64 + KEPT),
-    }
+    origin.is_some_and(|first| n < u32::from(first.0) && u64::from(first.0) <= u64::from(n) + KEPT)
 }
 
 // Nobody tried, and nothing handed out.
@@ -191,13 +151,12 @@ pub fn no_attempt() -> Attempt
 }
 
 // What was done to fetch a number of a source: nothing where it may not be fetched.
+#[tactic(auto, unfolding(end::specs::Records::attempt_at))]
 pub fn attempt_at(s: Source, n: CueNumber) -> Attempt
     ensures { result ≡ attempt_at s n.0 }
 {
-    let origin = s.origin;
-    if fetchable(origin, n.0 as u32) {
-        let at = place(n.0 as u64);
-        s.attempts[at]
+    if fetchable(s.origin, u32::from(n.0)) {
+        s.attempts[place(u64::from(n.0))]
     } else {
         no_attempt()
     }
@@ -207,9 +166,8 @@ pub fn attempt_at(s: Source, n: CueNumber) -> Attempt
 pub fn with_attempt(s: Source, n: CueNumber, a: Attempt) -> Source
     ensures { result ≡ with_attempt s n.0 a }
 {
-    let at = place(n.0 as u64);
     let mut out = s;
-    out.attempts[at] = a;
+    out.attempts[place(u64::from(n.0))] = a;
     out
 }
 
@@ -217,7 +175,7 @@ pub fn with_attempt(s: Source, n: CueNumber, a: Attempt) -> Source
 pub fn params_small(p: Params) -> bool
     ensures { result ≡ all_of (params_tests p) }
 {
-    (p.c1 <= 32) & (p.c2 <= 32) & (p.c3 <= 32) & (p.d1 <= 32) & (p.d2 <= 32) & (p.d3 <= 32)
+    [p.c1, p.c2, p.c3, p.d1, p.d2, p.d3].iter().all(|n| *n <= 32)
 }
 
 // E is 0..1000.
@@ -231,11 +189,9 @@ pub fn delay_in(p: Params) -> bool
 pub fn moment_of(e: End) -> Moment
     ensures { result ≡ moment_of e }
 {
-    let me = e.host;
-    let params = e.params;
     Moment {
-        me,
-        params,
+        me: e.host,
+        params: e.params,
         clock: e.clock,
     }
 }
@@ -243,115 +199,26 @@ pub fn moment_of(e: End) -> Moment
 pub fn with_span(s: Source, span: Span) -> Source
     ensures { result ≡ with_span s span }
 {
-    let pair = s.pair;
-    let heard = s.heard;
-    let names = s.names;
-    let origin = s.origin;
-    let attempts = s.attempts;
-    Source {
-        span,
-        missed: s.missed,
-        pair,
-        distance: s.distance,
-        heard,
-        names,
-        origin,
-        attempts,
-    }
-}
-
-pub fn with_pair(s: Source, pair: Pair) -> Source
-    ensures { result ≡ with_pair s pair }
-{
-    let span = s.span;
-    let heard = s.heard;
-    let names = s.names;
-    let origin = s.origin;
-    let attempts = s.attempts;
-    Source {
-        span,
-        missed: s.missed,
-        pair,
-        distance: s.distance,
-        heard,
-        names,
-        origin,
-        attempts,
-    }
-}
-
-pub fn with_names(s: Source, names: [Record; 64]) -> Source
-    ensures { result ≡ with_names s names }
-{
-    let mut out = s;
-    out.names = names;
-    out
-}
-
-// The source with another first original.
-pub fn with_origin(s: Source, origin: Origin) -> Source
-    ensures { result ≡ with_origin s origin }
-{
-    let span = s.span;
-    let pair = s.pair;
-    let heard = s.heard;
-    let names = s.names;
-    let attempts = s.attempts;
-    Source {
-        span,
-        missed: s.missed,
-        pair,
-        distance: s.distance,
-        heard,
-        names,
-        origin,
-        attempts,
-    }
+    Source { span, ..s }
 }
 
 // A host was heard, and the distance to it measured.
 pub fn with_heard(s: Source, distance: u64, heard: Heard) -> Source
     ensures { result ≡ with_heard (with_distance s distance) heard }
 {
-    let span = s.span;
-    let pair = s.pair;
-    let names = s.names;
-    let origin = s.origin;
-    let attempts = s.attempts;
-    Source {
-        span,
-        missed: s.missed,
-        pair,
-        distance,
-        heard,
-        names,
-        origin,
-        attempts,
-    }
+    Source { distance, heard, ..s }
 }
 
 pub fn with_clock(e: End, clock: u64) -> End
     ensures { result ≡ with_clock e clock }
 {
-    let mut end = e;
-    end.clock = clock;
-    end
+    End { clock, ..e }
 }
 
 pub fn with_status(e: End, status: Status) -> End
     ensures { result ≡ with_status e status }
 {
-    let me = e.host;
-    let params = e.params;
-    let sources = e.sources;
-    End {
-        host: me,
-        params,
-        clock: e.clock,
-        status,
-        next: e.next,
-        sources,
-    }
+    End { status, ..e }
 }
 
 // A step that leaves its source as it was.

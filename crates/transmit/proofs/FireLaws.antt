@@ -18,6 +18,8 @@ use Rattle.end.specs.declared.Slot.TheVariants.{Empty, Held, Waiting}
 use Rattle.end.specs.declared.Record.{Record}
 use Rattle.end.specs.declared.Source.{Source}
 use Rattle.end.specs.declared.Wait.{Wait}
+use Rattle.end.specs.declared.Rank.{Rank}
+use Rattle.end.specs.declared.Rank.TheVariants.{Xprs, Rqst, Repl}
 use Rattle.end.specs.declared.Moment.{Moment}
 use Rattle.end.specs.declared.End.{End}
 use Rattle.end.specs.State.{no_source, source_at, distance_to, moment_of, with_sources, with_source, on_source}
@@ -26,7 +28,7 @@ use Rattle.end.specs.Round.{draw_count, next_round}
 use Rattle.end.specs.Names.{set_round, drop_express}
 use Rattle.end.specs.Ready.{SpanIn}
 use Rattle.end.specs.Answer.{Effect, Nothing, Step, give}
-use Rattle.end.specs.Fire.{fold_up, express_rank, request_rank, reply_rank, before, earlier, due_at, express_at, offered, earliest, kept_sender, fire_at, fired, fire_of}
+use Rattle.end.specs.Fire.{fold_up, express_rank, number_of, before, earlier, due_at, express_at, offered, earliest, kept_sender, fire_at, fired, fire_of}
 use Rattle.end.proofs.Tools.{by_cond}
 use Rattle.end.proofs.Ready.{ranges}
 use Rattle.state.specs.Settled.{Asked, Settled}
@@ -51,19 +53,19 @@ earlier-named : (best : Earliest) (w : Wait) → OfName best → Named w.name �
 earlier-named NoWait w b h = h
 earlier-named (First v) w b h = by_cond OfName (before w v) (λ t. h) (λ t. b)
 
-due-named : (name : Name) (clock rank due : ℕ) (best : Earliest) → Named name → OfName best → OfName (due_at name clock rank due best)
+due-named : (name : Name) (clock : ℕ) (rank : Rank) (due : ℕ) (best : Earliest) → Named name → OfName best → OfName (due_at name clock rank due best)
 due-named name clock rank due best h b = by_cond OfName (leb due clock) (λ t. earlier-named best _ b h) (λ t. b)
 
 express-named : (name : Name) (clock : ℕ) (x : Express) (best : Earliest) → Named name → OfName best → OfName (express_at name clock x best)
 express-named name clock Unset best h b = b
-express-named name clock (Soon due) best h b = due-named name clock express_rank due best h b
+express-named name clock (Soon due) best h b = due-named name clock Xprs due best h b
 
 offered-named : (name : Name) (clock : ℕ) (x : Slot) (best : Earliest) → Named name → OfName best → OfName (offered name clock x best)
 offered-named name clock Empty best h b = b
 offered-named name clock (Waiting q x) best h b =
-    due-named name clock request_rank q.due (express_at name clock x best) h (express-named name clock x best h b)
+    due-named name clock Rqst q.due (express_at name clock x best) h (express-named name clock x best h b)
 offered-named name clock (Held No) best h b = b
-offered-named name clock (Held (Due due requester)) best h b = due-named name clock reply_rank due best h b
+offered-named name clock (Held (Due due requester)) best h b = due-named name clock Repl due best h b
 
 number_in : (x : Span) (i : ℕ) → SpanIn x → i < width x → start x + i < number_limit
 number_in Closed i l h = absurd (omega arith)
@@ -95,19 +97,19 @@ either false x y f g e h = refl
 abbrev Sender : End → Host → Host
 Sender e h = kept_sender (source_at e h).pair
 
-slot_fired : (us : List ℕ) (rank : ℕ) (name : Name) (e : End) (x : Slot)
-    → fire_at us rank name e x
+slot_fired : (us : List ℕ) (rank : Rank) (name : Name) (e : End) (x : Slot)
+    → fire_at us (number_of rank) name e x
     ≡ give (fired_effect (moment_of e) rank name (Sender e name.source) (record_at (source_at e name.source) name.number.0).cue x)
     (on_source e name.source (fired_source (moment_of e) us rank name.number.0 (distance_to e (asker_in e.host x)) x))
 unfolding fire_at
 slot_fired us rank name e Empty = ap (give Nothing) (stays e name.source)
 slot_fired us rank name e (Waiting q x) =
-    either (eqb rank express_rank) _ _ (drop_express name.number.0) (set_round (moment_of e) us name.number.0 (next_round q.round)) e name.source
+    either (eqb (number_of rank) express_rank) _ _ (drop_express name.number.0) (set_round (moment_of e) us name.number.0 (next_round q.round)) e name.source
 slot_fired us rank name e (Held No) = ap (give Nothing) (stays e name.source)
 slot_fired us rank name e (Held (Due due requester)) = refl
 
 -- ---- the functions' results, as the code finds them one after the other
-pub record Chosen (e : End) (t : Moment) (first : Earliest) (name : Name) (rank : ℕ) (sender : Host) (r : Record) (asker : Host) : Type 0 where
+pub record Chosen (e : End) (t : Moment) (first : Earliest) (name : Name) (rank : Rank) (sender : Host) (r : Record) (asker : Host) : Type 0 where
   pub moment : t ≡ moment_of e
   pub wait : first ≡ earliest e 8
   pub named_so : name ≡ name_of first
@@ -116,7 +118,7 @@ pub record Chosen (e : End) (t : Moment) (first : Earliest) (name : Name) (rank 
   pub kept : r ≡ record_of (source_at e name.source) first
   pub asked_by : asker ≡ asker_in t.me r.slot
 
-module _ {e : End} {t : Moment} {first : Earliest} {name : Name} {rank : ℕ} {sender : Host} {r : Record} {asker : Host}
+module _ {e : End} {t : Moment} {first : Earliest} {name : Name} {rank : Rank} {sender : Host} {r : Record} {asker : Host}
     (c : Chosen e t first name rank sender r asker) where
   abbrev Kept : Record
   Kept = record_of (source_at e (name_of first).source) first

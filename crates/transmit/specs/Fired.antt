@@ -17,7 +17,9 @@ use Rattle.end.specs.Round.{next_round}
 use Rattle.end.specs.Names.{set_round, quiet_reply, drop_express}
 use Rattle.end.specs.Messages.{request_message, repair_message, express_message}
 use Rattle.end.specs.Answer.{Effect, Out, Nothing}
-use Rattle.end.specs.Fire.{express_rank, reply_rank}
+use Rattle.end.specs.declared.Rank.{Rank}
+use Rattle.end.specs.declared.Rank.TheVariants.{Repl}
+use Rattle.end.specs.Fire.{express_rank, number_of}
 
 -- the name of the earliest wait; where none waits, the first of all names
 abbrev pub name_of : Earliest → Name
@@ -25,8 +27,8 @@ name_of NoWait = record { source = as_host 0; number = as_number 0 }
 name_of (First w) = w.name
 
 -- its rank; where none waits, the last
-abbrev pub rank_of : Earliest → ℕ
-rank_of NoWait = reply_rank
+abbrev pub rank_of : Earliest → Rank
+rank_of NoWait = Repl
 rank_of (First w) = w.rank
 
 -- its record; where none waits, a blank one
@@ -42,22 +44,22 @@ asker_in me (Held No) = me
 asker_in me (Held (Due due requester)) = requester
 
 -- "A request goes out as RQST ..", and an express wait "as kind 21 .., with the sender then kept as host"
-abbrev pub asked_effect : Moment → ℕ → Name → Host → Effect
-asked_effect t rank name kept = cond (eqb rank express_rank) (Out (bytes_of (express_message t name kept))) (Out (bytes_of (request_message t name)))
+abbrev pub asked_effect : Moment → Rank → Name → Host → Effect
+asked_effect t rank name kept = cond (eqb (number_of rank) express_rank) (Out (bytes_of (express_message t name kept))) (Out (bytes_of (request_message t name)))
 
 -- ".. A reply goes out as REPL .. None due: Nothing."
-abbrev pub fired_effect : Moment → ℕ → Name → Host → List ℕ → Slot → Effect
+abbrev pub fired_effect : Moment → Rank → Name → Host → List ℕ → Slot → Effect
 fired_effect t rank name kept cue Empty = Nothing
 fired_effect t rank name kept cue (Waiting q x) = asked_effect t rank name kept
 fired_effect t rank name kept cue (Held No) = Nothing
 fired_effect t rank name kept cue (Held (Due due requester)) = Out (bytes_of (repair_message t name requester cue))
 
 -- ".. and its next round is set"; an express wait "is dropped"
-abbrev pub asked_source : Moment → List ℕ → ℕ → ℕ → Request → Source → Source
-asked_source t us rank n q s = cond (eqb rank express_rank) (drop_express n s) (set_round t us n (next_round q.round) s)
+abbrev pub asked_source : Moment → List ℕ → Rank → ℕ → Request → Source → Source
+asked_source t us rank n q s = cond (eqb (number_of rank) express_rank) (drop_express n s) (set_round t us n (next_round q.round) s)
 
 -- a reply "is dropped, and reply-quiet is set as above.": d is the distance to who asked
-abbrev pub fired_source : Moment → List ℕ → ℕ → ℕ → ℕ → Slot → Source → Source
+abbrev pub fired_source : Moment → List ℕ → Rank → ℕ → ℕ → Slot → Source → Source
 fired_source t us rank n d Empty s = s
 fired_source t us rank n d (Waiting q x) s = asked_source t us rank n q s
 fired_source t us rank n d (Held No) s = s

@@ -15,8 +15,7 @@ ghost use Rattle.transmit.specs.Announced.{announced_effect};
 ghost use Rattle.transmit.specs.Fired.{name_of, rank_of, record_of, asker_in, asked_effect, fired_effect, asked_source, fired_source};
 
 use end::{
-    Answer, Draw, EXPRESS, Earliest, End, Moment, Pair, REPLY, Record, Reply, Request, Slot,
-    Source, Span, Stepped,
+    Answer, Draw, Earliest, End, Moment, Pair, Rank, Record, Request, Slot, Source, Span, Stepped,
 };
 use message::{CueNumber, Host, Name, REPL, RQST, XPRS};
 
@@ -36,13 +35,10 @@ fn name_of(first: Earliest) -> Name
 }
 
 // Its rank; where none waits, the last, which is no express wait's.
-fn rank_of(first: Earliest) -> u8
+fn rank_of(first: Earliest) -> Rank
     ensures { result ≡ rank_of first }
 {
-    match first {
-        None => REPLY,
-        Some(w) => w.rank,
-    }
+    first.map_or(Rank::Repl, |w| w.rank)
 }
 
 // Its record; where none waits, a blank one.
@@ -80,22 +76,21 @@ fn kept_sender(pair: Pair) -> Host
 }
 
 // A cue is asked for: an express wait goes out as XPRS, which names the kept sender, and a request as RQST.
-fn put_request(t: Moment, rank: u8, name: Name, kept: Host, cue: [u8; 24], out: &mut [u8]) -> Answer
+fn put_request(t: Moment, rank: Rank, name: Name, kept: Host, out: &mut [u8]) -> Answer
     requires { room_needed ≤ length out.old }
     ensures value { result ≡ answer_of (Did (asked_effect t rank name kept)) }
     ensures out_after { out.new ≡ buffer_of (Did (asked_effect t rank name kept)) out.old }
 {
-    if rank == EXPRESS {
-        compose::put_name(XPRS, t, name, kept, 0, cue, out)
-    } else {
-        compose::put_name(RQST, t, name, t.me, 0, cue, out)
+    match rank {
+        Rank::Xprs => compose::put_name(XPRS, t, name, kept, None, out),
+        Rank::Rqst | Rank::Repl => compose::put_name(RQST, t, name, t.me, None, out),
     }
 }
 
 // What waits under a name goes out.
 fn fired_answer(
     t: Moment,
-    rank: u8,
+    rank: Rank,
     name: Name,
     kept: Host,
     cue: [u8; 24],
@@ -108,25 +103,33 @@ fn fired_answer(
 {
     match slot {
         Slot::Empty => Answer::Nothing,
-        Slot::Waiting(_, _) => put_request(t, rank, name, kept, cue, out),
+        Slot::Waiting(_, _) => put_request(t, rank, name, kept, out),
         Slot::Held(reply) => match reply {
             None => Answer::Nothing,
-            Some((_, requester)) => compose::put_name(REPL, t, name, requester, 1, cue, out),
+            Some((_, requester)) => compose::put_name(REPL, t, name, requester, Some(cue), out),
         },
     }
 }
 
 // The source once its cue was asked for: an express wait is dropped, and a request has its next round.
-fn asked_source(t: Moment, draws: &[Draw], rank: u8, n: CueNumber, q: Request, s: Source) -> Source
+fn asked_source(
+    t: Moment,
+    draws: &[Draw],
+    rank: Rank,
+    n: CueNumber,
+    q: Request,
+    s: Source,
+) -> Source
     requires ranges { Ranges t s.distance }
     requires numbered { Numbered n.0 (length draws.now) }
     ensures { result ≡ asked_source t draws.now rank n.0 q s }
 {
-    if rank == EXPRESS {
-        records::drop_express(s, n)
-    } else {
-        let k = timing::next_round(q.round);
-        records::set_round(s, t, draws, n, k)
+    match rank {
+        Rank::Xprs => records::drop_express(s, n),
+        Rank::Rqst | Rank::Repl => {
+            let k = timing::next_round(q.round);
+            records::set_round(s, t, draws, n, k)
+        }
     }
 }
 
@@ -134,7 +137,7 @@ fn asked_source(t: Moment, draws: &[Draw], rank: u8, n: CueNumber, q: Request, s
 fn fired_source(
     t: Moment,
     draws: &[Draw],
-    rank: u8,
+    rank: Rank,
     n: CueNumber,
     d: u64,
     slot: Slot,

@@ -11,24 +11,9 @@ use Rattle.compose.specs.Entries.{entries_below, with_report, with_echo}
 use Rattle.compose.proofs.EntryLaws.{reports-most, reports-more, echoes-room, echoes-more}
 use Rattle.compose.proofs.all_entries.Goals as goal
 
-pub no_report-requires : goal.no_report-requires
-no_report-requires c = tt
-
-pub no_echo-requires : goal.no_echo-requires
-no_echo-requires c = tt
-
 pub loop-h-init : goal.loop-h-init
 unfolding reports_below echoes_below
 loop-h-init c = (omega arith, (λ i. record { count = 0; places = replicate 8 (c.no_report.ensures i) }, λ i. record { count = 0; places = replicate 7 (c.no_echo.ensures i) }))
-
-pub overflow_cast-at : goal.overflow_cast-at
-overflow_cast-at c = omega arith
-
-pub offset_bounds-sources-at : goal.offset_bounds-sources-at
-offset_bounds-sources-at c = omega arith
-
-pub bounds-sources-at : goal.bounds-sources-at
-bounds-sources-at c = omega arith
 
 pub with_report-reports-requires : goal.with_report-reports-requires
 with_report-reports-requires c =
@@ -39,12 +24,6 @@ pub with_echo-echoes-requires : goal.with_echo-echoes-requires
 with_echo-echoes-requires c =
     let loop = c.loop-h in
     let h = loop.h in record { heard_bound = omega (arith, ap (λ (x : Echoes). x.count) loop.invariant.1.1, echoes-room c.args.e c.requires h (omega arith)); heard_by = c.requires.heard (as_host h) (omega arith) }
-
-pub overflow_add-h : goal.overflow_add-h
-overflow_add-h c = omega arith
-
-pub loop-h-smaller : goal.loop-h-smaller
-loop-h-smaller c = omega arith
 
 pub loop-h-preserved : goal.loop-h-preserved
 loop-h-preserved c =

@@ -5,5 +5,5 @@ use Rattle.compose.proofs.put.Goals as goal
 
 pub returns : goal.returns
 returns c =
-    let a = c.args in let it = puts (bytes_of (meaning_of a.m)) c.put_message-len.result a.out.now c.put_message-len.new.out c.put_message-len.ensures.value c.put_message-len.ensures.out_after in
+    let a = c.args in let it = puts (bytes_of (meaning_of a.m)) c.put_message.result a.out.now c.put_message.new.out c.put_message.ensures.value c.put_message.ensures.out_after in
     record { value = it.0; out_after = it.1 }

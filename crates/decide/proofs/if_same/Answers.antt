@@ -1,5 +1,22 @@
--- `decide::if_same` meets its contract: one test.
+-- `decide::if_same` meets its contract: all 24 bytes are compared, one after another.
+use mathlib.Core.Path.{◌≡◌, refl, ap}
+use Prim.Native.Nat.{ℕ}
+use mathlib.Core.Bool.{Bool, ◌&&◌}
+use mathlib.Core.List.{List, [], ◌∷◌}
+use lib.Dec.{eqb}
+use lib.Pointwise.{pointwise}
+use Rattle.end.specs.Decide.{same_cue}
 use Rattle.decide.proofs.if_same.Goals as goal
 
-pub returns : goal.returns
-returns c = rw (c.choose.ensures, c.same_cue.ensures)
+compared : (a b : List ℕ) → pointwise eqb a b ≡ same_cue a b
+unfolding same_cue
+compared [] [] = refl
+compared [] (b ∷ bs) = refl
+compared (a ∷ l) [] = refl
+compared (a ∷ l) (b ∷ bs) = ap (λ (x : Bool). eqb a b && x) (compared l bs)
+
+pub returns-then-eq : goal.returns-then-eq
+returns-then-eq c = rw (← compared c.args.w.cue c.args.r.cue, ← c.eq.ensures, c.if-eq.true)
+
+pub returns-else-eq : goal.returns-else-eq
+returns-else-eq c = rw (← compared c.args.w.cue c.args.r.cue, ← c.eq.ensures, c.if-eq.false)

@@ -1,11 +1,7 @@
 use mathlib.Core.Path.{◌≡◌}
-use Prim.Native.Nat.{◌-◌, ◌≤◌}
 use Rattle.end.specs.Fire.{earliest_name}
 use Rattle.earliest.proofs.earliest_name.Given as goal
 
 -- `earliest::earliest_name` meets its contract: after i turns the earliest of the first i numbers is found.
 abbrev pub invariant-loop-i : goal.invariant-loop-i
-invariant-loop-i l = (l.i ≤ l.count) × (l.out ≡ earliest_name l.h l.clock l.s l.initial.out l.i)
-
-abbrev pub decreases-loop-i : goal.decreases-loop-i
-decreases-loop-i l = l.count - l.i
+invariant-loop-i l = l.out ≡ earliest_name l.h l.clock l.s l.initial.out l.i

@@ -1,5 +1,5 @@
 use mathlib.Core.Path.{◌≡◌}
-use Prim.Native.Nat.{ℕ, ◌≤◌, ◌-◌}
+use Prim.Native.Nat.{ℕ}
 use mathlib.Core.Bool.{Bool}
 use mathlib.Core.List.{List}
 use lib.ListN.{get_or}
@@ -15,7 +15,4 @@ abbrev pub test_at : Host → ℕ → ℕ → Bool → List Source → ℕ → B
 test_at me next clock member sources h = source_sound me next clock member (as_host h) (get_or sources h no_source)
 
 abbrev pub invariant-loop-h : goal.invariant-loop-h
-invariant-loop-h l = (l.h ≤ 8) × (l.ok ≡ all_below (test_at l.me l.next l.clock l.member l.sources) l.h)
-
-abbrev pub decreases-loop-h : goal.decreases-loop-h
-decreases-loop-h l = 8 - l.h
+invariant-loop-h l = l.ok ≡ all_below (test_at l.me l.next l.clock l.member l.sources) l.h

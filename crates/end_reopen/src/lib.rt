@@ -22,10 +22,11 @@ const NEXT_MOST: u64 = 65536;
 fn reopened(fresh: End, clock: u64, next: u32) -> End
     ensures { result ≡ reopened_from fresh clock next }
 {
-    let mut e = fresh;
-    e.clock = clock;
-    e.next = next;
-    e
+    End {
+        clock,
+        next,
+        ..fresh
+    }
 }
 
 // The first no of questions 4 and 7, after `own`, the first no of an opening's questions (0: none).
@@ -43,28 +44,22 @@ fn refusal(own: u8, clock: u64, next: u64) -> u8
 fn refused_end(params: Params) -> End
     ensures { result ≡ fresh_end (as_host 0) house_params Crashed }
 {
-    let o = membership::opening(Host(255), params);
-    o.end
+    membership::opening(Host(255), params).end
 }
 
 pub fn reopening(me: Host, params: Params, clock: u64, next: u64) -> Opened
     ensures { result ≡ reopening_of me params clock next }
 {
     let o = membership::opening(me, params);
-    let verdict = o.verdict;
-    let fresh = o.end;
-    let own = message::number_of(verdict);
-    let q = refusal(own, clock, next);
+    let q = refusal(message::number_of(o.verdict), clock, next);
     if q == 0 {
-        let end = reopened(fresh, clock, next as u32);
         return Opened {
             verdict: Verdict::Accepted,
-            end,
+            end: reopened(o.end, clock, next as u32),
         };
     }
-    let end = refused_end(params);
     Opened {
         verdict: Verdict::Refused(q),
-        end,
+        end: refused_end(params),
     }
 }

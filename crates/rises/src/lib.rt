@@ -9,32 +9,12 @@ ghost use Rattle.message.specs.Limit.{number_limit};
 ghost use Rattle.end.specs.Records.{is_held, raw_at};
 ghost use Rattle.end.specs.Round.{draw_count};
 ghost use Rattle.end.specs.Names.{expressed, asked, filled, lacks, lacking, rise_with, rise, rise_by_data};
+ghost use Rattle.end.specs.Parts.{Open};
 ghost use Rattle.end.specs.Ready.{Ranges, Numbered};
 ghost use Rattle.state.specs.Counted.{Counted};
 
-use end::{Draw, Express, KEPT, Moment, Record, Slot, Source, Span};
+use end::{Draw, Express, KEPT, Moment, Record, Slot, Source};
 use message::CueNumber;
-
-// ---- numbers
-
-fn greater(a: u64, b: u64) -> u64
-    ensures { result ≡ max a b }
-{
-    if a < b { b } else { a }
-}
-
-fn lesser(a: u64, b: u64) -> u64
-    ensures { result ≡ min a b }
-{
-    if a < b { a } else { b }
-}
-
-// How far a is above b, 0 where it is not.
-fn above(a: u64, b: u64) -> u64
-    ensures { result ≡ a - b }
-{
-    if a < b { 0 } else { a - b }
-}
 
 // ---- what is retired
 
@@ -43,7 +23,7 @@ fn lack(slot: Slot) -> u64
     ensures value { result ≡ lacks (is_held slot) }
     ensures upper_bound { result ≤ 1 }
 {
-    if state::is_held(slot) { 0 } else { 1 }
+    u64::from(!state::is_held(slot))
 }
 
 // How many of the numbers from `from` on, below `to`, have no cue in their places.
@@ -53,13 +33,8 @@ fn count_lacking(names: [Record; 64], from: u64, to: u64) -> u64
     ensures upper_bound { result ≤ number_limit }
 {
     let mut count = 0;
-    let mut i = from;
-    while i < to {
-        let at = state::place(i);
-        let r = names[at];
-        let slot = r.slot;
-        count += lack(slot);
-        i += 1;
+    for i in from..to {
+        count += lack(names[state::place(i)].slot);
     }
     count
 }
@@ -95,14 +70,8 @@ fn request_all(
     ensures { result ≡ filled (λ m. expressed x (asked t draws.now d m)) (to - from) from names }
 {
     let mut out = names;
-    let mut i = from;
-    while i < to {
-        let k = i as u16;
-        let n = CueNumber(k);
-        let r = fresh_record(t, draws, d, x, n);
-        let at = state::place(i);
-        out[at] = r;
-        i += 1;
+    for i in from..to {
+        out[state::place(i)] = fresh_record(t, draws, d, x, CueNumber(i as u16));
     }
     out
 }
@@ -120,38 +89,30 @@ fn risen(
     last: CueNumber,
     n: CueNumber,
 ) -> Source
-    requires missed_lt_number_limit { (s.missed < number_limit) × (s.span ≡ Span.Open first last) }
+    requires missed_lt_number_limit { (s.missed < number_limit) × (s.span ≡ Open first last) }
     requires ranges { Ranges t s.distance }
     requires numbered { Numbered n.0 (length draws.now) }
-    ensures { result ≡ rise_with (λ m. expressed x (asked t draws.now s.distance m)) n.0 s (Span.Open first last) }
+    ensures { result ≡ rise_with (λ m. expressed x (asked t draws.now s.distance m)) n.0 s (Open first last) }
 {
     let names = s.names;
     let low = first.0 as u64;
     let next = last.0 as u64 + 1;
-    let l = greater(last.0 as u64, n.0 as u64);
-    let floor = above(l, KEPT - 1);
-    let lo = greater(low, floor);
-    let old = lesser(lo, next);
-    let new = greater(lo, next);
+    let l = (last.0 as u64).max(n.0 as u64);
+    let floor = l.saturating_sub(KEPT - 1);
+    let lo = low.max(floor);
+    let old = lo.min(next);
+    let new = lo.max(next);
     let lacked = count_lacking(names, low, old);
-    let passed = above(lo, next);
+    let passed = lo.saturating_sub(next);
     let renewed = request_all(names, t, draws, s.distance, x, new, l + 1);
     let lowest = lo as u16;
     let highest = l as u16;
     let missed = s.missed + lacked as u32 + passed as u32;
-    let pair = s.pair;
-    let heard = s.heard;
-    let origin = s.origin;
-    let attempts = s.attempts;
     Source {
         span: Some((CueNumber(lowest), CueNumber(highest))),
         missed,
-        pair,
-        distance: s.distance,
-        heard,
         names: renewed,
-        origin,
-        attempts,
+        ..s
     }
 }
 
@@ -162,8 +123,7 @@ fn rise_with(s: Source, t: Moment, draws: &[Draw], x: Express, n: CueNumber) -> 
     requires counted { Counted s }
     ensures { result ≡ rise_with (λ m. expressed x (asked t draws.now s.distance m)) n.0 s s.span }
 {
-    let span = s.span;
-    match span {
+    match s.span {
         None => s,
         Some((first, last)) => risen(s, t, draws, x, first, last, n),
     }
@@ -186,7 +146,6 @@ pub fn rise_by_data(s: Source, t: Moment, draws: &[Draw], n: CueNumber) -> Sourc
     requires counted { Counted s }
     ensures { result ≡ rise_by_data t draws.now n.0 s s.span }
 {
-    let pair = s.pair;
-    let x = records::express_by_data(t, pair);
+    let x = records::express_by_data(t, s.pair);
     rise_with(s, t, draws, x, n)
 }

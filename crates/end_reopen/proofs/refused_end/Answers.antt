@@ -5,4 +5,4 @@ use Rattle.end_reopen.proofs.refused_end.Goals as goal
 
 -- `end_reopen::refused_end` meets its contract: host 255 is refused.
 pub returns : goal.returns
-returns c = ap (λ (o : Opened). o.end) c.opening-o.ensures ∙ no_host _
+returns c = ap (λ (o : Opened). o.end) c.opening.ensures ∙ no_host _

@@ -9,35 +9,17 @@ use Rattle.rises.proofs.count_lacking.Goals as goal
 pub loop-i-init : goal.loop-i-init
 loop-i-init c = refl
 
-pub place-at-requires : goal.place-at-requires
-place-at-requires c = tt
-
-pub offset_bounds-names-at : goal.offset_bounds-names-at
-offset_bounds-names-at c = omega arith
-
-pub bounds-names-at : goal.bounds-names-at
-bounds-names-at c = omega arith
-
-pub lack-count-requires : goal.lack-count-requires
-lack-count-requires c = tt
-
 pub overflow_add-count : goal.overflow_add-count
 overflow_add-count c =
     let a = c.args in
     omega (arith, c.loop-i.invariant, lacking-most (held_in_lem a.names) (a.to - a.from) a.from, c.lack-count.ensures.upper_bound)
-
-pub overflow_add-i : goal.overflow_add-i
-overflow_add-i c = omega arith
-
-pub loop-i-smaller : goal.loop-i-smaller
-loop-i-smaller c = omega arith
 
 pub loop-i-preserved : goal.loop-i-preserved
 loop-i-preserved c =
     let a = c.args in
     let l = c.loop-i in
     let more = lacking-more (held_in_lem a.names) a.to l.i (omega arith) in
-    rw (c.lack-count.ensures.value, c.place-at.ensures) (omega (arith, more, l.invariant))
+    rw (c.lack-count.ensures.value, c.place.ensures) (omega (arith, more, l.invariant))
 
 pub returns : goal.returns
 returns c =

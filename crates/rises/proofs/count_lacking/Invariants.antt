@@ -13,6 +13,3 @@ held_in_lem names m = is_held (raw_at names m).slot
 
 abbrev pub invariant-loop-i : goal.invariant-loop-i
 invariant-loop-i l = l.count + lacking (held_in_lem l.names) (l.to - l.i) l.i ≡ l.initial.count + lacking (held_in_lem l.names) (l.to - l.initial.i) l.initial.i
-
-abbrev pub decreases-loop-i : goal.decreases-loop-i
-decreases-loop-i l = l.to - l.i

@@ -14,6 +14,3 @@ new t draws d x m = expressed x (asked t draws d m)
 
 abbrev pub invariant-loop-i : goal.invariant-loop-i
 invariant-loop-i l = filled (new l.t l.draws l.d l.x) (l.to - l.i) l.i l.out ≡ filled (new l.t l.draws l.d l.x) (l.to - l.initial.i) l.initial.i l.initial.out
-
-abbrev pub decreases-loop-i : goal.decreases-loop-i
-decreases-loop-i l = l.to - l.i

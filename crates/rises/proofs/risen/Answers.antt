@@ -36,47 +36,29 @@ sum_fits m x small most = omega arith
 sums_fit : (m x y : ℕ) → m < number_limit → x ≤ number_limit → y ≤ number_limit → Fits w32 (m + x + y)
 sums_fit m x y small most rest = omega arith
 
-pub greater-l-requires : goal.greater-l-requires
-greater-l-requires c = tt
-
-pub above-floor-requires : goal.above-floor-requires
-above-floor-requires c = tt
-
-pub greater-lo-requires : goal.greater-lo-requires
-greater-lo-requires c = tt
-
-pub lesser-old-requires : goal.lesser-old-requires
-lesser-old-requires c = tt
-
-pub greater-new-requires : goal.greater-new-requires
-greater-new-requires c = tt
-
 pub count_lacking-lacked-requires : goal.count_lacking-lacked-requires
 count_lacking-lacked-requires c =
-    let lowest : c.greater-lo.result < number_limit = omega arith in
-    least-most _ _ _ c.lesser-old.ensures lowest
-
-pub above-passed-requires : goal.above-passed-requires
-above-passed-requires c = tt
+    let lowest : c.max-lo.result < number_limit = omega arith in
+    least-most _ _ _ c.min-old.ensures lowest
 
 pub overflow_add-l : goal.overflow_add-l
 overflow_add-l c =
-    let highest : c.greater-l.result < number_limit = omega arith in
+    let highest : c.max-l.result < number_limit = omega arith in
     next_fits _ _ refl highest
 
 pub request_all-renewed-requires : goal.request_all-renewed-requires
 request_all-renewed-requires c =
-    let highest : c.greater-l.result < number_limit = omega arith in
+    let highest : c.max-l.result < number_limit = omega arith in
     record { ranges = c.requires.ranges; draws_len = (c.requires.numbered.draws_in, next-most _ _ refl highest) }
 
 pub overflow_cast-lowest : goal.overflow_cast-lowest
 overflow_cast-lowest c =
-    let lowest : c.greater-lo.result < number_limit = omega arith in
+    let lowest : c.max-lo.result < number_limit = omega arith in
     record { fits = lowest }
 
 pub overflow_cast-highest : goal.overflow_cast-highest
 overflow_cast-highest c =
-    let highest : c.greater-l.result < number_limit = omega arith in
+    let highest : c.max-l.result < number_limit = omega arith in
     record { fits = highest }
 
 pub overflow_cast-missed : goal.overflow_cast-missed
@@ -88,19 +70,19 @@ overflow_add-missed c =
 
 pub overflow_cast-missed-2 : goal.overflow_cast-missed-2
 overflow_cast-missed-2 c =
-    let lowest : c.greater-lo.result < number_limit = omega arith in
-    let passed-most : c.above-passed.result ≤ number_limit = rest-most _ _ _ c.above-passed.ensures lowest in
+    let lowest : c.max-lo.result < number_limit = omega arith in
+    let passed-most : c.saturating_sub-passed.result ≤ number_limit = rest-most _ _ _ c.saturating_sub-passed.ensures lowest in
     most-fits _ passed-most
 
 pub overflow_add-missed-2 : goal.overflow_add-missed-2
 overflow_add-missed-2 c =
-    let lowest : c.greater-lo.result < number_limit = omega arith in
-    let passed-most : c.above-passed.result ≤ number_limit = rest-most _ _ _ c.above-passed.ensures lowest in
+    let lowest : c.max-lo.result < number_limit = omega arith in
+    let passed-most : c.saturating_sub-passed.result ≤ number_limit = rest-most _ _ _ c.saturating_sub-passed.ensures lowest in
     sums_fit _ _ _ c.requires.missed_lt_number_limit.0 c.count_lacking-lacked.ensures.upper_bound passed-most
 
 pub returns : goal.returns
 returns c =
     let a = c.args in
     all-risen (λ m. expressed a.x (asked a.t a.draws.now a.s.distance m)) a.n.0 a.s a.first a.last c.requires.missed_lt_number_limit.1
-    c.greater-l.ensures c.above-floor.ensures c.greater-lo.ensures c.lesser-old.ensures c.greater-new.ensures
-    c.count_lacking-lacked.ensures.value c.above-passed.ensures c.request_all-renewed.ensures
+    c.max-l.ensures c.saturating_sub-floor.ensures c.max-lo.ensures c.min-old.ensures c.max-new.ensures
+    c.count_lacking-lacked.ensures.value c.saturating_sub-passed.ensures c.request_all-renewed.ensures

@@ -5,6 +5,8 @@ use Rattle.std.specs.Prelude.{ℕ, zero, suc, List, [], ◌∷◌, ◌++◌, leb
 use Rattle.message.specs.declared.Host.{Host}
 use Rattle.message.specs.Entry.{as_host}
 use Rattle.message.specs.Limit.{number_limit}
+use Rattle.message.specs.declared.Verdict.{Verdict}
+use Rattle.message.specs.declared.Verdict.TheVariants.{Accepted, Probe, Refused}
 use Rattle.message.specs.Question.{Question, ask, first_no, ticks_in, verdict_for}
 use Rattle.end.specs.declared.Params.{Params}
 use Rattle.end.specs.declared.Status.TheVariants.{Crashed}
@@ -19,6 +21,12 @@ reopen_questions me p clock next = open_questions me p ++ (ask (ticks_in clock) 
 
 unfoldable pub reopen_refusal : Host → Params → ℕ → ℕ → ℕ
 reopen_refusal me p clock next = first_no (reopen_questions me p clock next)
+
+-- what an opening's own verdict becomes by the two questions after them
+abbrev pub verdict_with : Verdict → ℕ → ℕ → Verdict
+verdict_with Accepted clock next = verdict_for (first_no (ask (ticks_in clock) 4 ∷ ask (leb next number_limit) 7 ∷ []))
+verdict_with Probe clock next = Probe
+verdict_with (Refused k) clock next = Refused k
 
 abbrev pub reopened_for : ℕ → Host → Params → ℕ → ℕ → End
 reopened_for zero me p clock next = reopened me p clock next

@@ -2,15 +2,13 @@
 // Reopening (the questions, and what is given). What it equals, the state that Leave and Left leave, is proofs/ReopenLaws.antt.
 #![tactic(auto)]
 
-ghost use Rattle.std.specs.Prelude.{◌≡◌, cond, eqb, leb};
-ghost use Rattle.message.specs.Limit.{number_limit};
-ghost use Rattle.message.specs.Question.{ticks_in};
+ghost use Rattle.std.specs.Prelude.{◌≡◌};
 ghost use Rattle.message.specs.Entry.{as_host};
 ghost use Rattle.end.specs.declared.Status.TheVariants.{Crashed};
 ghost use Rattle.end.specs.State.{fresh_end};
 ghost use Rattle.end.specs.Opening.{house_params};
 ghost use Rattle.end_reopen.specs.Reopen.{reopened_from};
-ghost use Rattle.end_reopen.specs.Reopening.{reopening_of};
+ghost use Rattle.end_reopen.specs.Reopening.{verdict_with, reopening_of};
 
 use end::{End, Opened, Params};
 use message::{Host, TICKS_LIMIT, Verdict};
@@ -29,15 +27,15 @@ fn reopened(fresh: End, clock: u64, next: u32) -> End
     }
 }
 
-// The first no of questions 4 and 7, after `own`, the first no of an opening's questions (0: none).
-fn refusal(own: u8, clock: u64, next: u64) -> u8
-    ensures { result ≡ cond (eqb own 0) (cond (ticks_in clock) (cond (leb next number_limit) 0 7) 4) own }
+// The verdict of an opening's own questions, then of questions 4 and 7.
+fn verdict_with(own: Verdict, clock: u64, next: u64) -> Verdict
+    ensures { result ≡ verdict_with own clock next }
 {
-    if own == 0 {
-        let seven = message::asked(next <= NEXT_MOST, 7, 0);
-        return message::asked(clock < TICKS_LIMIT, 4, seven);
+    match own {
+        Verdict::Accepted if TICKS_LIMIT <= clock => Verdict::Refused(4),
+        Verdict::Accepted if NEXT_MOST < next => Verdict::Refused(7),
+        _ => own,
     }
-    own
 }
 
 // What a refused opening gives: that of host 255, which there is not.
@@ -51,15 +49,14 @@ pub fn reopening(me: Host, params: Params, clock: u64, next: u64) -> Opened
     ensures { result ≡ reopening_of me params clock next }
 {
     let o = membership::opening(me, params);
-    let q = refusal(message::number_of(o.verdict), clock, next);
-    if q == 0 {
-        return Opened {
+    match verdict_with(o.verdict, clock, next) {
+        Verdict::Accepted => Opened {
             verdict: Verdict::Accepted,
             end: reopened(o.end, clock, next as u32),
-        };
-    }
-    Opened {
-        verdict: Verdict::Refused(q),
-        end: refused_end(params),
+        },
+        refused => Opened {
+            verdict: refused,
+            end: refused_end(params),
+        },
     }
 }

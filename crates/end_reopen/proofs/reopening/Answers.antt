@@ -6,14 +6,14 @@ use Rattle.end_reopen.proofs.reopening.Goals as goal
 pub overflow_cast-next : goal.overflow_cast-next
 overflow_cast-next c =
     let a = c.args in
-    omega (arith, next_fits a.me a.params a.clock a.next c.opening-o.result _ _ c.opening-o.ensures c.number_of.ensures c.refusal-q.ensures c.if-q-eq0.true)
+    omega (arith, next_fits a.me a.params a.clock a.next c.opening-o.result _ c.opening-o.ensures c.verdict_with.ensures c.in-Accepted.is)
 
-pub returns-then-q-eq0 : goal.returns-then-q-eq0
-returns-then-q-eq0 c =
+pub returns-in-Accepted : goal.returns-in-Accepted
+returns-in-Accepted c =
     let a = c.args in
-    accepted a.me a.params a.clock a.next c.opening-o.result _ _ c.opening-o.ensures c.number_of.ensures c.refusal-q.ensures _ c.if-q-eq0.true c.reopened.ensures
+    accepted a.me a.params a.clock a.next c.opening-o.result _ c.opening-o.ensures c.verdict_with.ensures _ c.in-Accepted.is c.reopened.ensures
 
-pub returns : goal.returns
-returns c =
+pub returns-in_default : goal.returns-in_default
+returns-in_default c =
     let a = c.args in
-    refused a.me a.params a.clock a.next c.opening-o.result _ _ c.opening-o.ensures c.number_of.ensures c.refusal-q.ensures _ c.if-q-eq0.false c.refused_end.ensures
+    refused a.me a.params a.clock a.next c.opening-o.result _ c.opening-o.ensures c.verdict_with.ensures _ c.in_default.not-Accepted c.refused_end.ensures

@@ -11,51 +11,99 @@ ghost use Rattle.end.specs.Why.{because};
 
 use end::{Decision, Moment, Reason, Record, Reply, Says, Slot, Span, Why, Word};
 
-// Of a held cue: this where the message has the same bytes, and a clash where it has others.
-fn if_same(w: Word, r: Record, decided: Decision) -> Decision
-    ensures { result ≡ if_same w r decided }
-{
-    if w.cue == r.cue {
-        decided
-    } else {
-        Decision::Clashes
-    }
+// What is decided on: the member's moment, what the message says, and of the source the name's record and first and last.
+#[derive(Clone, Copy)]
+struct Case {
+    t: Moment,
+    w: Word,
+    r: Record,
+    span: Span,
 }
 
-// DATA.
-#[tactic(auto, unfolding(end::specs::Decide::decide_data))]
-fn decide_data(w: Word, r: Record, span: Span) -> Decision
-    ensures { result ≡ decide_data w r span }
-{
-    let Some((first, _)) = span else {
-        return Decision::Opens;
-    };
-    if w.name.number.0 < first.0 {
-        return Decision::Ignores(Reason::BelowFirst);
+impl Case {
+    // Of a held cue: this where the message has the same bytes, and a clash where it has others.
+    fn if_same(self, decided: Decision) -> Decision
+        ensures { result ≡ if_same self.w self.r decided }
+    {
+        if self.w.cue == self.r.cue {
+            decided
+        } else {
+            Decision::Clashes
+        }
     }
-    if state::is_held(r.slot) {
-        if_same(w, r, Decision::Ignores(Reason::AlreadyHeld))
-    } else {
-        Decision::Takes
-    }
-}
 
-// The first line of RQST, REPL and XPRS.
-#[tactic(auto, unfolding(end::specs::Decide::reached))]
-fn reached(t: Moment, w: Word, span: Span, otherwise: Decision) -> Decision
-    ensures { result ≡ reached t w span otherwise }
-{
-    let Some((first, last)) = span else {
-        return Decision::Ignores(Reason::NotOpen);
-    };
-    let n = w.name.number;
-    if n.0 < first.0 {
-        return Decision::Ignores(Reason::BelowFirst);
+    #[tactic(auto, unfolding(end::specs::Decide::decide_data))]
+    fn decide_data(self) -> Decision
+        ensures { result ≡ decide_data self.w self.r self.span }
+    {
+        let Some((first, _)) = self.span else {
+            return Decision::Opens;
+        };
+        if self.w.name.number.0 < first.0 {
+            return Decision::Ignores(Reason::BelowFirst);
+        }
+        if state::is_held(self.r.slot) {
+            self.if_same(Decision::Ignores(Reason::AlreadyHeld))
+        } else {
+            Decision::Takes
+        }
     }
-    if w.name.source.0 == t.me.0 && last.0 < n.0 {
-        return Decision::Ignores(Reason::OwnAboveLast);
+
+    // The first line of RQST, REPL and XPRS.
+    #[tactic(auto, unfolding(end::specs::Decide::reached))]
+    fn reached(self, otherwise: Decision) -> Decision
+        ensures { result ≡ reached self.t self.w self.span otherwise }
+    {
+        let Some((first, last)) = self.span else {
+            return Decision::Ignores(Reason::NotOpen);
+        };
+        let name = self.w.name;
+        if name.number.0 < first.0 {
+            return Decision::Ignores(Reason::BelowFirst);
+        }
+        if name.source.0 == self.t.me.0 && last.0 < name.number.0 {
+            return Decision::Ignores(Reason::OwnAboveLast);
+        }
+        otherwise
     }
-    otherwise
+
+    // RQST, past its first line.
+    #[tactic(auto, unfolding(end::specs::Decide::decide_request))]
+    fn decide_request(self) -> Decision
+        ensures { result ≡ decide_request self.t self.w self.r self.span }
+    {
+        if let Slot::Held(reply) = self.r.slot {
+            return decide_reply(self.t, reply, self.r.hush);
+        }
+        if state::is_above(self.span, self.w.name.number) {
+            return Decision::Learns;
+        }
+        decide_round(self.t, self.r.slot)
+    }
+
+    // XPRS, past its first line: the named sender answers at once, if it holds the cue and is not quiet; otherwise it is a RQST.
+    #[tactic(auto, unfolding(end::specs::Decide::decide_express))]
+    fn decide_express(self) -> Decision
+        ensures { result ≡ decide_express self.t self.w self.r self.span }
+    {
+        if self.w.host.0 == self.t.me.0 && state::is_held(self.r.slot) && self.r.hush <= self.t.clock
+        {
+            return Decision::Expresses;
+        }
+        self.decide_request()
+    }
+
+    // REPL, past its first line.
+    #[tactic(auto, unfolding(end::specs::Decide::decide_repair))]
+    fn decide_repair(self) -> Decision
+        ensures { result ≡ decide_repair self.w self.r }
+    {
+        if state::is_held(self.r.slot) {
+            self.if_same(Decision::Hushes)
+        } else {
+            Decision::Repairs
+        }
+    }
 }
 
 // RQST of a held cue.
@@ -83,53 +131,17 @@ fn decide_round(t: Moment, slot: Slot) -> Decision
     }
 }
 
-// RQST, past its first line.
-#[tactic(auto, unfolding(end::specs::Decide::decide_request))]
-fn decide_request(t: Moment, w: Word, r: Record, span: Span) -> Decision
-    ensures { result ≡ decide_request t w r span }
-{
-    if let Slot::Held(reply) = r.slot {
-        return decide_reply(t, reply, r.hush);
-    }
-    if state::is_above(span, w.name.number) {
-        return Decision::Learns;
-    }
-    decide_round(t, r.slot)
-}
-
-// XPRS, past its first line: the named sender answers at once, if it holds the cue and is not quiet; otherwise it is a RQST.
-#[tactic(auto, unfolding(end::specs::Decide::decide_express))]
-fn decide_express(t: Moment, w: Word, r: Record, span: Span) -> Decision
-    ensures { result ≡ decide_express t w r span }
-{
-    if w.host.0 == t.me.0 && state::is_held(r.slot) && r.hush <= t.clock {
-        return Decision::Expresses;
-    }
-    decide_request(t, w, r, span)
-}
-
-// REPL, past its first line.
-#[tactic(auto, unfolding(end::specs::Decide::decide_repair))]
-fn decide_repair(w: Word, r: Record) -> Decision
-    ensures { result ≡ decide_repair w r }
-{
-    if state::is_held(r.slot) {
-        if_same(w, r, Decision::Hushes)
-    } else {
-        Decision::Repairs
-    }
-}
-
 // What a member decides on a message about a name, of which it has this record in a source with this first and last.
 #[tactic(auto, unfolding(end::specs::Decide::decide_as))]
 pub fn decide(t: Moment, w: Word, r: Record, span: Span) -> Decision
     ensures { result ≡ decide_as w.says t w r span }
 {
+    let case = Case { t, w, r, span };
     match w.says {
-        Says::Data => decide_data(w, r, span),
-        Says::Rqst => reached(t, w, span, decide_request(t, w, r, span)),
-        Says::Repl => reached(t, w, span, decide_repair(w, r)),
-        Says::Xprs => reached(t, w, span, decide_express(t, w, r, span)),
+        Says::Data => case.decide_data(),
+        Says::Rqst => case.reached(case.decide_request()),
+        Says::Repl => case.reached(case.decide_repair()),
+        Says::Xprs => case.reached(case.decide_express()),
     }
 }
 

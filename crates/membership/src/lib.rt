@@ -132,7 +132,8 @@ pub fn may_move(m: Move, status: Status) -> bool
     }
 }
 
-fn moves_to(m: Move) -> Status
+// To which status a move leads.
+pub fn moves_to(m: Move) -> Status
     ensures { result ≡ moves_to m }
 {
     match m {

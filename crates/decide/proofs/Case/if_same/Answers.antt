@@ -1,4 +1,4 @@
--- `decide::if_same` meets its contract: all 24 bytes are compared, one after another.
+-- `decide::Case::if_same` meets its contract: all 24 bytes are compared, one after another.
 use mathlib.Core.Path.{◌≡◌, refl, ap}
 use Prim.Native.Nat.{ℕ}
 use mathlib.Core.Bool.{Bool, ◌&&◌}
@@ -6,7 +6,7 @@ use mathlib.Core.List.{List, [], ◌∷◌}
 use lib.Dec.{eqb}
 use lib.Pointwise.{pointwise}
 use Rattle.end.specs.Decide.{same_cue}
-use Rattle.decide.proofs.if_same.Goals as goal
+use Rattle.decide.proofs.Case.if_same.Goals as goal
 
 compared : (a b : List ℕ) → pointwise eqb a b ≡ same_cue a b
 unfolding same_cue
@@ -16,7 +16,7 @@ compared (a ∷ l) [] = refl
 compared (a ∷ l) (b ∷ bs) = ap (λ (x : Bool). eqb a b && x) (compared l bs)
 
 pub returns-then-eq : goal.returns-then-eq
-returns-then-eq c = rw (← compared c.args.w.cue c.args.r.cue, ← c.eq.ensures, c.if-eq.true)
+returns-then-eq c = rw (← compared c.args.self.w.cue c.args.self.r.cue, ← c.eq.ensures, c.if-eq.true)
 
 pub returns-else-eq : goal.returns-else-eq
-returns-else-eq c = rw (← compared c.args.w.cue c.args.r.cue, ← c.eq.ensures, c.if-eq.false)
+returns-else-eq c = rw (← compared c.args.self.w.cue c.args.self.r.cue, ← c.eq.ensures, c.if-eq.false)

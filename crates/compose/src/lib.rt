@@ -15,6 +15,7 @@ use end::{Answer, End, Heard, Moment, Span};
 use message::{ANNC, Counts, CueNumber, Echo, Host, Message, Name, NameEntry, Report, SESS};
 
 // Reports in their places, and how many there are.
+// Kept: (a) no heap: these are the places and the counts of a message (`message::Message`), whose layout the writer reads; so are the echoes.
 #[derive(Clone, Copy)]
 pub struct Reports {
     pub count: usize,

@@ -41,6 +41,7 @@ fn count_lacking(names: [Record; 64], from: u64, to: u64) -> u64
 
 // ---- what is new
 
+// Kept: (d) the moment is a value and the draws are lent by the call: a struct of both would be built anew, with a lifetime, in every caller.
 // What an end keeps of a new number: round 1, with the distance d to the source, and this express wait beside it.
 fn fresh_record(t: Moment, draws: &[Draw], d: u64, x: Express, n: CueNumber) -> Record
     requires ranges { Ranges t d }

@@ -17,7 +17,7 @@ use Rattle.message.specs.Limit.{number_limit, ticks_limit}
 use Rattle.message.specs.declared.Host.{Host}
 use Rattle.message.specs.declared.HostRule.TheVariants.{SourceAndSender}
 use Rattle.message.specs.declared.CueNumber.{CueNumber}
-use Rattle.message.specs.Kind.{row_of}
+use Rattle.message.specs.Kind.{row_at}
 use Rattle.message.specs.declared.Name.{Name}
 use Rattle.message.specs.declared.Verdict.TheVariants.{Accepted}
 use Rattle.message.specs.Section.{all, rises}
@@ -147,7 +147,7 @@ module _ (d : Display) (m : Meaning)
       ∙ (λ i. cond (cue_test i) (some (max w.trail.0 (n - 63), max w.lead.0 n)) (cond (tells_test i) (edges_of (raised n (lead_in m) (p i))) (edges_of (p i))))
 
 -- what the questions leave: a DATA and a kind 24 name the host that sent them
-names-own : (b : ℕ) (s : List ℕ) (sender : Host) (k : ℕ) → (row_of k).host ≡ SourceAndSender → 0 < (row_of k).names → first_no (message_questions (b ∷ s)) ≡ 0
+names-own : (b : ℕ) (s : List ℕ) (sender : Host) (k : ℕ) → (row_at k).host ≡ SourceAndSender → 0 < (row_at k).names → first_no (message_questions (b ∷ s)) ≡ 0
     → let m = meaning_from (b ∷ s) in
     eqb m.kind k ≡ true → same_host m.sender sender ≡ is_of sender m
 names-own b s sender k rule some-name h e =

@@ -14,7 +14,7 @@ use Rattle.message.specs.Entry.{blank_name}
 use Rattle.message.specs.Message.{DATA, RQST, REPL, SESS, XPRS, FTCH, LATE, ANNC, is_old, kind_of, number_width, most_number, Meaning, meaning_from, bytes_of, counts_of}
 use Rattle.message.specs.Question.{ask, first_no, message_questions, meaning_questions, kind_has_counts, in_range, hosts_fit, host_in, number_in, ticks_in, name_in, report_in, rule_holds, host_fits, same_host, read_refusal}
 use Rattle.message.specs.declared.NameEntry.{NameEntry}
-use Rattle.message.specs.Kind.{row_of}
+use Rattle.message.specs.Kind.{row_at}
 use Rattle.message.specs.declared.HostRule.{HostRule}
 use Rattle.message.specs.declared.HostRule.TheVariants.{SourceAndSender}
 use Rattle.message.specs.declared.Host.{Host}
@@ -74,7 +74,7 @@ all_first p [] d h k = k
 all_first p (a ∷ l) d h k = (and_both (p a) (all p l) h).0
 
 -- a DATA and an ANNC have a name, whose host is its source and its sender
-sender-source : (kind : ℕ) → (row_of kind).host ≡ SourceAndSender → (sender : Host) (l : List NameEntry) → 0 < length l
+sender-source : (kind : ℕ) → (row_at kind).host ≡ SourceAndSender → (sender : Host) (l : List NameEntry) → 0 < length l
     → all (host_fits kind sender) l ≡ true → sender.0 ≡ (get_or l 0 blank_name).name.source.0
 unfolding all
 sender-source kind rule sender [] n h = absurd (omega arith)
@@ -118,7 +118,7 @@ module _ (x : List ℕ) (m : Meaning) (p : read_as x ≡ some m) where
       (and_both (all (report_in 65535) m.reports) _ c).0
 
   -- the source that such a message names first is its sender
-  pub own-source : (k : ℕ) → (row_of k).host ≡ SourceAndSender → 0 < (row_of k).names → eqb m.kind k ≡ true → m.sender.0 ≡ source m
+  pub own-source : (k : ℕ) → (row_at k).host ≡ SourceAndSender → 0 < (row_at k).names → eqb m.kind k ≡ true → m.sender.0 ≡ source m
   unfolding hosts_fit
   own-source k rule some-name same =
       let kind : m.kind ≡ k = eqb-true m.kind k same in

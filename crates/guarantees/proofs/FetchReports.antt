@@ -14,7 +14,7 @@ use Rattle.numbers.proofs.BitLaws.{bit-none, bit_with, bit-other}
 use Rattle.message.specs.declared.Host.{Host}
 use Rattle.message.specs.declared.Report.{Report as Reported}
 use Rattle.message.specs.Entry.{as_host}
-use Rattle.message.specs.Kind.{row_of}
+use Rattle.message.specs.Kind.{is_kind}
 use Rattle.message.specs.Message.{DATA, RQST, REPL, SESS, FTCH, Meaning, meaning_from, counts_of}
 use Rattle.message.specs.Question.{same_host, first_no, read_questions, read_refusal}
 use Rattle.message.proofs.QuestionLaws.{and_both, counted as counted-row}
@@ -115,7 +115,7 @@ other-heard us (Fetch name) e h = fetch-cases (SameHeard h e) name e refl refl
 
 -- a session message of host h
 module _ (m : Meaning) (h : ℕ) where
-  is-session : (row_of m.kind).known ≡ true → is_session_of m h ≡ true → (m.kind ≡ SESS) × (m.sender.0 ≡ h)
+  is-session : is_kind m.kind ≡ true → is_session_of m h ≡ true → (m.kind ≡ SESS) × (m.sender.0 ≡ h)
   unfolding is_session_of
   is-session known t =
       let unheeded = is_fetched m || is_announced m in
@@ -149,7 +149,7 @@ session-step : (us : List ℕ) (m : Meaning) (e : End) → m.kind ≡ SESS → m
 unfolding message_step
 session-step us m e k = rw k
 
-module _ (us : List ℕ) (m : Meaning) (e : End) (f : SoundState e) (hm : source m < 8) (known : (row_of m.kind).known ≡ true) (h s : ℕ) (hh : h < 8) where
+module _ (us : List ℕ) (m : Meaning) (e : End) (f : SoundState e) (hm : source m < 8) (known : is_kind m.kind ≡ true) (h s : ℕ) (hh : h < 8) where
   abbrev was : Bool
   was = reported_by (source_of e h).heard (as_host s)
 

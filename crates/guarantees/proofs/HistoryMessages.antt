@@ -10,7 +10,7 @@ use lib.Dec.{eqb}
 use borrow.Author.Tests.{eqb-true, eq-eqb, ne_eqb}
 use Rattle.message.specs.declared.Name.{Name}
 use Rattle.message.specs.declared.Report.{Report}
-use Rattle.message.specs.Kind.{row_of}
+use Rattle.message.specs.Kind.{is_kind}
 use Rattle.message.specs.Message.{DATA, RQST, REPL, SESS, XPRS, FTCH, LATE, ANNC, Meaning, meaning_from}
 use Rattle.message.specs.Question.{same_host}
 use Rattle.end.specs.declared.Record.{Record}
@@ -203,7 +203,7 @@ module _ (us : List ℕ) (m : Meaning) (e : End) (f : SoundState e) (unlooped : 
 -- ---- SESS
 
 -- a message that was read and is about no name is a SESS
-pub known-session : (kind : ℕ) → (row_of kind).known ≡ true → eqb kind DATA ≡ false → eqb kind RQST ≡ false → eqb kind REPL ≡ false
+pub known-session : (kind : ℕ) → is_kind kind ≡ true → eqb kind DATA ≡ false → eqb kind RQST ≡ false → eqb kind REPL ≡ false
     → eqb kind XPRS ≡ false → eqb kind FTCH ≡ false → eqb kind LATE ≡ false → eqb kind ANNC ≡ false → eqb kind SESS ≡ true
 known-session kind h d r p x f l n = by_test (eqb kind SESS) (λ t. t) (λ t. clash' ((rw (d, r, p, t, x, f, l, n) refl) ∙ h))
 
@@ -281,7 +281,7 @@ session-tells us m e long unlooped unnamed session x s hh q =
 
 -- ---- any message to a member
 module _ (us : List ℕ) (m : Meaning) (e : End) (f : SoundState e) (unlooped : eqb m.sender.0 e.host.0 ≡ false) (hs : source m < 8)
-    (original : eqb m.kind DATA ≡ true → same_host (message_name m).source e.host ≡ false) (kinds : (row_of m.kind).known ≡ true)
+    (original : eqb m.kind DATA ≡ true → same_host (message_name m).source e.host ≡ false) (kinds : is_kind m.kind ≡ true)
     (past : ℕ → Since) (told_so : (s : ℕ) → s < 8 → Tells (eqb s e.host.0) (past s) (source_of e s)) (s : ℕ) (hh : s < 8) where
   abbrev Went : Step → Type 0
   Went r = Tells (eqb s e.host.0) (since_message e.host.0 s (past s) m (class_of r.effect)) (source_of r.left s)
@@ -318,7 +318,7 @@ module _ (us : List ℕ) (m : Meaning) (e : End) (f : SoundState e) (unlooped : 
 
 -- looped or not
 pub arrival-tells : (us : List ℕ) (b : ℕ) (bytes : List ℕ) (e : End) → SoundState e → read_as (b ∷ bytes) ≡ some (meaning_from (b ∷ bytes))
-    → (row_of (meaning_from (b ∷ bytes)).kind).known ≡ true → (past : ℕ → Since) → ((s : ℕ) → s < 8 → Tells (eqb s e.host.0) (past s) (source_of e s))
+    → is_kind (meaning_from (b ∷ bytes)).kind ≡ true → (past : ℕ → Since) → ((s : ℕ) → s < 8 → Tells (eqb s e.host.0) (past s) (source_of e s))
     → (s : ℕ) → s < 8 → let r = arrival_of us (meaning_from (b ∷ bytes)) e in
     Tells (eqb s e.host.0) (since_message e.host.0 s (past s) (meaning_from (b ∷ bytes)) (class_of r.effect)) (source_of r.left s)
 unfolding arrival_of since_message

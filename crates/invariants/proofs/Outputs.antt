@@ -5,6 +5,7 @@ use native.Mathlib.Omega.{arith}
 use mathlib.Core.Bool.{Bool, true, false, not}
 use mathlib.Core.List.{List, [], ◌∷◌}
 use lib.ListN.{length}
+use Rattle.std.specs.Prelude.{Option}
 use lib.Dec.{eqb}
 use borrow.Author.Tests.{eqb-true, leb-true, ltb-true, not-true}
 use Rattle.message.specs.declared.Host.{Host}
@@ -154,7 +155,7 @@ module _ (e : End) (f : SoundState e) where
       let r = kept_under e name in
       let v = held_in e.host name.source (pair_of e name) r (reply_in r.slot) (stands_as (Held (reply_in r.slot)) at (held-is r.slot held)) in
       let y = about_name kind (moment_of e) name k (r.cue ∷ []) in
-      written y (ap (λ (x : Row). has_counts x (counts_of y)) row)
+      written y (ap (λ (x : Option Row). has_counts x (counts_of y)) row)
       (carrying_passes e f kind most (ap (λ (x : Row). x.host) row) name k r.cue at.source at.number hk v.cue other apart) (some v.long none)
 
   pub repair-written : (name : Name) (due : ℕ) (k : Host) → (kept_under e name).slot ≡ Held (Due due k) → Written (repair_message (moment_of e) name k (kept_under e name).cue)

@@ -15,7 +15,7 @@ use Rattle.message.specs.declared.HostRule.TheVariants.{AnotherOfAnother}
 use Rattle.message.specs.Cue.{cue_in}
 use Rattle.message.specs.Section.{all}
 use Rattle.message.specs.Entry.{blank_name, blank_cue}
-use Rattle.message.specs.Kind.{row_of}
+use Rattle.message.specs.Kind.{row_at}
 use Rattle.message.specs.Message.{DATA, RQST, XPRS, FTCH, most_number, Meaning, meaning_from, counts_of}
 use Rattle.message.specs.Question.{ask, first_no, message_questions, kind_has_counts, in_range, hosts_fit, host_in, number_in, ticks_in, name_in, report_in}
 use Rattle.message.specs.Question.{rule_holds, host_fits, same_host}
@@ -66,7 +66,7 @@ asker sender (a ∷ l) n h =
     ap (λ (k : ℕ). eqb k a.name.source.0) (sym (eqb-true a.host.0 sender.0 parts.0)) ∙ not-true (same_host a.host a.name.source) parts.1
 
 -- an XPRS and a kind 22 have one name, whose source is not the sender
-express-asker : (kind : ℕ) → (row_of kind).host ≡ AnotherOfAnother → (sender : Host) (l : List NameEntry) → length l ≡ 1
+express-asker : (kind : ℕ) → (row_at kind).host ≡ AnotherOfAnother → (sender : Host) (l : List NameEntry) → length l ≡ 1
     → all (host_fits kind sender) l ≡ true → same_host sender (get_or l 0 blank_name).name.source ≡ false
 unfolding all
 express-asker kind rule sender [] n h = absurd (omega arith)
@@ -106,7 +106,7 @@ module _ (x : List ℕ) (h : first_no (message_questions x) ≡ 0) where
 
   -- the names of a message have their kind's count, and its rule of the host
   names_fit : (k : ℕ) → eqb (meaning_from x).kind k ≡ true
-      → (length (meaning_from x).names ≡ (row_of k).names) × (all (host_fits k (meaning_from x).sender) (meaning_from x).names ≡ true)
+      → (length (meaning_from x).names ≡ (row_at k).names) × (all (host_fits k (meaning_from x).sender) (meaning_from x).names ≡ true)
   unfolding hosts_fit
   names_fit k same =
       let y = meaning_from x in
@@ -122,7 +122,7 @@ module _ (x : List ℕ) (h : first_no (message_questions x) ≡ 0) where
   asked-source k = let v = names_fit RQST k in asker (meaning_from x).sender (meaning_from x).names v.0 v.1
 
   -- nor is that of an XPRS or of a kind 22
-  express-from : (k : ℕ) → (row_of k).host ≡ AnotherOfAnother → (row_of k).names ≡ 1 → eqb (meaning_from x).kind k ≡ true
+  express-from : (k : ℕ) → (row_at k).host ≡ AnotherOfAnother → (row_at k).names ≡ 1 → eqb (meaning_from x).kind k ≡ true
       → same_host (meaning_from x).sender (message_name (meaning_from x)).source ≡ false
   express-from k rule one same = let v = names_fit k same in express-asker k rule (meaning_from x).sender (meaning_from x).names (v.0 ∙ one) v.1
 

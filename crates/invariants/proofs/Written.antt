@@ -15,7 +15,7 @@ use Rattle.message.specs.Cue.{cue_in}
 use Rattle.message.specs.Section.{all, rises}
 use Rattle.message.specs.Entry.{as_host}
 use Rattle.message.specs.declared.HostRule.TheVariants.{NeitherSenderNorSource, AnotherOfAnother}
-use Rattle.message.specs.Kind.{row_of, most_number}
+use Rattle.message.specs.Kind.{row_at, most_number}
 use Rattle.message.specs.Message.{DATA, RQST, SESS, ANNC, counts_of}
 use Rattle.message.specs.Question.{first_no, meaning_questions, kind_has_counts, in_range, window_fits, hosts_fit, host_in, report_in, echo_in, not_from, report_source, echo_host, same_host, ticks_in}
 use Rattle.message.proofs.QuestionLaws.{and_both}
@@ -49,7 +49,7 @@ module _ (e : End) (f : SoundState e) where
       rw (host_in_lem, clock_in_lem, lt-ltb name.source.0 8 hs, le-leb name.number.0 65535 (omega arith), eq-eqb e.host.0 e.host.0 refl, other)
 
   -- of a kind whose host is another than the sender, as is the source: XPRS and 22
-  pub asking-passes : (kind : ℕ) → most_number kind ≡ 65535 → (row_of kind).host ≡ AnotherOfAnother → (name : Name) (k : Host) → name.source.0 < 8
+  pub asking-passes : (kind : ℕ) → most_number kind ≡ 65535 → (row_at kind).host ≡ AnotherOfAnother → (name : Name) (k : Host) → name.source.0 < 8
       → name.number.0 < 65536 → k.0 < 8 → same_host k e.host ≡ false → same_host name.source e.host ≡ false
       → first_no (meaning_questions kind (about_name kind (moment_of e) name k [])) ≡ 0
   unfolding in_range hosts_fit window_fits all rises
@@ -57,7 +57,7 @@ module _ (e : End) (f : SoundState e) where
       rw (most, rule, host_in_lem, clock_in_lem, lt-ltb name.source.0 8 hs, le-leb name.number.0 65535 (omega arith), lt-ltb k.0 8 hk, a, b)
 
   -- of a kind that carries a cue, and whose host is neither the sender nor the source: REPL and 23
-  pub carrying_passes : (kind : ℕ) → most_number kind ≡ 65535 → (row_of kind).host ≡ NeitherSenderNorSource → (name : Name) (k : Host) (cue : List ℕ)
+  pub carrying_passes : (kind : ℕ) → most_number kind ≡ 65535 → (row_at kind).host ≡ NeitherSenderNorSource → (name : Name) (k : Host) (cue : List ℕ)
       → name.source.0 < 8 → name.number.0 < 65536 → k.0 < 8 → cue_in cue ≡ true → same_host k e.host ≡ false → same_host k name.source ≡ false
       → first_no (meaning_questions kind (about_name kind (moment_of e) name k (cue ∷ []))) ≡ 0
   unfolding in_range hosts_fit window_fits all rises

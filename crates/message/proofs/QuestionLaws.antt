@@ -1,25 +1,27 @@
 -- The laws of the questions: what it means that the first no is 0, and what the table of kinds allows.
-use mathlib.Core.Path.{◌≡◌, refl, ap, ◌∙◌}
+use mathlib.Core.Path.{◌≡◌, refl, sym, ap, ◌∙◌}
 use Prim.Native.Nat.{ℕ, zero, suc, ◌+◌, ◌*◌, ◌-◌, ◌^◌, ◌≤◌, ◌<◌}
 use native.Mathlib.Nat.{mul-le-mul}
 use native.Mathlib.Omega.{arith}
 use mathlib.Core.Bool.{Bool, true, false, not, ◌&&◌, ◌||◌}
-use mathlib.Core.Logic.{◌⊎◌, inl, inr, ⊎_elim}
+use mathlib.Core.Logic.{◌⊎◌, inl, inr}
 use mathlib.Core.List.{List, [], ◌∷◌}
 use lib.Dec.{eqb, leb}
 use borrow.Author.Tests.{eqb-true, leb-true, le-leb, lt-leb, not-true}
 use Rattle.message.specs.Section.{all}
 use Rattle.message.specs.Cue.{cue_in}
 use Rattle.message.specs.Limit.{number_limit}
-use Rattle.message.specs.Kind.{table, no_kind, row_in, row_of, is_old, kind_of, kind_shift, number_width, widest_number, most_number}
+use Rattle.message.specs.Kind.{table, no_row, row_or, row_in, row_of, row_at, has_counts, is_old, kind_of, kind_shift, number_width, widest_number, most_number}
 use Rattle.message.specs.Entry.{name_width, cue_width, report_width, echo_width}
 use Rattle.message.specs.Message.{Meaning, Small, name_places, report_places, echo_places}
-use Rattle.message.specs.Question.{Question, ask, first_no, verdict_for, refusal_of, kind_has_counts, host_in, number_in, ticks_in, name_in, report_in, in_range}
+use Rattle.message.specs.Question.{Question, ask, first_no, outcome, verdict_for, refusal_of, kind_has_counts, host_in, number_in, ticks_in, name_in, report_in, in_range}
 use Rattle.message.specs.declared.CueNumber.{CueNumber}
 use Rattle.message.specs.declared.NameEntry.{NameEntry}
 use Rattle.message.specs.declared.Report.{Report}
 use Rattle.message.specs.declared.Counts.{Counts}
 use Rattle.message.specs.declared.Row.{Row}
+use Rattle.std.specs.Prelude.{Option, Some, None, is_some, Result, Ok, Err}
+use Rattle.message.specs.declared.Refusal.{Refusal}
 use Rattle.numbers.proofs.Cases.{by_flag}
 use Rattle.message.proofs.SectionLaws.{All, none, some}
 
@@ -53,6 +55,24 @@ pub all-passed : (t : Bool) (k : ℕ) (qs : List Question) → 0 < k → first_n
 all-passed true k qs p h = (refl, h)
 all-passed false k qs p h = absurd (omega arith)
 
+-- what a call's outcome says of its first no: its number, and 0 where there was none
+abbrev pub no_of : Result (Unit {0}) Refusal → ℕ
+no_of (Ok u) = 0
+no_of (Err e) = e.0
+
+pub no_of_outcome : (k : ℕ) → no_of (outcome k) ≡ k
+no_of_outcome zero = refl
+no_of_outcome (suc k) = refl
+
+pub none-refused : {u : Unit {0}} (k : ℕ) → ◌≡◌ {A = Result (Unit {0}) Refusal} (Ok u) (outcome k) → k ≡ 0
+none-refused k h = sym (no_of_outcome k) ∙ sym (ap no_of h)
+
+pub refused-as : {e : Refusal} (k : ℕ) → ◌≡◌ {A = Result (Unit {0}) Refusal} (Err e) (outcome k) → (0 < e.0) × (k ≡ e.0)
+refused-as {e} zero h = absurd (let z : Err e ≡ Ok tt = h in cc)
+refused-as {e} (suc k) h =
+    let n : suc k ≡ e.0 = sym (ap no_of h) in
+    (omega arith, n)
+
 -- the paper's number of the verdict is the number that gave it
 pub number_of_verdict : (k : ℕ) → refusal_of (verdict_for k) ≡ k
 number_of_verdict zero = refl
@@ -60,8 +80,8 @@ number_of_verdict (suc k) = refl
 
 -- ---- the table of kinds
 
--- what holds of every row of a table, and of a byte that is no kind, holds of any byte's row
-row_in_lem : (P : Row → Type 0) → P no_kind → (t : List (ℕ × Row)) → All (λ (line : ℕ × Row). P line.1) t → (kind : ℕ) → P (row_in t kind)
+-- what holds of every row of a table, and of the empty one that stands where there is none, holds of any byte's row
+row_in_lem : (P : Row → Type 0) → P no_row → (t : List (ℕ × Row)) → All (λ (line : ℕ × Row). P line.1) t → (kind : ℕ) → P (row_or (row_in t kind))
 row_in_lem P z [] none kind = z
 row_in_lem P z (line ∷ t) (some p q) kind = by_flag (eqb kind line.0) (λ e. rw e p) (λ e. rw e (row_in_lem P z t q kind))
 
@@ -96,9 +116,9 @@ fits r h =
       size = leb-true (row_size r) 127 e.1;
     }
 
-row_fits : (kind : ℕ) → RowFits (row_of kind)
+row_fits : (kind : ℕ) → RowFits (row_at kind)
 unfolding all
-row_fits = row_in_lem RowFits (fits no_kind refl) table (all_true (λ (line : ℕ × Row). fits_of line.1) (λ line. fits line.1) table refl)
+row_fits = row_in_lem RowFits (fits no_row refl) table (all_true (λ (line : ℕ × Row). fits_of line.1) (λ line. fits line.1) table refl)
 
 -- ---- the kind byte
 
@@ -141,46 +161,50 @@ pub most-rises : (byte : ℕ) → most_number byte ≤ most_number (kind_of byte
 most-rises byte = rw (new_kind byte) (omega (arith, most-below byte))
 
 -- no row is for an old kind
-row_new : (t : List (ℕ × Row)) → all (λ (line : ℕ × Row). not (is_old line.0)) t ≡ true → (kind : ℕ) → (row_in t kind).known ≡ true → is_old kind ≡ false
+row_new : (t : List (ℕ × Row)) → all (λ (line : ℕ × Row). not (is_old line.0)) t ≡ true → (kind : ℕ) (c : Counts) → has_counts (row_in t kind) c ≡ true
+    → is_old kind ≡ false
 unfolding all
-row_new [] h kind k = absurd (let z : ◌≡◌ {A = ℕ} 0 1 = cc in omega arith)
-row_new (line ∷ t) h kind k =
+row_new [] h kind c k = absurd (let z : ◌≡◌ {A = ℕ} 0 1 = cc in omega arith)
+row_new (line ∷ t) h kind c k =
     let b = and_both (not (is_old line.0)) _ h in
     by_flag (eqb kind line.0)
     (λ e. ap is_old (eqb-true kind line.0 e) ∙ not-true (is_old line.0) b.0)
-    (λ e. row_new t b.1 kind (rw e at k))
+    (λ e. row_new t b.1 kind c (rw e at k))
 
 pub counts_new : (kind : ℕ) (c : Counts) → kind_has_counts kind c ≡ true → is_old kind ≡ false
 unfolding all
-counts_new kind c h = row_new table refl kind (and_both (row_of kind).known _ h).0
+counts_new kind c h = row_new table refl kind c h
 
 -- ---- the counts
 
 -- the counts are those of the row
-pub record Counted (r : Row) (c : Counts) : Type 0 where
-  pub known : r.known ≡ true
-  pub names : c.names ≡ r.names
-  pub cues : c.cues ≡ r.cues
-  pub reports : c.reports ≤ r.reports
-  pub echoes : c.echoes ≤ r.echoes
+pub record Counted (o : Option Row) (c : Counts) : Type 0 where
+  pub known : is_some o ≡ true
+  pub names : c.names ≡ (row_or o).names
+  pub cues : c.cues ≡ (row_or o).cues
+  pub reports : c.reports ≤ (row_or o).reports
+  pub echoes : c.echoes ≤ (row_or o).echoes
 
-pub counted : (kind : ℕ) (c : Counts) → kind_has_counts kind c ≡ true → Counted (row_of kind) c
-counted kind c h =
-    let r : Row = row_of kind in
-    let k = and_both r.known _ h in
-    let n = and_both (eqb c.names r.names) _ k.1 in
+counted-row : (o : Option Row) (c : Counts) → has_counts o c ≡ true → Counted o c
+counted-row None c h = absurd (let z : ◌≡◌ {A = ℕ} 0 1 = cc in omega arith)
+counted-row (Some r) c h =
+    let n = and_both (eqb c.names r.names) _ h in
     let q = and_both (eqb c.cues r.cues) _ n.1 in
     let b = and_both (leb c.reports r.reports) _ q.1 in
     record {
-      known = k.0;
+      known = refl;
       names = eqb-true c.names r.names n.0;
       cues = eqb-true c.cues r.cues q.0;
       reports = leb-true c.reports r.reports b.0;
       echoes = leb-true c.echoes r.echoes b.1;
     }
 
-small : (w : ℕ) (r : Row) (c : Counts) → w ≤ widest_number → RowFits r → Counted r c → Small w c
-small w r c m f h =
+pub counted : (kind : ℕ) (c : Counts) → kind_has_counts kind c ≡ true → Counted (row_of kind) c
+counted kind c h = counted-row (row_of kind) c h
+
+small : (w : ℕ) (o : Option Row) (c : Counts) → w ≤ widest_number → RowFits (row_or o) → Counted o c → Small w c
+small w o c m f h =
+    let r = row_or o in
     let n : c.names * name_width w ≤ r.names * name_width widest_number = mul-le-mul (omega (arith, h.names)) (omega arith) in
     let b : c.reports * report_width w ≤ r.reports * report_width widest_number = mul-le-mul h.reports (omega arith) in
     record { names = omega arith; cues = omega arith; reports = omega arith; echoes = omega arith; size = omega arith }

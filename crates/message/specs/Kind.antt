@@ -13,10 +13,11 @@
 --   | 24 ANNC | 2,0,0,0       | the source, also the sender              |
 -- Questions 9 (the counts) and 11 (the host) go by a kind's row; of two names question 11 also compares the numbers (Question.antt). A kind
 -- that comes later is a line of `table`, and one of `message::row_of`.
-use Rattle.std.specs.Prelude.{ℕ, ◌+◌, ◌-◌, Bool, true, false, cond, ◌&&◌, List, [], ◌∷◌, eqb, leb}
+use Rattle.std.specs.Prelude.{ℕ, ◌+◌, ◌-◌, Bool, false, cond, ◌&&◌, List, [], ◌∷◌, eqb, leb, Option, Some, None, is_some}
 use Rattle.message.specs.Limit.{number_limit, old_number_limit}
 use Rattle.message.specs.declared.HostRule.{HostRule}
 use Rattle.message.specs.declared.HostRule.TheVariants.{SourceAndSender, SenderNotSource, NeitherSenderNorSource, AnotherOfAnother, NoHost}
+use Rattle.message.specs.declared.Counts.{Counts}
 use Rattle.message.specs.declared.Row.{Row}
 
 abbrev pub DATA : ℕ
@@ -45,7 +46,7 @@ ANNC = 24
 
 -- a kind's row: so many names and cues, at most so many reports and echoes, the rule of the host
 abbrev pub row : ℕ → ℕ → ℕ → ℕ → HostRule → Row
-row names cues reports echoes host = record { known = true; names = names; cues = cues; reports = reports; echoes = echoes; host = host }
+row names cues reports echoes host = record { names = names; cues = cues; reports = reports; echoes = echoes; host = host }
 
 abbrev pub table : List (ℕ × Row)
 table =
@@ -59,16 +60,32 @@ table =
     ∷ (ANNC, row 2 0 0 0 SourceAndSender)
     ∷ []
 
--- what a byte has that is no kind
-abbrev pub no_kind : Row
-no_kind = record { known = false; names = 0; cues = 0; reports = 0; echoes = 0; host = NoHost }
+-- the row of a kind; a byte that is no kind has none
+abbrev pub row_in : List (ℕ × Row) → ℕ → Option Row
+row_in [] kind = None
+row_in (line ∷ lines) kind = cond (eqb kind line.0) (Some line.1) (row_in lines kind)
 
-abbrev pub row_in : List (ℕ × Row) → ℕ → Row
-row_in [] kind = no_kind
-row_in (line ∷ lines) kind = cond (eqb kind line.0) line.1 (row_in lines kind)
-
-abbrev pub row_of : ℕ → Row
+abbrev pub row_of : ℕ → Option Row
 row_of kind = row_in table kind
+
+abbrev pub is_kind : ℕ → Bool
+is_kind kind = is_some (row_of kind)
+
+-- the row, and one without entries and without a host where there is none
+abbrev pub no_row : Row
+no_row = row 0 0 0 0 NoHost
+
+abbrev pub row_or : Option Row → Row
+row_or None = no_row
+row_or (Some r) = r
+
+abbrev pub row_at : ℕ → Row
+row_at kind = row_or (row_of kind)
+
+-- 9: "Is the kind 1..4 with its counts?": whether there is a row, with these counts
+abbrev pub has_counts : Option Row → Counts → Bool
+has_counts None c = false
+has_counts (Some r) c = eqb c.names r.names && (eqb c.cues r.cues && (leb c.reports r.reports && leb c.echoes r.echoes))
 
 -- ---- The kind byte that starts a message: a kind, or document 01's number of it.
 

@@ -1,6 +1,6 @@
 -- What a message means, and its layout in bytes. Document 01, "Messages": "Kind (1 byte), sender (1), stamp (6, the sender's
 -- clock), then four sections, each after its one-byte count: names .., cues .., reports .., echoes ..".
-use Rattle.std.specs.Prelude.{◌≡◌, ℕ, ◌+◌, ◌*◌, ◌-◌, ◌≤◌, List, [], ◌∷◌, ◌++◌, length, get_or, take, drop}
+use Rattle.std.specs.Prelude.{ℕ, ◌+◌, ◌*◌, ◌-◌, ◌≤◌, List, [], ◌∷◌, ◌++◌, length, get_or, take, drop}
 use Rattle.numbers.specs.Number.{value, digits}
 use Rattle.message.specs.Section.{section, section_from, after, padded}
 use Rattle.message.specs.Entry.{as_host, name_width, name_of, name_bytes, cue_width, cue_of, cue_bytes, report_width, report_of, report_bytes, echo_width, echo_of, echo_bytes, blank_name, blank_cue, blank_report, blank_echo}

@@ -1,11 +1,12 @@
 -- The questions that the reader and the writer ask, and their answers. Document 01, "The questions, in this order".
-use Rattle.std.specs.Prelude.{ℕ, zero, suc, ◌+◌, Bool, true, false, cond, not, ◌&&◌, List, [], ◌∷◌, ◌++◌, length, drop, ltb, leb, eqb}
+use Rattle.std.specs.Prelude.{ℕ, zero, suc, ◌+◌, Bool, true, false, cond, not, ◌&&◌, List, [], ◌∷◌, ◌++◌, length, drop, ltb, leb, eqb, Result, Ok, Err}
 use Rattle.std.proofs.Math.Option.{Option, none, some}
 use Rattle.message.specs.Cue.{cue_in}
 use Rattle.message.specs.Section.{all, rises}
 use Rattle.message.specs.Entry.{as_host}
 use Rattle.message.specs.Limit.{host_limit, ticks_limit, room_needed}
-use Rattle.message.specs.Kind.{row_of, kind_of, most_number}
+use Rattle.message.specs.Kind.{row_of, row_at, kind_of, most_number}
+pub use Rattle.message.specs.Kind.{has_counts}
 use Rattle.message.specs.Message.{Meaning, Datagram, Probe, Saying, meaning_of, held_as, kind_byte, meaning_from, datagram_bytes, said_by, counts_of, size_from}
 use Rattle.message.specs.declared.Host.{Host}
 use Rattle.message.specs.declared.CueNumber.{CueNumber}
@@ -14,9 +15,9 @@ use Rattle.message.specs.declared.Report.{Report}
 use Rattle.message.specs.declared.Echo.{Echo}
 use Rattle.message.specs.declared.HostRule.{HostRule}
 use Rattle.message.specs.declared.HostRule.TheVariants.{SourceAndSender, SenderNotSource, NeitherSenderNorSource, AnotherOfAnother, NoHost}
-use Rattle.message.specs.declared.Row.{Row}
 use Rattle.message.specs.declared.Counts.{Counts}
 use Rattle.message.specs.declared.Message.{Message}
+use Rattle.message.specs.declared.Refusal.{Refusal}
 use Rattle.message.specs.declared.Verdict.{Verdict}
 use Rattle.message.specs.declared.Verdict.TheVariants as verdict
 use Rattle.message.specs.declared.Reading.{Reading}
@@ -37,6 +38,11 @@ abbrev pub first_no : List Question → ℕ
 first_no [] = 0
 first_no (q ∷ qs) = cond q.passed (first_no qs) q.number
 
+-- what a call answers by its first no
+abbrev pub outcome : ℕ → Result (Unit {0}) Refusal
+outcome zero = Ok tt
+outcome (suc k) = Err (record { 0 = suc k })
+
 -- the verdict of a call by its first no, and document 01's number of a verdict (0: not refused)
 abbrev pub verdict_for : ℕ → Verdict
 verdict_for zero = verdict.Accepted
@@ -50,10 +56,6 @@ refusal_of (verdict.Refused k) = k
 
 -- ---- 9: "Is the kind 1..4 with its counts?": the table's second column, of the kinds 17 to 20 that P7 has for 1 to 4, of P8's 21, P9's 22 and 23
 -- and P11's 24
-
-abbrev pub has_counts : Row → Counts → Bool
-has_counts r c =
-    r.known && (eqb c.names r.names && (eqb c.cues r.cues && (leb c.reports r.reports && leb c.echoes r.echoes)))
 
 abbrev pub kind_has_counts : ℕ → Counts → Bool
 kind_has_counts kind c = has_counts (row_of kind) c
@@ -103,7 +105,7 @@ rule_holds NoHost source sender own = false
 abbrev pub host_fits : ℕ → Host → NameEntry → Bool
 host_fits kind sender n =
     let source = n.name.source in
-    rule_holds (row_of kind).host (same_host n.host source) (same_host n.host sender) (same_host source sender)
+    rule_holds (row_at kind).host (same_host n.host source) (same_host n.host sender) (same_host source sender)
 
 -- "Reports rise strictly by source, echoes by host; no echo names the sender."
 abbrev pub report_source : Report → ℕ

@@ -1,48 +1,47 @@
 // A message, its cue and the questions that the reader and the writer share. The definitions are in specs/: Cue.antt (a
 // cue's fields), Limit.antt and Kind.antt (the limits, the table of kinds and the kind byte), Entry.antt and Message.antt (the layout),
 // Question.antt (the questions).
-// A test joins its parts by `&` and `|`, in the order in which its definition does.
 #![tactic(auto)]
 
-ghost use Rattle.std.specs.Prelude.{◌≡◌, cond, ◌∷◌, [], ◌+◌, ◌≤◌, min, length, take};
+ghost use Rattle.std.specs.Prelude.{◌≡◌, cond, ◌∷◌, [], ◌+◌, ◌≤◌, ◌<◌, length, take};
 ghost use Rattle.message.specs.Cue.{fields_of, steps_in, steps_at, cue_in, cue_with};
 ghost use Rattle.message.specs.Section.{all, rises};
 ghost use Rattle.message.specs.Entry.{blank_name, blank_report, blank_echo};
 ghost use Rattle.message.specs.Message.{meaning_of};
-ghost use Rattle.message.specs.Kind.{row_of, row, is_old, kind_of, number_width, widest_number, most_number};
-ghost use Rattle.message.specs.Question.{has_counts, kind_has_counts, name_in, report_in, echo_in, in_range, rule_holds, host_fits, not_from, report_source, echo_host, window_fits, hosts_fit, meaning_questions, first_no, refusal_of, same_host, blank_message};
+ghost use Rattle.message.specs.Kind.{row_of, row, is_old, kind_of, number_width, widest_number, most_number, has_counts};
+ghost use Rattle.message.specs.Question.{kind_has_counts, name_in, report_in, echo_in, in_range, rule_holds, host_fits, not_from, report_source, echo_host, window_fits, hosts_fit, meaning_questions, first_no, outcome, refusal_of, same_host, blank_message};
 
 // A controller on the network, 0..7.
-#[derive(Clone, Copy)]
+#[derive(Clone, Copy, Debug, Default, PartialEq, Eq)]
 pub struct Host(pub u8);
 
 // The number of a cue among those of its source, 0..65535.
-#[derive(Clone, Copy)]
+#[derive(Clone, Copy, Debug, Default, PartialEq, Eq)]
 pub struct CueNumber(pub u16);
 
 // A name: a source with a cue number.
-#[derive(Clone, Copy)]
+#[derive(Clone, Copy, Debug, Default, PartialEq, Eq)]
 pub struct Name {
     pub source: Host,
     pub number: CueNumber,
 }
 
 // A name as a message has it, with a host beside it: who that is goes by the message's kind.
-#[derive(Clone, Copy)]
+#[derive(Clone, Copy, Debug, Default, PartialEq, Eq)]
 pub struct NameEntry {
     pub name: Name,
     pub host: Host,
 }
 
 // A session report: the last cue number that the sender knows of a source.
-#[derive(Clone, Copy)]
+#[derive(Clone, Copy, Debug, Default, PartialEq, Eq)]
 pub struct Report {
     pub source: Host,
     pub last: CueNumber,
 }
 
 // A stamp that the sender heard from a host, and for how many ticks it has held it.
-#[derive(Clone, Copy)]
+#[derive(Clone, Copy, Debug, Default, PartialEq, Eq)]
 pub struct Echo {
     pub host: Host,
     pub stamp: u64,
@@ -50,7 +49,7 @@ pub struct Echo {
 }
 
 // How many names, cues, reports and echoes a message has.
-#[derive(Clone, Copy)]
+#[derive(Clone, Copy, Debug, Default, PartialEq, Eq)]
 pub struct Counts {
     pub names: usize,
     pub cues: usize,
@@ -60,7 +59,7 @@ pub struct Counts {
 
 // A message. Of the names, reports and echoes the first places are used, as many as the counts say; `cue` is the one place for
 // a cue.
-#[derive(Clone, Copy)]
+#[derive(Clone, Copy, Debug, PartialEq, Eq)]
 pub struct Message {
     pub kind: u8,
     pub sender: Host,
@@ -72,8 +71,12 @@ pub struct Message {
     pub echoes: [Echo; 7],
 }
 
+// Document 01's number of the question that was answered no.
+#[derive(Clone, Copy, Debug, PartialEq, Eq)]
+pub struct Refusal(pub u8);
+
 // Whether a call was refused, with document 01's number of the question that was answered no. Probe is the reader's alone: no bytes.
-#[derive(Clone, Copy)]
+#[derive(Clone, Copy, Debug, PartialEq, Eq)]
 pub enum Verdict {
     Accepted,
     Probe,
@@ -81,21 +84,21 @@ pub enum Verdict {
 }
 
 // What the reader answers: the message, or a probe or a refusal beside a message of zeros.
-#[derive(Clone, Copy)]
+#[derive(Clone, Copy, Debug, PartialEq, Eq)]
 pub struct Reading {
     pub verdict: Verdict,
     pub message: Message,
 }
 
 // What the writer answers: the length of what it wrote, or a refusal beside 0.
-#[derive(Clone, Copy)]
+#[derive(Clone, Copy, Debug, PartialEq, Eq)]
 pub struct Written {
     pub verdict: Verdict,
     pub len: usize,
 }
 
 // The fields of a cue: four offsets in motor steps, and the lamp's power.
-#[derive(Clone, Copy)]
+#[derive(Clone, Copy, Debug, PartialEq, Eq)]
 pub struct CueFields {
     pub focus: i16,
     pub zoom: i16,
@@ -105,7 +108,7 @@ pub struct CueFields {
 }
 
 // Who the host beside a name is.
-#[derive(Clone, Copy)]
+#[derive(Clone, Copy, Debug, PartialEq, Eq)]
 pub enum HostRule {
     SourceAndSender,
     SenderNotSource,
@@ -114,11 +117,10 @@ pub enum HostRule {
     NoHost,
 }
 
-// A row of the table of kinds: whether it is a kind at all, how many names and cues its messages have, how many reports and echoes at
-// most, and the rule of the host beside a name.
-#[derive(Clone, Copy)]
+// A row of the table of kinds: how many names and cues a kind's messages have, how many reports and echoes at most, and the rule of the
+// host beside a name.
+#[derive(Clone, Copy, Debug, PartialEq, Eq)]
 pub struct Row {
-    pub known: bool,
     pub names: usize,
     pub cues: usize,
     pub reports: usize,
@@ -180,47 +182,41 @@ pub const CUE_WIDTH: usize = 24;
 
 pub const ECHO_WIDTH: usize = 13;
 
-fn known(names: usize, cues: usize, reports: usize, echoes: usize, host: HostRule) -> Row
-    ensures { result ≡ row names cues reports echoes host }
-{
-    Row {
-        known: true,
-        names,
-        cues,
-        reports,
-        echoes,
-        host,
+impl Row {
+    fn new(names: usize, cues: usize, reports: usize, echoes: usize, host: HostRule) -> Row
+        ensures { result ≡ row names cues reports echoes host }
+    {
+        Row {
+            names,
+            cues,
+            reports,
+            echoes,
+            host,
+        }
     }
 }
 
-// The table of kinds; a byte that is no kind has the last row.
-pub fn row_of(kind: u8) -> Row
+// The table of kinds; a byte that is no kind has no row.
+pub fn row_of(kind: u8) -> Option<Row>
     ensures { result ≡ row_of kind }
 {
     match kind {
-        DATA => known(1, 1, 0, 0, HostRule::SourceAndSender),
-        RQST => known(1, 0, 0, 0, HostRule::SenderNotSource),
-        REPL => known(1, 1, 0, 0, HostRule::NeitherSenderNorSource),
-        SESS => known(0, 0, 8, 7, HostRule::NoHost),
-        XPRS => known(1, 0, 0, 0, HostRule::AnotherOfAnother),
-        FTCH => known(1, 0, 0, 0, HostRule::AnotherOfAnother),
-        LATE => known(1, 1, 0, 0, HostRule::NeitherSenderNorSource),
-        ANNC => known(2, 0, 0, 0, HostRule::SourceAndSender),
-        _ => Row {
-            known: false,
-            names: 0,
-            cues: 0,
-            reports: 0,
-            echoes: 0,
-            host: HostRule::NoHost,
-        },
+        DATA => Some(Row::new(1, 1, 0, 0, HostRule::SourceAndSender)),
+        RQST => Some(Row::new(1, 0, 0, 0, HostRule::SenderNotSource)),
+        REPL => Some(Row::new(1, 1, 0, 0, HostRule::NeitherSenderNorSource)),
+        SESS => Some(Row::new(0, 0, 8, 7, HostRule::NoHost)),
+        XPRS => Some(Row::new(1, 0, 0, 0, HostRule::AnotherOfAnother)),
+        FTCH => Some(Row::new(1, 0, 0, 0, HostRule::AnotherOfAnother)),
+        LATE => Some(Row::new(1, 1, 0, 0, HostRule::NeitherSenderNorSource)),
+        ANNC => Some(Row::new(2, 0, 0, 0, HostRule::SourceAndSender)),
+        _ => None,
     }
 }
 
 fn is_old(byte: u8) -> bool
     ensures { result ≡ is_old byte }
 {
-    (OLD_FIRST <= byte) & (byte <= OLD_LAST)
+    (OLD_FIRST..=OLD_LAST).contains(&byte)
 }
 
 // The kind of a message that starts with this byte.
@@ -265,7 +261,7 @@ pub fn fields(cue: &[u8; 24]) -> CueFields
 fn steps_in(z: i16) -> bool
     ensures { result ≡ steps_in z }
 {
-    (-2000 <= z) & (z <= 2000)
+    (-2000..=2000).contains(&z)
 }
 
 fn offset_in(cue: &[u8], at: usize) -> bool
@@ -276,12 +272,15 @@ fn offset_in(cue: &[u8], at: usize) -> bool
 }
 
 // The cue test: whether a cue's offsets and lamp are in range.
+#[tactic(auto, unfolding(crate::specs::Cue::cue_in))]
 pub fn cue_in(cue: &[u8; 24]) -> bool
     ensures { result ≡ cue_in cue.now }
 {
     offset_in(cue, 0)
-        & (offset_in(cue, 2)
-            & (offset_in(cue, 4) & (offset_in(cue, 6) & (numbers::read_u16(cue, 8) <= 1000))))
+        && offset_in(cue, 2)
+        && offset_in(cue, 4)
+        && offset_in(cue, 6)
+        && numbers::read_u16(cue, 8) <= 1000
 }
 
 // The cue with these fields and 0 in its free bytes.
@@ -297,12 +296,15 @@ pub fn cue_with(focus: i16, zoom: i16, sideways: i16, upright: i16, lamp: u16) -
     cue
 }
 
-fn has_counts(r: Row, c: Counts) -> bool
-    ensures { result ≡ has_counts r c }
+fn has_counts(row: Option<Row>, c: Counts) -> bool
+    ensures { result ≡ has_counts row c }
 {
-    r.known
-        & ((c.names == r.names)
-            & ((c.cues == r.cues) & ((c.reports <= r.reports) & (c.echoes <= r.echoes))))
+    row.is_some_and(|r| {
+        c.names == r.names
+            && c.cues == r.cues
+            && c.reports <= r.reports
+            && c.echoes <= r.echoes
+    })
 }
 
 // Question 9: whether a kind has these counts.
@@ -315,19 +317,19 @@ pub fn kind_has_counts(kind: u8, c: Counts) -> bool
 fn name_in(most: u16, n: NameEntry) -> bool
     ensures { result ≡ name_in most n }
 {
-    (n.name.source.0 < HOST_LIMIT) & ((n.name.number.0 <= most) & (n.host.0 < HOST_LIMIT))
+    n.name.source.0 < HOST_LIMIT && n.name.number.0 <= most && n.host.0 < HOST_LIMIT
 }
 
 fn report_in(most: u16, r: Report) -> bool
     ensures { result ≡ report_in most r }
 {
-    (r.source.0 < HOST_LIMIT) & (r.last.0 <= most)
+    r.source.0 < HOST_LIMIT && r.last.0 <= most
 }
 
 fn echo_in(e: Echo) -> bool
     ensures { result ≡ echo_in e }
 {
-    (e.host.0 < HOST_LIMIT) & ((e.stamp < TICKS_LIMIT) & (e.held < TICKS_LIMIT))
+    e.host.0 < HOST_LIMIT && e.stamp < TICKS_LIMIT && e.held < TICKS_LIMIT
 }
 
 // The rule of the host beside a name, by whether that host is the source, whether it is the sender, and whether the source is the sender.
@@ -335,207 +337,134 @@ fn rule_holds(rule: HostRule, source: bool, sender: bool, own: bool) -> bool
     ensures { result ≡ rule_holds rule source sender own }
 {
     match rule {
-        HostRule::SourceAndSender => source & sender,
-        HostRule::SenderNotSource => sender & !source,
-        HostRule::NeitherSenderNorSource => !sender & !source,
-        HostRule::AnotherOfAnother => !sender & !own,
+        HostRule::SourceAndSender => source && sender,
+        HostRule::SenderNotSource => sender && !source,
+        HostRule::NeitherSenderNorSource => !sender && !source,
+        HostRule::AnotherOfAnother => !sender && !own,
         HostRule::NoHost => false,
     }
-}
-
-// Whether two hosts are the same.
-pub fn same_host(a: Host, b: Host) -> bool
-    ensures { result ≡ same_host a b }
-{
-    a.0 == b.0
 }
 
 fn host_fits(kind: u8, sender: Host, n: NameEntry) -> bool
     ensures { result ≡ host_fits kind sender n }
 {
-    let as_source = n.host.0 == n.name.source.0;
-    let as_sender = n.host.0 == sender.0;
-    let own = n.name.source.0 == sender.0;
-    let r = row_of(kind);
-    let rule = r.host;
-    rule_holds(rule, as_source, as_sender, own)
+    let source = n.name.source;
+    row_of(kind).is_some_and(|r| {
+        rule_holds(r.host, n.host == source, n.host == sender, source == sender)
+    })
 }
 
-fn not_from(sender: Host, e: Echo) -> bool
-    ensures { result ≡ not_from sender e }
+// The places of an array that are used: as many as the count says, or all where it is beyond them.
+fn used<T>(places: &[T], count: usize) -> &[T]
+    ensures { result.now ≡ take count places.now }
 {
-    !(e.host.0 == sender.0)
+    &places[..count.min(places.len())]
 }
 
-// A count that is beyond an array's places uses all of them.
-fn used(count: usize, places: usize) -> usize
-    ensures { result ≡ min count places }
+fn names_in(most: u16, names: &[NameEntry]) -> bool
+    ensures { result ≡ all (name_in most) names.now }
 {
-    if count < places { count } else { places }
+    names.iter().all(|n| name_in(most, *n))
 }
 
-fn names_in(most: u16, names: [NameEntry; 2], count: usize) -> bool
-    ensures { result ≡ all (name_in most) (take count names) }
+fn names_fit(kind: u8, sender: Host, names: &[NameEntry]) -> bool
+    ensures { result ≡ all (host_fits kind sender) names.now }
 {
-    let n = used(count, NAME_PLACES);
-    let mut ok = true;
-    let mut i: usize = 0;
-    while i < n {
-        let name = names[i];
-        ok = ok & name_in(most, name);
-        i += 1;
-    }
-    ok
+    names.iter().all(|n| host_fits(kind, sender, *n))
 }
 
-fn names_fit(kind: u8, sender: Host, names: [NameEntry; 2], count: usize) -> bool
-    ensures { result ≡ all (host_fits kind sender) (take count names) }
+fn cues_in(cue: &[u8; 24], count: usize) -> bool
+    ensures { result ≡ all cue_in (take count (cue.now ∷ [])) }
 {
-    let n = used(count, NAME_PLACES);
-    let mut ok = true;
-    let mut i: usize = 0;
-    while i < n {
-        let name = names[i];
-        ok = ok & host_fits(kind, sender, name);
-        i += 1;
-    }
-    ok
+    count == 0 || cue_in(cue)
 }
 
-fn reports_in(most: u16, reports: [Report; 8], count: usize) -> bool
-    ensures { result ≡ all (report_in most) (take count reports) }
+fn reports_in(most: u16, reports: &[Report]) -> bool
+    ensures { result ≡ all (report_in most) reports.now }
 {
-    let n = used(count, REPORT_PLACES);
-    let mut ok = true;
-    let mut i: usize = 0;
-    while i < n {
-        let report = reports[i];
-        ok = ok & report_in(most, report);
-        i += 1;
-    }
-    ok
+    reports.iter().all(|r| report_in(most, *r))
 }
 
-// `low` is the least source that may come next.
-fn reports_rise(reports: [Report; 8], count: usize) -> bool
-    ensures { result ≡ rises report_source (take count reports) }
+fn reports_rise(reports: &[Report]) -> bool
+    ensures { result ≡ rises report_source reports.now }
 {
-    let n = used(count, REPORT_PLACES);
-    let mut ok = true;
-    let mut low: usize = 0;
-    let mut i: usize = 0;
-    while i < n {
-        let report = reports[i];
-        let source = report.source.0 as usize;
-        ok = ok & (low <= source);
-        low = source + 1;
-        i += 1;
-    }
-    ok
+    reports.is_sorted_by(|r, next| r.source.0 < next.source.0)
 }
 
-fn echoes_in(echoes: [Echo; 7], count: usize) -> bool
-    ensures { result ≡ all echo_in (take count echoes) }
+fn echoes_in(echoes: &[Echo]) -> bool
+    ensures { result ≡ all echo_in echoes.now }
 {
-    let n = used(count, ECHO_PLACES);
-    let mut ok = true;
-    let mut i: usize = 0;
-    while i < n {
-        let echo = echoes[i];
-        ok = ok & echo_in(echo);
-        i += 1;
-    }
-    ok
+    echoes.iter().all(|e| echo_in(*e))
 }
 
-fn echoes_rise(echoes: [Echo; 7], count: usize) -> bool
-    ensures { result ≡ rises echo_host (take count echoes) }
+fn echoes_rise(echoes: &[Echo]) -> bool
+    ensures { result ≡ rises echo_host echoes.now }
 {
-    let n = used(count, ECHO_PLACES);
-    let mut ok = true;
-    let mut low: usize = 0;
-    let mut i: usize = 0;
-    while i < n {
-        let echo = echoes[i];
-        let host = echo.host.0 as usize;
-        ok = ok & (low <= host);
-        low = host + 1;
-        i += 1;
-    }
-    ok
+    echoes.is_sorted_by(|e, next| e.host.0 < next.host.0)
 }
 
-fn echoes_not_from(sender: Host, echoes: [Echo; 7], count: usize) -> bool
-    ensures { result ≡ all (not_from sender) (take count echoes) }
+fn echoes_not_from(sender: Host, echoes: &[Echo]) -> bool
+    ensures { result ≡ all (not_from sender) echoes.now }
 {
-    let n = used(count, ECHO_PLACES);
-    let mut ok = true;
-    let mut i: usize = 0;
-    while i < n {
-        let echo = echoes[i];
-        ok = ok & not_from(sender, echo);
-        i += 1;
-    }
-    ok
+    echoes.iter().all(|e| e.host != sender)
 }
 
 // Of two names the second's number is from the first's to 63 above it. The sum is taken in 32 bits, where it fits.
-fn window_fits(names: [NameEntry; 2], count: usize) -> bool
-    ensures { result ≡ window_fits (take count names) }
+#[tactic(auto, unfolding(crate::specs::Question::window_fits))]
+fn window_fits(names: &[NameEntry]) -> bool
+    ensures { result ≡ window_fits names.now }
 {
-    if count < NAME_PLACES {
+    let [trail, lead, ..] = names else {
         return true;
-    }
-    let trail = names[0];
-    let lead = names[1];
+    };
     let low = trail.name.number.0 as u32;
     let high = lead.name.number.0 as u32;
-    (low <= high) & (high <= low + 63)
+    low <= high && high <= low + 63
 }
 
 // Question 10, with the greatest cue number.
+#[tactic(auto, unfolding(crate::specs::Question::in_range))]
 fn in_range(most: u16, m: Message) -> bool
     ensures { result ≡ in_range most (meaning_of m) }
 {
-    let counts = m.counts;
-    let names = m.names;
-    let cue = m.cue;
-    let reports = m.reports;
-    let echoes = m.echoes;
-    (m.sender.0 < HOST_LIMIT)
-        & ((m.stamp < TICKS_LIMIT)
-            & (names_in(most, names, counts.names)
-                & (((counts.cues == 0) | cue_in(&cue))
-                    & (reports_in(most, reports, counts.reports)
-                        & echoes_in(echoes, counts.echoes)))))
+    let c = m.counts;
+    m.sender.0 < HOST_LIMIT
+        && m.stamp < TICKS_LIMIT
+        && names_in(most, used(&m.names, c.names))
+        && cues_in(&m.cue, c.cues)
+        && reports_in(most, used(&m.reports, c.reports))
+        && echoes_in(used(&m.echoes, c.echoes))
 }
 
 // Question 11.
+#[tactic(auto, unfolding(crate::specs::Question::hosts_fit))]
 fn hosts_fit(m: Message) -> bool
     ensures { result ≡ hosts_fit (meaning_of m) }
 {
-    let counts = m.counts;
-    let names = m.names;
-    let reports = m.reports;
-    let echoes = m.echoes;
-    names_fit(m.kind, m.sender, names, counts.names)
-        & (reports_rise(reports, counts.reports)
-            & (echoes_rise(echoes, counts.echoes)
-                & (echoes_not_from(m.sender, echoes, counts.echoes)
-                    & window_fits(names, counts.names))))
+    let names = used(&m.names, m.counts.names);
+    let reports = used(&m.reports, m.counts.reports);
+    let echoes = used(&m.echoes, m.counts.echoes);
+    names_fit(m.kind, m.sender, names)
+        && reports_rise(reports)
+        && echoes_rise(echoes)
+        && echoes_not_from(m.sender, echoes)
+        && window_fits(names)
 }
 
-// Questions 10 and 11, of any message and the byte that said its kind: the number of the first that is answered no, or 0.
-pub fn meaning_refusal(byte: u8, m: Message) -> u8
-    ensures { result ≡ first_no (meaning_questions byte (meaning_of m)) }
+// One question: its number where it was answered no.
+pub fn ask(passed: bool, number: u8) -> Result<(), Refusal>
+    requires { 0 < number }
+    ensures { result ≡ outcome (cond passed 0 number) }
 {
-    if !in_range(most_number(byte), m) {
-        return 10;
-    }
-    if !hosts_fit(m) {
-        return 11;
-    }
-    0
+    if passed { Ok(()) } else { Err(Refusal(number)) }
+}
+
+// Questions 10 and 11, of any message and the byte that said its kind.
+pub fn ask_meaning(byte: u8, m: Message) -> Result<(), Refusal>
+    ensures { result ≡ outcome (first_no (meaning_questions byte (meaning_of m))) }
+{
+    ask(in_range(most_number(byte), m), 10)?;
+    ask(hosts_fit(m), 11)
 }
 
 // ---- messages and refusals made by more than one crate
@@ -544,32 +473,26 @@ pub fn meaning_refusal(byte: u8, m: Message) -> u8
 pub fn no_name() -> NameEntry
     ensures { result ≡ blank_name }
 {
-    NameEntry {
-        name: Name {
-            source: Host(0),
-            number: CueNumber(0),
-        },
-        host: Host(0),
-    }
+    NameEntry::default()
 }
 
 pub fn no_report() -> Report
     ensures { result ≡ blank_report }
 {
-    Report {
-        source: Host(0),
-        last: CueNumber(0),
-    }
+    Report::default()
 }
 
 pub fn no_echo() -> Echo
     ensures { result ≡ blank_echo }
 {
-    Echo {
-        host: Host(0),
-        stamp: 0,
-        held: 0,
-    }
+    Echo::default()
+}
+
+// Whether two hosts are the same.
+pub fn same_host(a: Host, b: Host) -> bool
+    ensures { result ≡ same_host a b }
+{
+    a == b
 }
 
 // The message of zeros that stands beside a refusal or a probe.
@@ -580,16 +503,11 @@ pub fn blank() -> Message
         kind: 0,
         sender: Host(0),
         stamp: 0,
-        counts: Counts {
-            names: 0,
-            cues: 0,
-            reports: 0,
-            echoes: 0,
-        },
-        names: [no_name(); 2],
-        cue: [0u8; 24],
-        reports: [no_report(); 8],
-        echoes: [no_echo(); 7],
+        counts: Counts::default(),
+        names: [NameEntry::default(); 2],
+        cue: [0; 24],
+        reports: [Report::default(); 8],
+        echoes: [Echo::default(); 7],
     }
 }
 
@@ -605,8 +523,7 @@ pub fn number_of(verdict: Verdict) -> u8
     ensures { result ≡ refusal_of verdict }
 {
     match verdict {
-        Verdict::Accepted => 0,
-        Verdict::Probe => 0,
+        Verdict::Accepted | Verdict::Probe => 0,
         Verdict::Refused(k) => k,
     }
 }

@@ -8,6 +8,7 @@ use native.Mathlib.Omega.{arith}
 use mathlib.Core.List.{List, [], ◌∷◌, ◌++◌}
 use lib.ListN.{length, take, drop, get_or, set, replicate}
 use lib.Seq.{drop-drop}
+use Rattle.std.proofs.Common.{append-nil}
 use Rattle.numbers.specs.Number.{value}
 use Rattle.message.specs.Section.{entries, section_from}
 use Rattle.message.specs.Entry.{as_host, name_width, name_of, cue_width, cue_of, report_width, report_of, echo_width, echo_of, blank_name, blank_cue, blank_report, blank_echo}
@@ -68,6 +69,18 @@ unfolding entries
 entries-bytes zero s h = refl
 entries-bytes (suc n) [] h = absurd (omega arith)
 entries-bytes (suc n) (x ∷ s) h = ap (λ (l : List ℕ). x ∷ l) (entries-bytes n s (omega arith))
+
+-- the first of at most one cue, copied over zeros
+pub cue_there : (n at : ℕ) (s b : List ℕ) → n ≤ 1 → b ≡ take (at + n * 24 - at) (drop at s)
+    → b ++ drop (n * 24) (replicate 24 0) ≡ get_or (entries cue_of cue_width n (drop at s)) 0 blank_cue
+unfolding entries
+cue_there zero at s b h e =
+    let z : at + 0 * 24 - at ≡ 0 = omega arith in
+    ap (λ (l : List ℕ). l ++ replicate 24 0) (e ∙ ap (λ (k : ℕ). take k (drop at s)) z)
+cue_there (suc zero) at s b h e =
+    let z : at + 1 * 24 - at ≡ 24 = omega arith in
+    append-nil b ∙ e ∙ ap (λ (k : ℕ). take k (drop at s)) z
+cue_there (suc (suc n)) at s b h e = absurd (omega arith)
 
 -- ---- the message that bytes hold, with the counts c
 

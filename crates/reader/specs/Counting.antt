@@ -1,8 +1,10 @@
 -- What the reader's parts promise each other, over the width w of a cue number.
-use Rattle.std.specs.Prelude.{◌≡◌, ℕ, ◌*◌, ◌≤◌, ◌<◌, List, length, get_or}
+use Rattle.std.specs.Prelude.{◌≡◌, ℕ, zero, suc, ◌*◌, ◌≤◌, ◌<◌, List, length, get_or, Result, Ok, Err}
 use Rattle.message.specs.Kind.{number_width, widest_number}
-use Rattle.message.specs.Message.{kind_byte, counts_of, meaning_with, size_with, Small}
+use Rattle.message.specs.Message.{Meaning, held_as, kind_byte, counts_of, meaning_with, size_with, Small}
 use Rattle.message.specs.declared.Counts.{Counts}
+use Rattle.message.specs.declared.Message.{Message}
+use Rattle.message.specs.declared.Refusal.{Refusal}
 
 -- r is the byte at a place, and 0 past the end
 pub record ByteAt (s : List ℕ) (at r : ℕ) : Type 0 where
@@ -37,3 +39,8 @@ pub record Loadable (w : ℕ) (s : List ℕ) (c : Counts) : Type 0 where
   pub size : size_with w c ≡ length s
   pub small : Small w c
   pub widest : w ≤ widest_number
+
+-- the message where the bytes are accepted, and else the number of the first no
+abbrev pub message_or : ℕ → Meaning → Result Message Refusal
+message_or zero M = Ok (held_as M)
+message_or (suc k) M = Err (record { 0 = suc k })

@@ -7,21 +7,20 @@ ghost use Rattle.numbers.specs.Number.{value};
 ghost use Rattle.message.specs.Kind.{widest_number};
 ghost use Rattle.message.specs.Section.{entries};
 ghost use Rattle.message.specs.Entry.{name_width, name_of, cue_width, cue_of, report_width, report_of, echo_width, echo_of, blank_name, blank_cue, blank_report, blank_echo};
-ghost use Rattle.message.specs.Message.{meaning_with, held_as, size_with, name_places, report_places, echo_places};
-ghost use Rattle.message.specs.Question.{blank_message, first_no, message_questions, refusal_of, read_refusal, read_of};
-ghost use Rattle.message.specs.declared.Verdict.TheVariants as verdict;
-ghost use Rattle.reader.specs.Counting.{ByteAt, EntriesLong, CountBytes, CountsIn, WidthIn, Loadable};
+ghost use Rattle.message.specs.Message.{meaning_with, meaning_from, held_as, size_with, name_places, report_places, echo_places};
+ghost use Rattle.message.specs.Question.{first_no, outcome, message_questions, refusal_of, read_refusal, read_of};
+ghost use Rattle.reader.specs.Counting.{ByteAt, EntriesLong, CountBytes, CountsIn, WidthIn, Loadable, message_or};
 
 use message::{
     CUE_WIDTH, Counts, CueNumber, ECHO_WIDTH, Echo, Host, Message, NAME_HOSTS, Name, NameEntry,
-    REPORT_HOSTS, Reading, Report, Verdict,
+    REPORT_HOSTS, Reading, Refusal, Report, Verdict,
 };
 
 // The byte at a place, and 0 past the end.
 fn byte_at(s: &[u8], at: usize) -> usize
     ensures { ByteAt s.now at result }
 {
-    if at < s.len() { s[at] as usize } else { 0 }
+    s.get(at).map_or(0, |byte| *byte as usize)
 }
 
 // How many bytes a cue number has, by the first byte.
@@ -145,12 +144,8 @@ fn read_cue(s: &[u8], at: usize, n: usize) -> [u8; 24]
     ensures { result ≡ get_or (entries cue_of cue_width n (drop at s.now)) 0 blank_cue }
 {
     let mut cue = [0u8; 24];
-    let mut i: usize = 0;
     let end = n * CUE_WIDTH;
-    while i < end {
-        cue[i] = s[at + i];
-        i += 1;
-    }
+    cue[..end].copy_from_slice(&s[at..at + end]);
     cue
 }
 
@@ -210,72 +205,49 @@ fn load(s: &[u8], w: usize, c: Counts) -> Message
     }
 }
 
-// Questions 8 and 9: the number of the first that is answered no, or 0.
-fn counts_refusal(s: &[u8], w: usize, c: Counts) -> u8
+// Questions 8 and 9.
+fn ask_counts(s: &[u8], w: usize, c: Counts) -> Result<(), Refusal>
     requires width_in { WidthIn s.now w }
     requires counts_in { CountsIn w s.now c }
-    ensures { result ≡ first_no (take 2 (message_questions s.now)) }
+    ensures { result ≡ outcome (first_no (take 2 (message_questions s.now))) }
 {
-    let size = size_of(w, c);
-    let whole = (12 <= s.len()) & (size == s.len());
-    if !whole {
-        return 8;
-    }
-    if !message::kind_has_counts(message::kind_of(s[0]), c) {
-        return 9;
-    }
-    0
-}
-
-fn refused(k: u8) -> Reading
-    ensures { result ≡ record { verdict = verdict.Refused k; message = blank_message } }
-{
-    Reading {
-        verdict: Verdict::Refused(k),
-        message: message::blank(),
-    }
-}
-
-// What no bytes are read as.
-fn probed() -> Reading
-    ensures { result ≡ record { verdict = verdict.Probe; message = blank_message } }
-{
-    Reading {
-        verdict: Verdict::Probe,
-        message: message::blank(),
-    }
+    message::ask(12 <= s.len() && size_of(w, c) == s.len(), 8)?;
+    message::ask(message::kind_has_counts(message::kind_of(s[0]), c), 9)
 }
 
 // A message: questions 8, 9, 10 and 11, in this order.
-fn read_message(s: &[u8]) -> Reading
+fn read_message(s: &[u8]) -> Result<Message, Refusal>
     requires { 0 < length s.now }
-    ensures value { result ≡ read_of s.now }
-    ensures verdict_value { refusal_of result.verdict ≡ read_refusal s.now }
+    ensures { result ≡ message_or (read_refusal s.now) (meaning_from s.now) }
 {
     let w = width_in(s);
     let c = counts_in(s, w);
-    let first = counts_refusal(s, w, c);
-    if first != 0 {
-        return refused(first);
-    }
+    ask_counts(s, w, c)?;
     let m = load(s, w, c);
-    let q = message::meaning_refusal(s[0], m);
-    if q != 0 {
-        return refused(q);
-    }
-    Reading {
-        verdict: Verdict::Accepted,
-        message: m,
-    }
+    message::ask_meaning(s[0], m)?;
+    Ok(m)
 }
 
 // Reads a datagram: no bytes are a probe, and of any others the questions are asked.
+// Kept: (a) a message beside the verdict, since the clause `value` promises the message of zeros beside a probe and a refusal.
 pub fn read(s: &[u8]) -> Reading
     ensures value { result ≡ read_of s.now }
     ensures verdict_value { refusal_of result.verdict ≡ read_refusal s.now }
 {
-    if s.len() == 0 {
-        return probed();
+    if s.is_empty() {
+        return Reading {
+            verdict: Verdict::Probe,
+            message: message::blank(),
+        };
     }
-    read_message(s)
+    match read_message(s) {
+        Ok(message) => Reading {
+            verdict: Verdict::Accepted,
+            message,
+        },
+        Err(Refusal(number)) => Reading {
+            verdict: Verdict::Refused(number),
+            message: message::blank(),
+        },
+    }
 }

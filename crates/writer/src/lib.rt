@@ -4,41 +4,35 @@
 
 ghost use Rattle.std.specs.Prelude.{◌≡◌};
 ghost use Rattle.message.specs.Message.{Probe, Saying};
-ghost use Rattle.message.specs.Question.{first_no, room_questions, refusal_of, write_refusal, written_of, output_of};
+ghost use Rattle.message.specs.Question.{first_no, outcome, room_questions, refusal_of, write_refusal, written_of, output_of};
 
-use message::{Message, ROOM_NEEDED, Verdict, Written};
+use message::{Message, ROOM_NEEDED, Refusal, Verdict, Written};
 
-// Questions 1, 9, 10 and 11, of a message and an output with so many bytes: the number of the first that is answered no, or 0.
-fn refusal(m: Message, room: usize) -> u8
-    ensures { result ≡ first_no (room_questions m room) }
+// Questions 1, 9, 10 and 11, of a message and an output with so many bytes.
+fn ask_all(m: Message, room: usize) -> Result<(), Refusal>
+    ensures { result ≡ outcome (first_no (room_questions m room)) }
 {
-    if room < ROOM_NEEDED {
-        return 1;
-    }
-    let c = m.counts;
-    if !message::kind_has_counts(m.kind, c) {
-        return 9;
-    }
-    message::meaning_refusal(m.kind, m)
+    message::ask(ROOM_NEEDED <= room, 1)?;
+    message::ask(message::kind_has_counts(m.kind, m.counts), 9)?;
+    message::ask_meaning(m.kind, m)
 }
 
 // Writes a message into the first bytes of `out`: questions 1, 9, 10 and 11, in this order.
+// Kept: (a) the length beside the verdict, since the clauses `value` and `verdict_value` promise the 0 beside a refusal.
 pub fn write(m: Message, out: &mut [u8]) -> Written
     ensures value { result ≡ written_of (Saying m) out.old }
     ensures verdict_value { refusal_of result.verdict ≡ write_refusal (Saying m) out.old }
     ensures out_after { out.new ≡ output_of (Saying m) out.old }
 {
-    let q = refusal(m, out.len());
-    if q != 0 {
-        return Written {
-            verdict: Verdict::Refused(q),
+    match ask_all(m, out.len()) {
+        Ok(()) => Written {
+            verdict: Verdict::Accepted,
+            len: layout::put_message(out, m),
+        },
+        Err(Refusal(number)) => Written {
+            verdict: Verdict::Refused(number),
             len: 0,
-        };
-    }
-    let len = layout::put_message(out, m);
-    Written {
-        verdict: Verdict::Accepted,
-        len,
+        },
     }
 }
 
@@ -48,14 +42,9 @@ pub fn write_probe(out: &mut [u8]) -> Written
     ensures verdict_value { refusal_of result.verdict ≡ write_refusal Probe out.old }
     ensures out_after { out.new ≡ output_of Probe out.old }
 {
-    if out.len() < ROOM_NEEDED {
-        return Written {
-            verdict: Verdict::Refused(1),
-            len: 0,
-        };
-    }
-    Written {
-        verdict: Verdict::Accepted,
-        len: 0,
-    }
+    let verdict = match message::ask(ROOM_NEEDED <= out.len(), 1) {
+        Ok(()) => Verdict::Accepted,
+        Err(Refusal(number)) => Verdict::Refused(number),
+    };
+    Written { verdict, len: 0 }
 }

@@ -1,30 +1,12 @@
 use borrow.Author.Rules.{rules}
-use Prim.Native.Nat.{◌-◌}
-use native.Mathlib.Omega.{arith}
-use Rattle.message.specs.Entry.{blank_echo}
-use Rattle.message.proofs.TestLaws.{rise-start, rise-next, rise-all}
+use borrow.Author.Tests.{tests}
+use lib.Dec.{ltb}
+use Rattle.std.proofs.lemmas.List.Sorted.{answers_always}
+use Rattle.message.specs.Question.{echo_host}
+use Rattle.message.proofs.TestLaws.{rises-sorted}
 use Rattle.message.proofs.echoes_rise.Goals as goal
 
-pub used-n-requires : goal.used-n-requires
-used-n-requires c = tt
-
-pub loop-i-init : goal.loop-i-init
-loop-i-init c = rise-start (search rules) c.used-n.ensures
-
-pub offset_bounds-echoes-i : goal.offset_bounds-echoes-i
-offset_bounds-echoes-i c = omega arith
-
-pub bounds-echoes-i : goal.bounds-echoes-i
-bounds-echoes-i c = omega arith
-
-pub overflow_add-i : goal.overflow_add-i
-overflow_add-i c = omega arith
-
-pub loop-i-smaller : goal.loop-i-smaller
-loop-i-smaller c = omega arith
-
-pub loop-i-preserved : goal.loop-i-preserved
-loop-i-preserved c = rise-next blank_echo c.loop-i.invariant (omega arith)
-
+-- `message::echoes_rise` meets its contract: the library asks of each entry and the next whether the keys rise.
 pub returns : goal.returns
-returns c = rise-all c.loop-i.invariant (omega arith)
+returns c =
+    rises-sorted echo_host _ _ (c.is_sorted_by.ensures.cases (λ x y. ltb (echo_host x) (echo_host y)) (answers_always _ _ _ (λ f a r q k. search (rules, tests))))

@@ -1,35 +1,12 @@
 use borrow.Author.Rules.{rules}
-use Prim.Native.Nat.{◌-◌}
-use native.Mathlib.Omega.{arith}
-use Rattle.message.specs.Section.{all}
-use Rattle.message.specs.Entry.{blank_name}
-use Rattle.message.proofs.TestLaws.{test_start, test_next, test_all}
+use borrow.Author.Tests.{tests}
+use mathlib.Core.Path.{◌∙◌}
+use Rattle.std.proofs.lemmas.Iterator.{YieldsList-from_slice}
+use Rattle.std.proofs.lemmas.Iterator.Search.{all_from_yields_List}
+use Rattle.message.proofs.TestLaws.{list_all_is}
 use Rattle.message.proofs.names_in.Goals as goal
 
-pub used-n-requires : goal.used-n-requires
-used-n-requires c = tt
-
-pub loop-i-init : goal.loop-i-init
-unfolding all
-loop-i-init c = test_start (search rules) c.used-n.ensures
-
-pub offset_bounds-names-i : goal.offset_bounds-names-i
-offset_bounds-names-i c = omega arith
-
-pub bounds-names-i : goal.bounds-names-i
-bounds-names-i c = omega arith
-
-pub name_in-ok-requires : goal.name_in-ok-requires
-name_in-ok-requires c = tt
-
-pub overflow_add-i : goal.overflow_add-i
-overflow_add-i c = omega arith
-
-pub loop-i-smaller : goal.loop-i-smaller
-loop-i-smaller c = omega arith
-
-pub loop-i-preserved : goal.loop-i-preserved
-loop-i-preserved c = test_next _ blank_name c.loop-i.invariant (omega arith) c.name_in-ok.ensures
-
+-- `message::names_in` meets its contract: the library's `all` over the slice.
 pub returns : goal.returns
-returns c = test_all c.loop-i.invariant (omega arith)
+returns c =
+    all_from_yields_List _ _ _ _ c.all.ensures.ran (YieldsList-from_slice c.args.names.now cc) (λ x b q k. search (rules, tests)) ∙ list_all_is _ _

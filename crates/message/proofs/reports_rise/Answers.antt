@@ -1,30 +1,12 @@
 use borrow.Author.Rules.{rules}
-use Prim.Native.Nat.{◌-◌}
-use native.Mathlib.Omega.{arith}
-use Rattle.message.specs.Entry.{blank_report}
-use Rattle.message.proofs.TestLaws.{rise-start, rise-next, rise-all}
+use borrow.Author.Tests.{tests}
+use lib.Dec.{ltb}
+use Rattle.std.proofs.lemmas.List.Sorted.{answers_always}
+use Rattle.message.specs.Question.{report_source}
+use Rattle.message.proofs.TestLaws.{rises-sorted}
 use Rattle.message.proofs.reports_rise.Goals as goal
 
-pub used-n-requires : goal.used-n-requires
-used-n-requires c = tt
-
-pub loop-i-init : goal.loop-i-init
-loop-i-init c = rise-start (search rules) c.used-n.ensures
-
-pub offset_bounds-reports-i : goal.offset_bounds-reports-i
-offset_bounds-reports-i c = omega arith
-
-pub bounds-reports-i : goal.bounds-reports-i
-bounds-reports-i c = omega arith
-
-pub overflow_add-i : goal.overflow_add-i
-overflow_add-i c = omega arith
-
-pub loop-i-smaller : goal.loop-i-smaller
-loop-i-smaller c = omega arith
-
-pub loop-i-preserved : goal.loop-i-preserved
-loop-i-preserved c = rise-next blank_report c.loop-i.invariant (omega arith)
-
+-- `message::reports_rise` meets its contract: the library asks of each entry and the next whether the keys rise.
 pub returns : goal.returns
-returns c = rise-all c.loop-i.invariant (omega arith)
+returns c =
+    rises-sorted report_source _ _ (c.is_sorted_by.ensures.cases (λ x y. ltb (report_source x) (report_source y)) (answers_always _ _ _ (λ f a r q k. search (rules, tests))))

@@ -1,43 +1,34 @@
 -- `reader::read_message` meets its contract: the first no is that of questions 8 and 9, or else that of the message that was loaded.
-use mathlib.Core.Path.{◌≡◌, sym, ap, ◌∙◌}
-use mathlib.Core.List.{List}
-use Prim.Native.Nat.{ℕ, ◌<◌}
-use lib.ListN.{length}
-use native.Mathlib.Omega.{arith}
-use Rattle.message.specs.Message.{meaning_with, meaning_from, held_as}
-use Rattle.message.specs.Question.{read_refusal}
-use Rattle.reader.proofs.ReadLaws.{Passed, passed, loadable, refused-first, refused-by, no, yes_read}
+use mathlib.Core.Path.{◌≡◌, ap, ◌∙◌}
+use Prim.Native.Nat.{ℕ}
+use borrow.Author.Rules.{rules}
+use Rattle.std.specs.Prelude.{Result, Err}
+use Rattle.message.specs.declared.Message.{Message}
+use Rattle.message.specs.declared.Refusal.{Refusal}
+use Rattle.message.specs.Message.{meaning_with, held_as}
+use Rattle.message.proofs.QuestionLaws.{none-refused}
+use Rattle.reader.proofs.ReadLaws.{passed, loadable, counts_no, meaning_no, meaning-yes}
 use Rattle.reader.proofs.read_message.Goals as goal
 
-pub returns-then-first-ne0 : goal.returns-then-first-ne0
-returns-then-first-ne0 c =
-    let bytes : List ℕ = c.args.s.now in
-    let long : 0 < length (bytes) = c.requires in
-    let k = c.counts_refusal-first.result in
-    let first = refused-first bytes long k (omega arith) c.counts_refusal-first.ensures in let it = no bytes long k c.refused.result (omega arith) first c.refused.ensures in
-    record { value = it.0; verdict_value = it.1 }
+pub returns-in_err-ask_counts : goal.returns-in_err-ask_counts
+returns-in_err-ask_counts c =
+    let e : ◌≡◌ {A = Result Message Refusal} c.from_residual.result (Err c.in_err-ask_counts.field-0.0) = search rules in
+    e ∙ counts_no c.args.s.now c.requires c.in_err-ask_counts.ensures
 
 pub load-m-requires : goal.load-m-requires
-load-m-requires c =
-    let bytes : List ℕ = c.args.s.now in
-    let both : Passed (bytes) = let z : c.counts_refusal-first.result ≡ 0 = omega arith in passed (bytes) (sym c.counts_refusal-first.ensures ∙ z) in
-    loadable bytes c.width_in-w.ensures c.counts_in-c.ensures both
+load-m-requires c = loadable c.args.s.now c.width_in-w.ensures c.counts_in-c.ensures (passed c.args.s.now (none-refused _ c.in_ok-ask_counts.ensures))
 
-pub returns-then-q-ne0 : goal.returns-then-q-ne0
-returns-then-q-ne0 c =
-    let bytes : List ℕ = c.args.s.now in
-    let long : 0 < length (bytes) = c.requires in
-    let both : Passed (bytes) = let z : c.counts_refusal-first.result ≡ 0 = omega arith in passed (bytes) (sym c.counts_refusal-first.ensures ∙ z) in
-    let held : c.load-m.result ≡ held_as (meaning_from (bytes)) = c.load-m.ensures ∙ ap (λ (w : ℕ). held_as (meaning_with w (bytes))) c.width_in-w.ensures.width in
-    let decided : read_refusal (bytes) ≡ c.meaning_refusal-q.result = refused-by (bytes) (long) (both) c.load-m.result (held) ∙ sym c.meaning_refusal-q.ensures in let it = no bytes long c.meaning_refusal-q.result c.refused-then-q-ne0.result (omega arith) decided c.refused-then-q-ne0.ensures in
-    record { value = it.0; verdict_value = it.1 }
+pub returns-in_err-ask_meaning : goal.returns-in_err-ask_meaning
+returns-in_err-ask_meaning c =
+    let s = c.args.s.now in
+    let both = passed s (none-refused _ c.in_ok-ask_counts.ensures) in
+    let held = c.load-m.ensures ∙ ap (λ (w : ℕ). held_as (meaning_with w s)) c.width_in-w.ensures.width in
+    let e : ◌≡◌ {A = Result Message Refusal} c.from_residual-in_err-ask_meaning.result (Err c.in_err-ask_meaning.field-0.0) = search rules in
+    e ∙ meaning_no s c.requires both c.load-m.result held c.in_err-ask_meaning.ensures
 
 pub returns : goal.returns
 returns c =
-    let bytes : List ℕ = c.args.s.now in
-    let long : 0 < length (bytes) = c.requires in
-    let both : Passed (bytes) = let z : c.counts_refusal-first.result ≡ 0 = omega arith in passed (bytes) (sym c.counts_refusal-first.ensures ∙ z) in
-    let held : c.load-m.result ≡ held_as (meaning_from (bytes)) = c.load-m.ensures ∙ ap (λ (w : ℕ). held_as (meaning_with w (bytes))) c.width_in-w.ensures.width in
-    let decided : read_refusal (bytes) ≡ c.meaning_refusal-q.result = refused-by (bytes) (long) (both) c.load-m.result (held) ∙ sym c.meaning_refusal-q.ensures in
-    let z : c.meaning_refusal-q.result ≡ 0 = omega arith in let it = yes_read bytes long c.load-m.result (decided ∙ z) held in
-    record { value = it.0; verdict_value = it.1 }
+    let s = c.args.s.now in
+    let both = passed s (none-refused _ c.in_ok-ask_counts.ensures) in
+    let held = c.load-m.ensures ∙ ap (λ (w : ℕ). held_as (meaning_with w s)) c.width_in-w.ensures.width in
+    meaning-yes s c.requires both c.load-m.result held c.in_ok-ask_meaning.ensures

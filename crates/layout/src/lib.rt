@@ -4,14 +4,14 @@
 // The width w of a cue number goes by the message's kind (`message::number_width`).
 #![tactic(auto)]
 
-ghost use Rattle.std.specs.Prelude.{◌≡◌, [], ◌∷◌, ◌+◌, ◌*◌, ◌≤◌, length, take};
+ghost use Rattle.std.specs.Prelude.{◌≡◌, ℕ, List, [], ◌∷◌, ◌+◌, ◌*◌, ◌≤◌, ◌<◌, length, take};
 ghost use Rattle.numbers.specs.Number.{digits};
 ghost use Rattle.numbers.specs.Splice.{splice};
 ghost use Rattle.message.specs.Limit.{room_needed};
 ghost use Rattle.message.specs.Kind.{number_width, widest_number};
 ghost use Rattle.message.specs.Section.{section};
 ghost use Rattle.message.specs.Entry.{name_width, name_bytes, cue_width, cue_bytes, report_width, report_bytes, echo_width, echo_bytes};
-ghost use Rattle.message.specs.Message.{name_places, report_places, echo_places, Small, head_bytes, front_bytes, back_bytes, bytes_with, bytes_of, meaning_of};
+ghost use Rattle.message.specs.Message.{Small, head_bytes, front_bytes, back_bytes, bytes_with, bytes_of, meaning_of};
 ghost use Rattle.layout.specs.Puts.{Puts};
 
 use message::{
@@ -26,45 +26,80 @@ fn put_number(out: &mut [u8], at: usize, w: usize, n: CueNumber)
     numbers::put_be(out, at, w, n.0 as u64)
 }
 
-fn put_name(out: &mut [u8], at: usize, w: usize, n: NameEntry)
-    requires { at + name_width w ≤ length out.old }
-    ensures { Puts at (name_width w) (name_bytes w n) out.old out.new }
-{
-    numbers::put_byte(out, at, n.name.source.0);
-    put_number(out, at + 1, w, n.name.number);
-    numbers::put_byte(out, at + 1 + w, n.host.0);
+// An entry of a section: how many bytes it has and which they are, over the width w of a cue number.
+trait Entry: Copy {
+    ghost width: { ℕ → ℕ };
+
+    ghost bytes: { ℕ → Self → List ℕ };
+
+    fn width_of(w: usize) -> usize
+        requires { w ≤ widest_number }
+        ensures { result ≡ width w };
+
+    // Writes the entry from a place on.
+    fn put(self, out: &mut [u8], at: usize, w: usize)
+        requires { at + width w ≤ length out.old }
+        ensures { Puts at (width w) (bytes w self) out.old out.new };
 }
 
-fn put_report(out: &mut [u8], at: usize, w: usize, r: Report)
-    requires { at + report_width w ≤ length out.old }
-    ensures { Puts at (report_width w) (report_bytes w r) out.old out.new }
-{
-    numbers::put_byte(out, at, r.source.0);
-    put_number(out, at + 1, w, r.last);
+impl Entry for NameEntry {
+    ghost width = { name_width };
+
+    ghost bytes = { name_bytes };
+
+    fn width_of(w: usize) -> usize {
+        NAME_HOSTS + w
+    }
+
+    fn put(self, out: &mut [u8], at: usize, w: usize) {
+        numbers::put_byte(out, at, self.name.source.0);
+        put_number(out, at + 1, w, self.name.number);
+        numbers::put_byte(out, at + 1 + w, self.host.0);
+    }
 }
 
-fn put_echo(out: &mut [u8], at: usize, e: Echo)
-    requires { at + echo_width ≤ length out.old }
-    ensures { Puts at echo_width (echo_bytes e) out.old out.new }
-{
-    numbers::put_byte(out, at, e.host.0);
-    numbers::put_be(out, at + 1, 6, e.stamp);
-    numbers::put_be(out, at + 7, 6, e.held);
+impl Entry for Report {
+    ghost width = { report_width };
+
+    ghost bytes = { report_bytes };
+
+    fn width_of(w: usize) -> usize {
+        REPORT_HOSTS + w
+    }
+
+    fn put(self, out: &mut [u8], at: usize, w: usize) {
+        numbers::put_byte(out, at, self.source.0);
+        put_number(out, at + 1, w, self.last);
+    }
 }
 
-// The sections, each after its count.
-fn put_names(out: &mut [u8], at: usize, w: usize, n: usize, names: [NameEntry; 2])
-    requires n_le_name_places { n ≤ name_places }
-    requires w_in_bounds { at + (1 + n * name_width w) ≤ length out.old }
-    ensures { Puts at (1 + n * name_width w) (section (name_bytes w) (take n names)) out.old out.new }
+impl Entry for Echo {
+    ghost width = { λ w. echo_width };
+
+    ghost bytes = { λ w. echo_bytes };
+
+    fn width_of(_w: usize) -> usize {
+        ECHO_WIDTH
+    }
+
+    fn put(self, out: &mut [u8], at: usize, _w: usize) {
+        numbers::put_byte(out, at, self.host.0);
+        numbers::put_be(out, at + 1, 6, self.stamp);
+        numbers::put_be(out, at + 7, 6, self.held);
+    }
+}
+
+// A section: its count, and the first n entries of an array.
+fn put_section<T: Entry, const N: usize>(out: &mut [u8], at: usize, w: usize, n: usize, entries: [T; N])
+    requires w_le_widest_number { w ≤ widest_number }
+    requires n_le_places { n ≤ N }
+    requires n_is_byte { n < 256 }
+    requires w_in_bounds { at + (1 + n * T.width w) ≤ length out.old }
+    ensures { Puts at (1 + n * T.width w) (section (T.bytes w) (take n entries)) out.old out.new }
 {
     numbers::put_byte(out, at, n as u8);
-    let mut i: usize = 0;
-    while i < n {
-        let here = at + 1 + i * (NAME_HOSTS + w);
-        let name = names[i];
-        put_name(out, here, w, name);
-        i += 1;
+    for i in 0..n {
+        entries[i].put(out, at + 1 + i * T::width_of(w), w);
     }
 }
 
@@ -76,36 +111,6 @@ fn put_cues(out: &mut [u8], at: usize, n: usize, cue: &[u8; 24])
     numbers::put_byte(out, at, n as u8);
     if n == 1 {
         numbers::put_bytes(out, at + 1, cue);
-    }
-}
-
-fn put_reports(out: &mut [u8], at: usize, w: usize, n: usize, reports: [Report; 8])
-    requires n_le_report_places { n ≤ report_places }
-    requires w_in_bounds { at + (1 + n * report_width w) ≤ length out.old }
-    ensures { Puts at (1 + n * report_width w) (section (report_bytes w) (take n reports)) out.old out.new }
-{
-    numbers::put_byte(out, at, n as u8);
-    let mut i: usize = 0;
-    while i < n {
-        let here = at + 1 + i * (REPORT_HOSTS + w);
-        let report = reports[i];
-        put_report(out, here, w, report);
-        i += 1;
-    }
-}
-
-fn put_echoes(out: &mut [u8], at: usize, n: usize, echoes: [Echo; 7])
-    requires n_le_echo_places { n ≤ echo_places }
-    requires echo_width_in_bounds { at + (1 + n * echo_width) ≤ length out.old }
-    ensures { Puts at (1 + n * echo_width) (section echo_bytes (take n echoes)) out.old out.new }
-{
-    numbers::put_byte(out, at, n as u8);
-    let mut i: usize = 0;
-    while i < n {
-        let here = at + 1 + i * ECHO_WIDTH;
-        let echo = echoes[i];
-        put_echo(out, here, echo);
-        i += 1;
     }
 }
 
@@ -127,11 +132,9 @@ fn put_front(out: &mut [u8], w: usize, m: Message)
 {
     let c = m.counts;
     let at = 9 + c.names * (NAME_HOSTS + w);
-    let names = m.names;
-    let cue = m.cue;
     put_head(out, m.kind, m.sender, m.stamp);
-    put_names(out, 8, w, c.names, names);
-    put_cues(out, at, c.cues, &cue);
+    put_section(out, 8, w, c.names, m.names);
+    put_cues(out, at, c.cues, &m.cue);
 }
 
 // The reports and the echoes.
@@ -143,10 +146,8 @@ fn put_back(out: &mut [u8], at: usize, w: usize, m: Message)
 {
     let c = m.counts;
     let next = at + 1 + c.reports * (REPORT_HOSTS + w);
-    let reports = m.reports;
-    let echoes = m.echoes;
-    put_reports(out, at, w, c.reports, reports);
-    put_echoes(out, next, c.echoes, echoes);
+    put_section(out, at, w, c.reports, m.reports);
+    put_section(out, next, w, c.echoes, m.echoes);
 }
 
 fn put_with(out: &mut [u8], w: usize, m: Message) -> usize

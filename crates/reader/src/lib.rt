@@ -2,12 +2,12 @@
 // the crate message, specs/Question.antt.
 #![tactic(auto)]
 
-ghost use Rattle.std.specs.Prelude.{◌≡◌, ◌++◌, ◌+◌, ◌*◌, ◌-◌, ◌≤◌, ◌<◌, length, get_or, take, drop, replicate};
+ghost use Rattle.std.specs.Prelude.{◌≡◌, ℕ, List, ◌++◌, ◌+◌, ◌*◌, ◌-◌, ◌≤◌, ◌<◌, length, get_or, take, drop, replicate};
 ghost use Rattle.numbers.specs.Number.{value};
 ghost use Rattle.message.specs.Kind.{widest_number};
 ghost use Rattle.message.specs.Section.{entries};
 ghost use Rattle.message.specs.Entry.{name_width, name_of, cue_width, cue_of, report_width, report_of, echo_width, echo_of, blank_name, blank_cue, blank_report, blank_echo};
-ghost use Rattle.message.specs.Message.{meaning_with, meaning_from, held_as, size_with, name_places, report_places, echo_places};
+ghost use Rattle.message.specs.Message.{meaning_with, meaning_from, held_as, size_with};
 ghost use Rattle.message.specs.Question.{first_no, outcome, message_questions, refusal_of, read_refusal, read_of};
 ghost use Rattle.reader.specs.Counting.{ByteAt, EntriesLong, CountBytes, CountsIn, WidthIn, Loadable, message_or};
 
@@ -77,64 +77,116 @@ fn read_number(s: &[u8], at: usize, w: usize) -> CueNumber
     CueNumber(numbers::read_be(s, at, w) as u16)
 }
 
-fn read_name(s: &[u8], at: usize, w: usize) -> NameEntry
-    requires w_le_widest_number { w ≤ widest_number }
-    requires w_in_bounds { at + name_width w ≤ length s.now }
-    ensures { result ≡ name_of w (drop at s.now) }
-{
-    let number = read_number(s, at + 1, w);
-    NameEntry {
-        name: Name {
+// An entry of a section: how many bytes it has and what they say, over the width w of a cue number.
+trait Entry: Copy {
+    ghost width: { ℕ → ℕ };
+
+    ghost entry_of: { ℕ → List ℕ → Self };
+
+    ghost blank: { Self };
+
+    fn width_of(w: usize) -> usize
+        requires { w ≤ widest_number }
+        ensures { result ≡ width w };
+
+    // The entry that starts at a place.
+    fn read(s: &[u8], at: usize, w: usize) -> Self
+        requires w_le_widest_number { w ≤ widest_number }
+        requires w_in_bounds { at + width w ≤ length s.now }
+        ensures { result ≡ entry_of w (drop at s.now) };
+
+    // What stands in a place that no entry uses.
+    fn empty() -> Self
+        ensures { result ≡ blank };
+}
+
+impl Entry for NameEntry {
+    ghost width = { name_width };
+
+    ghost entry_of = { name_of };
+
+    ghost blank = { blank_name };
+
+    fn width_of(w: usize) -> usize {
+        NAME_HOSTS + w
+    }
+
+    fn read(s: &[u8], at: usize, w: usize) -> NameEntry {
+        let number = read_number(s, at + 1, w);
+        NameEntry {
+            name: Name {
+                source: Host(s[at]),
+                number,
+            },
+            host: Host(s[at + (1 + w)]),
+        }
+    }
+
+    fn empty() -> NameEntry {
+        NameEntry::default()
+    }
+}
+
+impl Entry for Report {
+    ghost width = { report_width };
+
+    ghost entry_of = { report_of };
+
+    ghost blank = { blank_report };
+
+    fn width_of(w: usize) -> usize {
+        REPORT_HOSTS + w
+    }
+
+    fn read(s: &[u8], at: usize, w: usize) -> Report {
+        let last = read_number(s, at + 1, w);
+        Report {
             source: Host(s[at]),
-            number,
-        },
-        host: Host(s[at + (1 + w)]),
+            last,
+        }
+    }
+
+    fn empty() -> Report {
+        Report::default()
     }
 }
 
-fn read_report(s: &[u8], at: usize, w: usize) -> Report
+impl Entry for Echo {
+    ghost width = { λ w. echo_width };
+
+    ghost entry_of = { λ w. echo_of };
+
+    ghost blank = { blank_echo };
+
+    fn width_of(_w: usize) -> usize {
+        ECHO_WIDTH
+    }
+
+    fn read(s: &[u8], at: usize, _w: usize) -> Echo {
+        Echo {
+            host: Host(s[at]),
+            stamp: numbers::read_be(s, at + 1, 6),
+            held: numbers::read_be(s, at + 7, 6),
+        }
+    }
+
+    fn empty() -> Echo {
+        Echo::default()
+    }
+}
+
+// The n entries from `at` on, and blanks in the places left over.
+fn read_entries<T: Entry, const N: usize>(s: &[u8], at: usize, w: usize, n: usize) -> [T; N]
     requires w_le_widest_number { w ≤ widest_number }
-    requires w_in_bounds { at + report_width w ≤ length s.now }
-    ensures { result ≡ report_of w (drop at s.now) }
+    requires n_le_places { n ≤ N }
+    requires w_in_bounds { at + n * T.width w ≤ length s.now }
+    ensures { result ≡ entries (T.entry_of w) (T.width w) n (drop at s.now) ++ replicate (N - n) T.blank }
 {
-    let last = read_number(s, at + 1, w);
-    Report {
-        source: Host(s[at]),
-        last,
+    let mut entries = [T::empty(); N];
+    for i in 0..n {
+        entries[i] = T::read(s, at + i * T::width_of(w), w);
     }
-}
-
-fn read_echo(s: &[u8], at: usize) -> Echo
-    requires { at + echo_width ≤ length s.now }
-    ensures { result ≡ echo_of (drop at s.now) }
-{
-    Echo {
-        host: Host(s[at]),
-        stamp: numbers::read_be(s, at + 1, 6),
-        held: numbers::read_be(s, at + 7, 6),
-    }
-}
-
-// The n names from `at` on, and blanks in the places left over.
-fn read_names(s: &[u8], at: usize, w: usize, n: usize) -> [NameEntry; 2]
-    requires w_le_widest_number { w ≤ widest_number }
-    requires n_le_name_places { n ≤ name_places }
-    requires w_in_bounds { at + n * name_width w ≤ length s.now }
-    ensures { result ≡ entries (name_of w) (name_width w) n (drop at s.now) ++ replicate (name_places - n) blank_name }
-{
-    let mut names = [NameEntry {
-        name: Name {
-            source: Host(0),
-            number: CueNumber(0),
-        },
-        host: Host(0),
-    }; 2];
-    let mut i: usize = 0;
-    while i < n {
-        names[i] = read_name(s, at + i * (NAME_HOSTS + w), w);
-        i += 1;
-    }
-    names
+    entries
 }
 
 // The first of n cues, or a blank where there is none.
@@ -147,42 +199,6 @@ fn read_cue(s: &[u8], at: usize, n: usize) -> [u8; 24]
     let end = n * CUE_WIDTH;
     cue[..end].copy_from_slice(&s[at..at + end]);
     cue
-}
-
-fn read_reports(s: &[u8], at: usize, w: usize, n: usize) -> [Report; 8]
-    requires w_le_widest_number { w ≤ widest_number }
-    requires n_le_report_places { n ≤ report_places }
-    requires w_in_bounds { at + n * report_width w ≤ length s.now }
-    ensures { result ≡ entries (report_of w) (report_width w) n (drop at s.now) ++ replicate (report_places - n) blank_report }
-{
-    let mut reports = [Report {
-        source: Host(0),
-        last: CueNumber(0),
-    }; 8];
-    let mut i: usize = 0;
-    while i < n {
-        reports[i] = read_report(s, at + i * (REPORT_HOSTS + w), w);
-        i += 1;
-    }
-    reports
-}
-
-fn read_echoes(s: &[u8], at: usize, n: usize) -> [Echo; 7]
-    requires n_le_echo_places { n ≤ echo_places }
-    requires echo_width_in_bounds { at + n * echo_width ≤ length s.now }
-    ensures { result ≡ entries echo_of echo_width n (drop at s.now) ++ replicate (echo_places - n) blank_echo }
-{
-    let mut echoes = [Echo {
-        host: Host(0),
-        stamp: 0,
-        held: 0,
-    }; 7];
-    let mut i: usize = 0;
-    while i < n {
-        echoes[i] = read_echo(s, at + i * ECHO_WIDTH);
-        i += 1;
-    }
-    echoes
 }
 
 // The message that the bytes hold, where their counts account for the length and fit the places.
@@ -198,10 +214,10 @@ fn load(s: &[u8], w: usize, c: Counts) -> Message
         sender: Host(s[1]),
         stamp: numbers::read_be(s, 2, 6),
         counts: c,
-        names: read_names(s, 9, w, c.names),
+        names: read_entries(s, 9, w, c.names),
         cue: read_cue(s, 10 + names, c.cues),
-        reports: read_reports(s, 11 + names + cues, w, c.reports),
-        echoes: read_echoes(s, 12 + names + cues + reports, c.echoes),
+        reports: read_entries(s, 11 + names + cues, w, c.reports),
+        echoes: read_entries(s, 12 + names + cues + reports, w, c.echoes),
     }
 }
 

@@ -7,4 +7,4 @@ pub returns : goal.returns
 returns c =
     let echoes = c.before.before in
     let reports = echoes.before.before.before.before in
-    puts-long (puts-next reports.put_reports.ensures echoes.put_echoes.ensures (omega arith)) (omega arith)
+    puts-long (puts-next reports.put_section.ensures echoes.put_section-2.ensures (omega arith)) (omega arith)

@@ -10,5 +10,5 @@ returns c =
     let names = cues.before.before.before.before.before in
     let head = names.before.before.before.before in
     puts-long
-    (puts-next head.put_head.ensures (puts-next names.put_names.ensures cues.put_cues.ensures (omega arith)) refl)
+    (puts-next head.put_head.ensures (puts-next names.put_section.ensures cues.put_cues.ensures (omega arith)) refl)
     (omega arith)

@@ -19,10 +19,10 @@ returns c =
       sender = as_host (get_or s 1 0);
       stamp = stamp.read_be.ensures.number i;
       counts = counts.args.c;
-      names = names.read_names.ensures i;
+      names = names.read_entries.ensures i;
       cue = cue.read_cue.ensures i;
-      reports = reports.read_reports.ensures i;
-      echoes = c.read_echoes.ensures i;
+      reports = reports.read_entries-2.ensures i;
+      echoes = c.read_entries-3.ensures i;
     })
     ∙ ap (loaded_by counts.args.w s) counts.requires.counts
     ∙ loaded counts.args.w s

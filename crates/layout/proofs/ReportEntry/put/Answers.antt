@@ -1,9 +1,9 @@
 use mathlib.Core.Path.{refl}
 use native.Mathlib.Omega.{arith}
 use Rattle.layout.proofs.PutLaws.{put_byte, put-number, puts-next}
-use Rattle.layout.proofs.put_report.Goals as goal
+use Rattle.layout.proofs.ReportEntry.put.Goals as goal
 
--- `layout::put_report` meets its contract: two parts, the second at the end of the first.
+-- `layout::ReportEntry::put` meets its contract: two parts, the second at the end of the first.
 pub returns : goal.returns
 returns c =
     let last = c.before.before in

@@ -6,9 +6,9 @@ use lib.Seq.{drop-drop}
 use Rattle.numbers.specs.Number.{value}
 use Rattle.message.specs.Entry.{as_host}
 use Rattle.message.proofs.EntryLaws.{head_at}
-use Rattle.reader.proofs.read_echo.Goals as goal
+use Rattle.reader.proofs.EchoEntry.read.Goals as goal
 
--- `reader::read_echo` meets its contract, field by field.
+-- `reader::EchoEntry::read` meets its contract, field by field.
 pub returns : goal.returns
 returns c =
     let a = c.args in

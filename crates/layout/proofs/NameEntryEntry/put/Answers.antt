@@ -1,9 +1,9 @@
 use mathlib.Core.Path.{refl}
 use native.Mathlib.Omega.{arith}
 use Rattle.layout.proofs.PutLaws.{put_byte, put-number, puts-next, puts-long}
-use Rattle.layout.proofs.put_name.Goals as goal
+use Rattle.layout.proofs.NameEntryEntry.put.Goals as goal
 
--- `layout::put_name` meets its contract: three parts, each at the end of the one before.
+-- `layout::NameEntryEntry::put` meets its contract: three parts, each at the end of the one before.
 pub returns : goal.returns
 returns c =
     let host = c.before.before in

@@ -1,9 +1,9 @@
 use mathlib.Core.Path.{refl}
 use native.Mathlib.Omega.{arith}
 use Rattle.layout.proofs.PutLaws.{put_byte, put-number, puts-next}
-use Rattle.layout.proofs.put_echo.Goals as goal
+use Rattle.layout.proofs.EchoEntry.put.Goals as goal
 
--- `layout::put_echo` meets its contract: three parts, each at the end of the one before.
+-- `layout::EchoEntry::put` meets its contract: three parts, each at the end of the one before.
 pub returns : goal.returns
 returns c =
     let held = c.before.before in

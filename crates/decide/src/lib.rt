@@ -86,7 +86,9 @@ impl Case {
     fn decide_express(self) -> Decision
         ensures { result ≡ decide_express self.t self.w self.r self.span }
     {
-        if self.w.host.0 == self.t.me.0 && state::is_held(self.r.slot) && self.r.hush <= self.t.clock
+        if self.w.host.0 == self.t.me.0
+            && state::is_held(self.r.slot)
+            && self.r.hush <= self.t.clock
         {
             return Decision::Expresses;
         }

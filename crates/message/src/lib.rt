@@ -300,10 +300,7 @@ fn has_counts(row: Option<Row>, c: Counts) -> bool
     ensures { result ≡ has_counts row c }
 {
     row.is_some_and(|r| {
-        c.names == r.names
-            && c.cues == r.cues
-            && c.reports <= r.reports
-            && c.echoes <= r.echoes
+        c.names == r.names && c.cues == r.cues && c.reports <= r.reports && c.echoes <= r.echoes
     })
 }
 

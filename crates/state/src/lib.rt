@@ -175,7 +175,9 @@ pub fn with_attempt(s: Source, n: CueNumber, a: Attempt) -> Source
 pub fn params_small(p: Params) -> bool
     ensures { result ≡ all_of (params_tests p) }
 {
-    [p.c1, p.c2, p.c3, p.d1, p.d2, p.d3].iter().all(|n| *n <= 32)
+    [p.c1, p.c2, p.c3, p.d1, p.d2, p.d3]
+        .iter()
+        .all(|n| *n <= 32)
 }
 
 // E is 0..1000.
@@ -206,7 +208,11 @@ pub fn with_span(s: Source, span: Span) -> Source
 pub fn with_heard(s: Source, distance: u64, heard: Heard) -> Source
     ensures { result ≡ with_heard (with_distance s distance) heard }
 {
-    Source { distance, heard, ..s }
+    Source {
+        distance,
+        heard,
+        ..s
+    }
 }
 
 pub fn with_clock(e: End, clock: u64) -> End

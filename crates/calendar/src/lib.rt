@@ -5,7 +5,8 @@
 ghost use Rattle.std.specs.Prelude.{◌≡◌};
 ghost use Rattle.calendar.specs.Calendar.{date, leap_of, days_of, exists_of, not_after, next_day, roll_code, roll_date};
 
-#[derive(Clone, Copy)]
+// Dates are ordered by the year, then the month, then the day.
+#[derive(Clone, Copy, PartialEq, Eq, PartialOrd, Ord)]
 pub struct Date {
     pub year: u16,
     pub month: u8,
@@ -47,28 +48,15 @@ fn leap(year: u16) -> bool
 }
 
 // How many days a month has.
+#[tactic(auto, unfolding(crate::specs::Calendar::days_of))]
 fn days(year: u16, month: u8) -> u8
     ensures { result ≡ days_of year month }
 {
-    if month == 2 {
-        if leap(year) {
-            return 29;
-        }
-        return 28;
+    match month {
+        2 => { if leap(year) { 29 } else { 28 } }
+        4 | 6 | 9 | 11 => 30,
+        _ => 31,
     }
-    if month == 4 {
-        return 30;
-    }
-    if month == 6 {
-        return 30;
-    }
-    if month == 9 {
-        return 30;
-    }
-    if month == 11 {
-        return 30;
-    }
-    31
 }
 
 // Whether a date is one of the calendar's. FIRST has the first month and day that there are, LAST the last month.
@@ -97,19 +85,7 @@ pub fn exists(d: Date) -> bool
 pub fn not_after(a: Date, b: Date) -> bool
     ensures { result ≡ not_after a b }
 {
-    if a.year < b.year {
-        return true;
-    }
-    if b.year < a.year {
-        return false;
-    }
-    if a.month < b.month {
-        return true;
-    }
-    if b.month < a.month {
-        return false;
-    }
-    a.day <= b.day
+    a <= b
 }
 
 // The day after; the last day stays.

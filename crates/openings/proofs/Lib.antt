@@ -1,6 +1,5 @@
 pub mod Tests
 pub mod PassLaws
-pub mod PlacesLaws
 pub mod Numbers
 pub mod Earliest
 pub mod Cases

@@ -2,8 +2,8 @@
 // specs/Windows.antt and specs/Find.antt; what is proved of them, that the minute found is the earliest, is stated in specs/Promise.antt.
 #![tactic(auto)]
 
-ghost use Rattle.std.specs.Prelude.{◌≡◌, max, min, take};
-ghost use Rattle.openings.specs.Windows.{window_exists, before};
+ghost use Rattle.std.specs.Prelude.{◌≡◌, take};
+ghost use Rattle.openings.specs.Windows.{window_exists};
 ghost use Rattle.openings.specs.Find.{lasts_on, candidate_of, first_of, earlier_of, find_of};
 ghost use Rattle.openings.specs.Pass.{start_of, with_window};
 
@@ -18,8 +18,8 @@ pub struct Window {
     pub end: u16,
 }
 
-// A minute of a day.
-#[derive(Clone, Copy)]
+// A minute of a day. Minutes are ordered by the date, then the minute.
+#[derive(Clone, Copy, PartialEq, Eq, PartialOrd, Ord)]
 pub struct Moment {
     pub date: Date,
     pub minute: u16,
@@ -59,26 +59,6 @@ pub fn window_exists(w: Window) -> bool
     w.end <= DAY
 }
 
-fn is_before(a: Moment, b: Moment) -> bool
-    ensures { result ≡ before a b }
-{
-    let da = a.date;
-    let db = b.date;
-    if !calendar::not_after(da, db) {
-        return false;
-    }
-    if !calendar::not_after(db, da) {
-        return true;
-    }
-    a.minute < b.minute
-}
-
-fn later(a: u16, b: u16) -> u16
-    ensures { result ≡ max a b }
-{
-    if a < b { b } else { a }
-}
-
 // Whether a window's dates are not over on m's day, and its minutes not by m's minute.
 fn lasts(w: Window, m: Moment) -> bool
     ensures { result ≡ lasts_on w m }
@@ -105,7 +85,7 @@ fn candidate(w: Window, m: Moment) -> Opening
         });
     }
     if lasts(w, m) {
-        let minute = later(m.minute, w.start);
+        let minute = m.minute.max(w.start);
         return Opening::At(Moment { date, minute });
     }
     if calendar::not_after(last, date) {
@@ -122,7 +102,7 @@ fn candidate(w: Window, m: Moment) -> Opening
 fn first_of(a: Moment, b: Moment) -> Moment
     ensures { result ≡ first_of a b }
 {
-    if is_before(a, b) { a } else { b }
+    if a < b { a } else { b }
 }
 
 // The earlier of a minute found so far and one window's.
@@ -179,30 +159,15 @@ pub fn find(ws: &[Window], m: Moment) -> Opening
     ensures { result ≡ find_of ws.now m }
 {
     let mut so_far = asked(ws.len(), m);
-    let mut i = 0;
-    while i < ws.len() {
-        so_far = with_window(so_far, ws[i], m);
-        i = i + 1;
+    for w in ws {
+        so_far = with_window(so_far, *w, m);
     }
     so_far
-}
-
-fn least(a: usize, b: usize) -> usize
-    ensures { result ≡ min a b }
-{
-    if a < b { a } else { b }
 }
 
 // The same for a list that stands in the first n of some places, by value: a caller that keeps its windows so lends nothing.
 pub fn find_in(places: [Window; 33], n: usize, m: Moment) -> Opening
     ensures { result ≡ find_of (take n places) m }
 {
-    let count = least(n, 33);
-    let mut so_far = asked(count, m);
-    let mut i: usize = 0;
-    while i < count {
-        so_far = with_window(so_far, places[i], m);
-        i += 1;
-    }
-    so_far
+    find(&places[..n.min(33)], m)
 }

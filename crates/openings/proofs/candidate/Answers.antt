@@ -8,7 +8,7 @@ returns-then-not-not_after c = not-begun _ _ (sym c.not_after.ensures ∙ c.if-n
 
 pub returns-then-lasts : goal.returns-then-lasts
 returns-then-lasts c =
-    today _ _ (sym c.not_after.ensures ∙ c.if-not-not_after.false) _ c.later-minute.ensures (sym c.lasts.ensures ∙ c.if-lasts.true)
+    today _ _ (sym c.not_after.ensures ∙ c.if-not-not_after.false) _ c.max-minute.ensures (sym c.lasts.ensures ∙ c.if-lasts.true)
 
 pub returns-then-not_after : goal.returns-then-not_after
 returns-then-not_after c =

@@ -1,9 +1,14 @@
--- `openings::first_of` meets its contract: the order decides.
-use mathlib.Core.Path.{sym, ◌∙◌}
+-- `openings::first_of` meets its contract: the fields' order is that of the definition.
+use native.Mathlib.Omega.{arith}
+use Rattle.std.proofs.lemmas.Bool.Decides.{nat_tests}
+use Rattle.calendar.specs.Calendar.{not_after}
+use Rattle.openings.specs.Windows.{before}
 use Rattle.openings.proofs.first_of.Goals as goal
 
-pub returns-then-is_before : goal.returns-then-is_before
-returns-then-is_before c = simp (sym c.is_before.ensures ∙ c.if-is_before.true)
+pub returns-then-lt : goal.returns-then-lt
+unfolding before not_after
+returns-then-lt c = let e = c.lt.ensures in grind (arith, nat_tests)
 
-pub returns-else-is_before : goal.returns-else-is_before
-returns-else-is_before c = simp (sym c.is_before.ensures ∙ c.if-is_before.false)
+pub returns-else-lt : goal.returns-else-lt
+unfolding before not_after
+returns-else-lt c = let e = c.lt.ensures in grind (arith, nat_tests)

@@ -44,31 +44,28 @@ pub fn take_line(piece: &[u8], from: usize, line: &mut [u8; 34], len: usize) -> 
     ensures value { result ≡ cut_of (drop from piece.now) from len }
     ensures line_after { line.new ≡ line_cut (drop from piece.now) len line.old }
 {
-    let mut at = from;
     let mut n = len;
-    while at < piece.len() {
-        let b = piece[at];
-        at += 1;
-        match feed(line, n, b) {
+    for place in from..piece.len() {
+        match feed(line, n, piece[place]) {
             Fed::More(m) => {
                 n = m;
             }
             Fed::Whole(m) => {
                 return Cut {
                     fed: Fed::Whole(m),
-                    at,
+                    at: place + 1,
                 };
             }
             Fed::TooLong => {
                 return Cut {
                     fed: Fed::TooLong,
-                    at,
+                    at: place + 1,
                 };
             }
         }
     }
     Cut {
         fed: Fed::More(n),
-        at,
+        at: from.max(piece.len()),
     }
 }

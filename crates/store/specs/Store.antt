@@ -1,6 +1,7 @@
 -- The messages of a house as the program keeps them: 64 places of 128 bytes, a length for each place, and how many are used.
 -- Document 01, "Cases": "at most 64 messages, numbered from 0 as put out".
 use Rattle.std.specs.Prelude.{ℕ, zero, suc, ◌*◌, min, List, [], ◌∷◌, ◌++◌, get_or, take, drop}
+use Rattle.store.specs.declared.Store.{Store}
 
 -- how many places there are, and how many bytes each has
 abbrev pub most : ℕ
@@ -21,3 +22,7 @@ first_messages store lengths (suc k) = first_messages store lengths k ++ (messag
 -- the messages, where `count` places are used: 64 where it is more
 abbrev pub messages_in : List ℕ → List ℕ → ℕ → List (List ℕ)
 messages_in store lengths count = first_messages store lengths (min count most)
+
+-- the messages that a store keeps
+abbrev pub kept : Store → List (List ℕ)
+kept s = messages_in s.places s.lengths s.count

@@ -2,12 +2,18 @@
 use mathlib.Core.Path.{◌≡◌, refl}
 use mathlib.Core.List.{[], ◌∷◌, ◌++◌}
 use lib.IntN.{negsuc}
+use Prim.Native.Nat.{ℕ}
+use Rattle.message.specs.declared.Name.{Name}
 use Rattle.message.specs.Entry.{as_host, as_number}
 use Rattle.decimal.specs.Decimal.{figures, decimal, signed_decimal}
 use Rattle.end.specs.declared.Reason.TheVariants.{AlreadyHeld}
 use Rattle.end.specs.Why.{reason_words}
 use Rattle.answers.specs.declared.Shown.TheVariants.{Out, Got, Done, Ignored, IgnoredFor, Nothing, Refused, Clash, Late, Exhausted}
 use Rattle.answers.specs.AnswerLine.{done, ignored, nothing, late, exhausted, answer_words, answer_line}
+
+-- a cue of host 0
+abbrev cue : ℕ → Name
+cue n = record { source = as_host 0; number = as_number n }
 
 -- "0 0 done"
 done-line : answer_line (as_host 0) 0 Done ≡ 48 ∷ 32 ∷ 48 ∷ 32 ∷ done ++ (10 ∷ [])
@@ -20,7 +26,7 @@ unfolding answer_line answer_words decimal figures
 out_line = refl
 
 -- "1 12 got 0 0 -2"
-got-line : answer_line (as_host 1) 12 (Got (as_host 0) (as_number 0) (negsuc 1)) ≡ 49 ∷ 32 ∷ 49 ∷ 50 ∷ 32 ∷ 103 ∷ 111 ∷ 116 ∷ 32 ∷ 48 ∷ 32 ∷ 48 ∷ 32 ∷ 45 ∷ 50 ∷ 10 ∷ []
+got-line : answer_line (as_host 1) 12 (Got (cue 0) (negsuc 1)) ≡ 49 ∷ 32 ∷ 49 ∷ 50 ∷ 32 ∷ 103 ∷ 111 ∷ 116 ∷ 32 ∷ 48 ∷ 32 ∷ 48 ∷ 32 ∷ 45 ∷ 50 ∷ 10 ∷ []
 unfolding answer_line answer_words signed_decimal decimal figures
 got-line = refl
 
@@ -45,12 +51,12 @@ unfolding answer_line answer_words decimal figures
 refused-line = refl
 
 -- "1 40 clash 0 3"
-clash-line : answer_line (as_host 1) 40 (Clash (as_host 0) (as_number 3)) ≡ 49 ∷ 32 ∷ 52 ∷ 48 ∷ 32 ∷ 99 ∷ 108 ∷ 97 ∷ 115 ∷ 104 ∷ 32 ∷ 48 ∷ 32 ∷ 51 ∷ 10 ∷ []
+clash-line : answer_line (as_host 1) 40 (Clash (cue 3)) ≡ 49 ∷ 32 ∷ 52 ∷ 48 ∷ 32 ∷ 99 ∷ 108 ∷ 97 ∷ 115 ∷ 104 ∷ 32 ∷ 48 ∷ 32 ∷ 51 ∷ 10 ∷ []
 unfolding answer_line answer_words decimal figures
 clash-line = refl
 
 -- "1 40 late 0 3 -2"
-late-line : answer_line (as_host 1) 40 (Late (as_host 0) (as_number 3) (negsuc 1)) ≡ 49 ∷ 32 ∷ 52 ∷ 48 ∷ 32 ∷ late ++ (48 ∷ 32 ∷ 51 ∷ 32 ∷ 45 ∷ 50 ∷ 10 ∷ [])
+late-line : answer_line (as_host 1) 40 (Late (cue 3) (negsuc 1)) ≡ 49 ∷ 32 ∷ 52 ∷ 48 ∷ 32 ∷ late ++ (48 ∷ 32 ∷ 51 ∷ 32 ∷ 45 ∷ 50 ∷ 10 ∷ [])
 unfolding answer_line answer_words signed_decimal decimal figures
 late-line = refl
 

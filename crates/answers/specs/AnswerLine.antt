@@ -4,7 +4,7 @@
 -- late, which is "written as Got is", and exhausted. Where the reason is asked for too, its words stand after "ignored": document 02, P3.
 use Rattle.std.specs.Prelude.{List, [], ◌∷◌, ◌++◌, ℕ, ℤ}
 use Rattle.message.specs.declared.Host.{Host}
-use Rattle.message.specs.declared.CueNumber.{CueNumber}
+use Rattle.message.specs.declared.Name.{Name}
 use Rattle.decimal.specs.Decimal.{decimal, signed_decimal}
 use Rattle.end.specs.Why.{reason_words}
 use Rattle.answers.specs.declared.Shown.{Shown}
@@ -46,20 +46,20 @@ abbrev pub spaced : ℕ → List ℕ
 spaced n = decimal n ++ (32 ∷ [])
 
 -- a name and the focus of its cue
-abbrev pub cue_words : Host → CueNumber → ℤ → List ℕ
-cue_words source number focus = spaced source.0 ++ (spaced number.0 ++ signed_decimal focus)
+abbrev pub cue_words : Name → ℤ → List ℕ
+cue_words name focus = spaced name.source.0 ++ (spaced name.number.0 ++ signed_decimal focus)
 
 -- an answer with its values
 unfoldable pub answer_words : Shown → List ℕ
 answer_words (Out message) = out ++ decimal message
-answer_words (Got source number focus) = got ++ cue_words source number focus
+answer_words (Got name focus) = got ++ cue_words name focus
 answer_words Done = done
 answer_words Ignored = ignored
 answer_words (IgnoredFor reason) = ignored_for ++ reason_words reason
 answer_words Nothing = nothing
 answer_words (Refused question) = refused ++ decimal question
-answer_words (Clash source number) = clash ++ (spaced source.0 ++ decimal number.0)
-answer_words (Late source number focus) = late ++ cue_words source number focus
+answer_words (Clash name) = clash ++ (spaced name.source.0 ++ decimal name.number.0)
+answer_words (Late name focus) = late ++ cue_words name focus
 answer_words Exhausted = exhausted
 
 -- the line: end, clock, answer, line feed

@@ -3,7 +3,7 @@
 // which its callers have seen to.
 #![tactic(auto)]
 
-ghost use Rattle.std.specs.Prelude.{[], ◌∷◌, ◌++◌, ◌+◌, ◌≤◌, length};
+ghost use Rattle.std.specs.Prelude.{◌≡◌, [], ◌∷◌, ◌++◌, ◌+◌, ◌^◌, ◌≤◌, ◌<◌, length};
 ghost use Rattle.decimal.specs.Decimal.{decimal as decimalOf, signed_decimal};
 ghost use Rattle.end.specs.Why.{reason_words};
 ghost use Rattle.answers.specs.declared.Shown.TheVariants.{Out, Got, IgnoredFor, Refused, Clash, Late};
@@ -11,21 +11,23 @@ ghost use Rattle.answers.specs.AnswerLine.{spaced as spacedOf, cue_words, answer
 ghost use Rattle.answers.specs.Put.{Put};
 
 use end::Reason;
-use message::{CueNumber, Host};
+use message::{Host, Name};
 
 // An answer as it is shown: a message number after out, the name and the focus after got and late, the question's number after refused, the
 // name after clash. Where the reason is asked for too, its words stand after ignored.
+// Kept: no Display. `put_line` promises where each byte stands in the caller's buffer, which has no heap behind it; a Display says only what
+// it prints.
 #[derive(Clone, Copy)]
 pub enum Shown {
     Out(u64),
-    Got(Host, CueNumber, i16),
+    Got(Name, i16),
     Done,
     Ignored,
     IgnoredFor(Reason),
     Nothing,
     Refused(u8),
-    Clash(Host, CueNumber),
-    Late(Host, CueNumber, i16),
+    Clash(Name),
+    Late(Name, i16),
     Exhausted,
 }
 
@@ -39,26 +41,14 @@ pub fn text(out: &mut [u8], at: usize, b: &[u8]) -> usize
     at + b.len()
 }
 
-fn number(out: &mut [u8], at: usize, n: u64) -> usize
-    requires { at + 20 ≤ length out.old }
-    ensures { Put 20 at (decimalOf n) out.old out.new result }
+// A number of at most `W` digits: 3 for a byte, 5 for 16 bits, 20 for 64.
+pub fn number<const W: usize>(out: &mut [u8], at: usize, n: u64) -> usize
+    requires in_bounds { at + W ≤ length out.old }
+    requires some_digits { 0 < W }
+    requires few_digits { n < 10 ^ W }
+    ensures { Put W at (decimalOf n) out.old out.new result }
 {
     decimal::put_u64(out, at, n)
-}
-
-pub fn small_number(out: &mut [u8], at: usize, n: u8) -> usize
-    requires { at + 3 ≤ length out.old }
-    ensures { Put 3 at (decimalOf n) out.old out.new result }
-{
-    decimal::put_u64(out, at, n as u64)
-}
-
-// A cue number has five bytes at most.
-fn cue_number(out: &mut [u8], at: usize, n: u16) -> usize
-    requires { at + 5 ≤ length out.old }
-    ensures { Put 5 at (decimalOf n) out.old out.new result }
-{
-    decimal::put_u64(out, at, n as u64)
 }
 
 fn integer(out: &mut [u8], at: usize, z: i16) -> usize
@@ -68,27 +58,14 @@ fn integer(out: &mut [u8], at: usize, z: i16) -> usize
     decimal::put_i16(out, at, z)
 }
 
-pub fn spaced(out: &mut [u8], at: usize, n: u8) -> usize
-    requires { at + 4 ≤ length out.old }
-    ensures { Put 4 at (spacedOf n) out.old out.new result }
+// A number and a space.
+pub fn spaced<const W: usize>(out: &mut [u8], at: usize, n: u64) -> usize
+    requires in_bounds { at + (W + 1) ≤ length out.old }
+    requires some_digits { 0 < W }
+    requires few_digits { n < 10 ^ W }
+    ensures { Put (W + 1) at (spacedOf n) out.old out.new result }
 {
-    let end = small_number(out, at, n);
-    text(out, end, b" ")
-}
-
-pub fn spaced_number(out: &mut [u8], at: usize, n: u16) -> usize
-    requires { at + 6 ≤ length out.old }
-    ensures { Put 6 at (spacedOf n) out.old out.new result }
-{
-    let end = cue_number(out, at, n);
-    text(out, end, b" ")
-}
-
-fn spaced_clock(out: &mut [u8], at: usize, n: u64) -> usize
-    requires { at + 21 ≤ length out.old }
-    ensures { Put 21 at (spacedOf n) out.old out.new result }
-{
-    let end = number(out, at, n);
+    let end = number::<W>(out, at, n);
     text(out, end, b" ")
 }
 
@@ -97,7 +74,7 @@ fn put_out(out: &mut [u8], at: usize, message: u64) -> usize
     ensures { Put 24 at (answer_words (Out message)) out.old out.new result }
 {
     let end = text(out, at, b"out ");
-    number(out, end, message)
+    number::<20>(out, end, message)
 }
 
 fn put_refused(out: &mut [u8], at: usize, question: u8) -> usize
@@ -105,60 +82,60 @@ fn put_refused(out: &mut [u8], at: usize, question: u8) -> usize
     ensures { Put 24 at (answer_words (Refused question)) out.old out.new result }
 {
     let end = text(out, at, b"refused ");
-    small_number(out, end, question)
+    number::<3>(out, end, question as u64)
 }
 
 // The name and the focus after got and late.
-fn put_values(out: &mut [u8], at: usize, source: Host, number: CueNumber, focus: i16) -> usize
+fn put_values(out: &mut [u8], at: usize, name: Name, focus: i16) -> usize
     requires { at + 16 ≤ length out.old }
-    ensures { Put 16 at (cue_words source number focus) out.old out.new result }
+    ensures { Put 16 at (cue_words name focus) out.old out.new result }
 {
-    let first = spaced(out, at, source.0);
-    let second = spaced_number(out, first, number.0);
+    let first = spaced::<3>(out, at, name.source.0 as u64);
+    let second = spaced::<5>(out, first, name.number.0 as u64);
     integer(out, second, focus)
 }
 
-fn put_got(out: &mut [u8], at: usize, source: Host, number: CueNumber, focus: i16) -> usize
+fn put_got(out: &mut [u8], at: usize, name: Name, focus: i16) -> usize
     requires { at + 24 ≤ length out.old }
-    ensures { Put 24 at (answer_words (Got source number focus)) out.old out.new result }
+    ensures { Put 24 at (answer_words (Got name focus)) out.old out.new result }
 {
     let end = text(out, at, b"got ");
-    put_values(out, end, source, number, focus)
+    put_values(out, end, name, focus)
 }
 
-fn put_late(out: &mut [u8], at: usize, source: Host, number: CueNumber, focus: i16) -> usize
+fn put_late(out: &mut [u8], at: usize, name: Name, focus: i16) -> usize
     requires { at + 24 ≤ length out.old }
-    ensures { Put 24 at (answer_words (Late source number focus)) out.old out.new result }
+    ensures { Put 24 at (answer_words (Late name focus)) out.old out.new result }
 {
     let end = text(out, at, b"late ");
-    put_values(out, end, source, number, focus)
+    put_values(out, end, name, focus)
 }
 
-fn put_clash(out: &mut [u8], at: usize, source: Host, number: CueNumber) -> usize
+fn put_clash(out: &mut [u8], at: usize, name: Name) -> usize
     requires { at + 24 ≤ length out.old }
-    ensures { Put 24 at (answer_words (Clash source number)) out.old out.new result }
+    ensures { Put 24 at (answer_words (Clash name)) out.old out.new result }
 {
     let first = text(out, at, b"clash ");
-    let second = spaced(out, first, source.0);
-    cue_number(out, second, number.0)
+    let second = spaced::<3>(out, first, name.source.0 as u64);
+    number::<5>(out, second, name.number.0 as u64)
 }
 
-fn put_reason(out: &mut [u8], at: usize, reason: Reason) -> usize
-    requires { at + 21 ≤ length out.old }
-    ensures { Put 21 at (reason_words reason) out.old out.new result }
+// A reason in words.
+fn words(reason: Reason) -> &'static [u8]
+    ensures { result.now ≡ reason_words reason }
 {
     match reason {
-        Reason::Crashed => text(out, at, b"crashed"),
-        Reason::WrongStatus => text(out, at, b"wrong status"),
-        Reason::OwnMessage => text(out, at, b"own message"),
-        Reason::NotOpen => text(out, at, b"source not open"),
-        Reason::BelowFirst => text(out, at, b"below first"),
-        Reason::OwnAboveLast => text(out, at, b"own number above last"),
-        Reason::AlreadyHeld => text(out, at, b"already held"),
-        Reason::ReplyWaiting => text(out, at, b"reply waiting"),
-        Reason::ReplyQuiet => text(out, at, b"reply-quiet"),
-        Reason::RequestQuiet => text(out, at, b"request quiet"),
-        Reason::NoFetch => text(out, at, b"no fetch"),
+        Reason::Crashed => b"crashed",
+        Reason::WrongStatus => b"wrong status",
+        Reason::OwnMessage => b"own message",
+        Reason::NotOpen => b"source not open",
+        Reason::BelowFirst => b"below first",
+        Reason::OwnAboveLast => b"own number above last",
+        Reason::AlreadyHeld => b"already held",
+        Reason::ReplyWaiting => b"reply waiting",
+        Reason::ReplyQuiet => b"reply-quiet",
+        Reason::RequestQuiet => b"request quiet",
+        Reason::NoFetch => b"no fetch",
     }
 }
 
@@ -167,7 +144,7 @@ fn put_ignored_for(out: &mut [u8], at: usize, reason: Reason) -> usize
     ensures { Put 30 at (answer_words (IgnoredFor reason)) out.old out.new result }
 {
     let end = text(out, at, b"ignored: ");
-    put_reason(out, end, reason)
+    text(out, end, words(reason))
 }
 
 fn put_answer(out: &mut [u8], at: usize, a: Shown) -> usize
@@ -176,14 +153,14 @@ fn put_answer(out: &mut [u8], at: usize, a: Shown) -> usize
 {
     match a {
         Shown::Out(message) => put_out(out, at, message),
-        Shown::Got(source, number, focus) => put_got(out, at, source, number, focus),
+        Shown::Got(name, focus) => put_got(out, at, name, focus),
         Shown::Done => text(out, at, b"done"),
         Shown::Ignored => text(out, at, b"ignored"),
         Shown::IgnoredFor(reason) => put_ignored_for(out, at, reason),
         Shown::Nothing => text(out, at, b"nothing"),
         Shown::Refused(question) => put_refused(out, at, question),
-        Shown::Clash(source, number) => put_clash(out, at, source, number),
-        Shown::Late(source, number, focus) => put_late(out, at, source, number, focus),
+        Shown::Clash(name) => put_clash(out, at, name),
+        Shown::Late(name, focus) => put_late(out, at, name, focus),
         Shown::Exhausted => text(out, at, b"exhausted"),
     }
 }
@@ -202,7 +179,7 @@ pub fn put_line(out: &mut [u8], at: usize, end: Host, clock: u64, a: Shown) -> u
     requires { at + 56 ≤ length out.old }
     ensures { Put 56 at (answer_line end clock a) out.old out.new result }
 {
-    let first = spaced(out, at, end.0);
-    let second = spaced_clock(out, first, clock);
+    let first = spaced::<3>(out, at, end.0 as u64);
+    let second = spaced::<20>(out, first, clock);
     put_ending(out, second, a)
 }

@@ -7,5 +7,5 @@ use Rattle.answers.proofs.put_clash.Goals as goal
 pub returns : goal.returns
 unfolding answer_words
 returns c =
-    let p = put_both {most = 9} c.spaced-second.ensures c.cue_number.ensures (omega arith) (omega arith) in
+    let p = put_both {most = 9} c.spaced-second.ensures c.number.ensures (omega arith) (omega arith) in
     put_both c.text-first.ensures p (omega arith) (omega arith)

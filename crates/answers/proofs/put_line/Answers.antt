@@ -7,5 +7,5 @@ use Rattle.answers.proofs.put_line.Goals as goal
 pub returns : goal.returns
 unfolding answer_line
 returns c =
-    let q = put_both {most = 52} c.spaced_clock-second.ensures c.put_ending.ensures (omega arith) (omega arith) in
+    let q = put_both {most = 52} c.spaced-second.ensures c.put_ending.ensures (omega arith) (omega arith) in
     put_both c.spaced-first.ensures q (omega arith) (omega arith)

@@ -7,4 +7,4 @@ use Rattle.answers.proofs.put_refused.Goals as goal
 pub returns : goal.returns
 unfolding answer_words
 returns c =
-    put_both c.text-end.ensures c.small_number.ensures (omega arith) (omega arith)
+    put_both c.text-end.ensures c.number.ensures (omega arith) (omega arith)

@@ -6,5 +6,5 @@ use Rattle.answers.proofs.put_values.Goals as goal
 -- `answers::put_values` meets its contract: two numbers with a space each, and then the focus.
 pub returns : goal.returns
 returns c =
-    let p = put_both {most = 12} c.spaced_number-second.ensures c.integer.ensures (omega arith) (omega arith) in
+    let p = put_both {most = 12} c.spaced-second.ensures c.integer.ensures (omega arith) (omega arith) in
     put_same (put_both c.spaced-first.ensures p (omega arith) (omega arith)) (search rules)

@@ -4,5 +4,4 @@ use Rattle.answers.proofs.spaced.Goals as goal
 
 -- `answers::spaced` meets its contract: a number and then a space.
 pub returns : goal.returns
-returns c =
-    put_both c.small_number-end.ensures c.text.ensures (omega arith) (omega arith)
+returns g c = put_both c.number-end.ensures c.text.ensures (omega arith) (omega arith)

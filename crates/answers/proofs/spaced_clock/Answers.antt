@@ -1,8 +1,0 @@
-use native.Mathlib.Omega.{arith}
-use Rattle.answers.proofs.PutLaws.{put_both}
-use Rattle.answers.proofs.spaced_clock.Goals as goal
-
--- `answers::spaced_clock` meets its contract: a number and then a space.
-pub returns : goal.returns
-returns c =
-    put_both c.number-end.ensures c.text.ensures (omega arith) (omega arith)

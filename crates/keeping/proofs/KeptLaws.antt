@@ -26,7 +26,13 @@ use Rattle.end.specs.declared.Event.TheVariants as event
 use Rattle.end.specs.Event.{Send, action_of}
 use Rattle.end.specs.Book.{read_as}
 use Rattle.end.proofs.Tools.{clash}
-use Rattle.record.specs.Kept.{moved_line, sent_line}
+use Rattle.record.specs.Kept.{moved_line, sent_line, lines_for}
+use Rattle.keeping.specs.Kept.{kept_of}
+use Rattle.message.specs.declared.Host.{Host}
+use Rattle.message.specs.declared.Name.{Name}
+use Rattle.end.specs.declared.Answer.{Answer}
+use Rattle.end.specs.declared.Answer.TheVariants as answer
+use Rattle.end.specs.Answer.{Out, read_off}
 use Rattle.record.specs.Line.{sent}
 
 -- the first name of a message stands in the first place
@@ -38,6 +44,11 @@ abbrev pub is_accepted : Verdict → Bool
 is_accepted verdict.Accepted = true
 is_accepted verdict.Probe = false
 is_accepted (verdict.Refused k) = false
+
+pub not-accepted : (v : Verdict) → (v ≡ verdict.Accepted → ⊥) → is_accepted v ≡ false
+not-accepted verdict.Accepted h = absurd (h refl)
+not-accepted verdict.Probe h = refl
+not-accepted (verdict.Refused k) h = refl
 
 -- by the number that the bytes are refused with, or none
 numbered-by : (k : ℕ) (M : Meaning) (h : ℕ) (cue : List ℕ) → is_accepted (verdict_for k) ≡ true
@@ -95,3 +106,28 @@ first-bytes n k s e =
 -- 24 bytes written over 24 leave nothing else
 pub all-over : (b : List ℕ) → length b ≡ 24 → splice 0 b (replicate 24 0) ≡ b
 all-over b h = splice-start b (replicate 24 0) ∙ rw h (append-nil b)
+
+-- of the events, only a Send leaves a line where bytes are put out
+pub not-sent : (h : ℕ) (what : Event) (cue bytes : List ℕ) → (what ≡ event.Send → ⊥) → [] ≡ lines_for h (action_of what cue []) (Out bytes)
+unfolding lines_for
+not-sent h (event.Moves m) cue bytes n = refl
+not-sent h event.Send cue bytes n = absurd (n refl)
+not-sent h event.Arrival cue bytes n = refl
+not-sent h event.Fire cue bytes n = refl
+not-sent h event.Report cue bytes n = refl
+not-sent h (event.Fetch name) cue bytes n = refl
+not-sent h event.Announce cue bytes n = refl
+
+-- of the answers, only Out, Got and Done leave one
+pub not-kept : (h : Host) (what : Event) (cue : List ℕ) (a : Answer) (output : List ℕ) → ((n : ℕ) → a ≡ answer.Out n → ⊥) → ((x : Name) → a ≡ answer.Got x → ⊥)
+    → (a ≡ answer.Done → ⊥) → [] ≡ kept_of h what cue a output
+unfolding kept_of read_off lines_for
+not-kept h what cue (answer.Refused k) output o g d = refl
+not-kept h what cue (answer.Out n) output o g d = absurd (o n refl)
+not-kept h what cue (answer.Got x) output o g d = absurd (g x refl)
+not-kept h what cue answer.Done output o g d = absurd (d refl)
+not-kept h what cue answer.Ignored output o g d = refl
+not-kept h what cue answer.Nothing output o g d = refl
+not-kept h what cue (answer.Clash x) output o g d = refl
+not-kept h what cue (answer.Late x) output o g d = refl
+not-kept h what cue answer.Exhausted output o g d = refl

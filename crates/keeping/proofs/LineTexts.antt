@@ -1,5 +1,6 @@
 -- The text of a line is its pieces, one after the other.
 use mathlib.Core.Path.{◌≡◌, refl, sym, ap, ◌∙◌}
+use Rattle.std.specs.Prelude.{Some}
 use mathlib.Core.List.{List, [], ◌∷◌, ◌++◌, append_assoc}
 use Prim.Native.Nat.{ℕ, zero, suc, ◌/◌, ◌%◌, ◌<◌}
 use native.Mathlib.Nat.{add-zero}
@@ -24,14 +25,14 @@ use Rattle.keeping.specs.Promise.{moved_text, numbered_text, sent_text, got_text
 then_space : (w rest feed : List ℕ) → (w ++ (32 ∷ rest)) ++ feed ≡ (w ++ (32 ∷ [])) ++ (rest ++ feed)
 then_space w rest feed = append_assoc w (32 ∷ rest) feed ∙ sym (append_assoc w (32 ∷ []) (rest ++ feed))
 
-pub moved_text_lem : (m : Move) (h : Host) (cue : List ℕ) → moved_text m h.0 ≡ record_text (kept (record { said = Moved m h; cue = cue }))
+pub moved_text_lem : (m : Move) (h : Host) (cue : List ℕ) → moved_text m h.0 ≡ record_text (kept (Some (record { said = Moved m h; cue = cue })))
 unfolding record_text text_of words_of spaced
 moved_text_lem m h cue = sym (then_space (move_text m) (decimal h.0) (10 ∷ []))
 
 numbered : (n : ℕ) (cue : List ℕ) → (decimal n ++ (32 ∷ hex_text cue)) ++ (10 ∷ []) ≡ numbered_text n cue
 numbered n cue = then_space (decimal n) (hex_text cue) (10 ∷ [])
 
-pub sent_text_lem : (h : Host) (n : CueNumber) (cue : List ℕ) → sent_text h.0 n.0 cue ≡ record_text (kept (record { said = Sent h n; cue = cue }))
+pub sent_text_lem : (h : Host) (n : CueNumber) (cue : List ℕ) → sent_text h.0 n.0 cue ≡ record_text (kept (Some (record { said = Sent h n; cue = cue })))
 unfolding record_text text_of words_of spaced
 sent_text_lem h n cue =
     let tail = decimal n.0 ++ (32 ∷ hex_text cue) in
@@ -40,7 +41,7 @@ sent_text_lem h n cue =
     ∙ ap (λ (t : List ℕ). (send ++ (32 ∷ [])) ++ t) (then_space (decimal h.0) tail (10 ∷ []))
     ∙ ap (λ (t : List ℕ). (send ++ (32 ∷ [])) ++ (numberSpaced h.0 ++ t)) (numbered n.0 cue))
 
-pub got_text_lem : (h : Host) (name : Name) (cue : List ℕ) → got_text h.0 name cue ≡ record_text (kept (record { said = Got h name; cue = cue }))
+pub got_text_lem : (h : Host) (name : Name) (cue : List ℕ) → got_text h.0 name cue ≡ record_text (kept (Some (record { said = Got h name; cue = cue })))
 unfolding record_text text_of words_of spaced
 got_text_lem h name cue =
     let tail = decimal name.number.0 ++ (32 ∷ hex_text cue) in

@@ -9,13 +9,13 @@ ghost use Rattle.end.specs.Event.{action_of, Send};
 ghost use Rattle.end.specs.Book.{read_as};
 ghost use Rattle.answers.specs.Put.{Put};
 ghost use Rattle.record.specs.Text.{hex_digit, hex_text, move_text, record_text};
-ghost use Rattle.record.specs.Line.{malformed, sent, handed_out};
+ghost use Rattle.record.specs.Line.{sent, handed_out};
 ghost use Rattle.record.specs.Kept.{moved_line, sent_line, lines_for};
 ghost use Rattle.keeping.specs.Kept.{kept, kept_of, widest};
 ghost use Rattle.keeping.specs.Promise.{moved_text, numbered_text, named_text, sent_text, got_text, PutInRoom};
 
 use end::{Answer, Event, Move};
-use message::{Host, Message, Name, Verdict};
+use message::{CueNumber, Host, Message, Name, Verdict};
 use record::{Line, Said};
 
 // A line has no more bytes, with its line feed.
@@ -23,76 +23,47 @@ const WIDEST: usize = 67;
 
 // ---- which line
 
-// No line.
-fn none() -> Line
-    ensures { result ≡ malformed }
-{
-    Line {
-        said: Said::Malformed,
-        cue: [0; 24],
-    }
-}
-
 // The line of a move that moved.
-fn moved_line(host: Host, what: Event) -> Line
+fn moved_line(host: Host, what: Event) -> Option<Line>
     ensures { kept result ≡ moved_line host.0 (action_of what [] []) }
 {
     match what {
-        Event::Moves(m) => {
-            Line {
-                said: Said::Moved(m, host),
-                cue: [0; 24],
-            }
-        }
-        Event::Send => none(),
-        Event::Arrival => none(),
-        Event::Fire => none(),
-        Event::Report => none(),
-        Event::Fetch(_) => none(),
-        Event::Announce => none(),
+        Event::Moves(m) => Some(Line {
+            said: Said::Moved(m, host),
+            cue: [0; 24],
+        }),
+        _ => None,
     }
 }
 
 // The line of a Send whose message is this.
-fn numbered_line(host: Host, cue: [u8; 24], m: Message) -> Line
-    ensures { result ≡ sent host.0 (get_or m.names 0 blank_name).name.number.0 cue }
+fn numbered_line(host: Host, cue: [u8; 24], m: &Message) -> Line
+    ensures { result ≡ sent host.0 (get_or m.now.names 0 blank_name).name.number.0 cue }
 {
-    let names = m.names;
-    let entry = names[0];
-    let name = entry.name;
-    let number = name.number;
     Line {
-        said: Said::Sent(host, number),
+        said: Said::Sent(host, m.names[0].name.number),
         cue,
     }
 }
 
 // The line of a Send that put out these bytes.
-fn sent_line(host: Host, cue: [u8; 24], bytes: &[u8]) -> Line
+fn sent_line(host: Host, cue: [u8; 24], bytes: &[u8]) -> Option<Line>
     ensures { kept result ≡ sent_line host.0 (Send cue) (read_as bytes.now) }
 {
     let reading = reader::read(bytes);
-    let verdict = reading.verdict;
-    let m = reading.message;
-    match verdict {
-        Verdict::Accepted => numbered_line(host, cue, m),
-        Verdict::Probe => none(),
-        Verdict::Refused(_) => none(),
+    match reading.verdict {
+        Verdict::Accepted => Some(numbered_line(host, cue, &reading.message)),
+        _ => None,
     }
 }
 
 // The line of an event that put out these bytes: only a Send leaves one.
-fn out_line(host: Host, what: Event, cue: [u8; 24], bytes: &[u8]) -> Line
+fn out_line(host: Host, what: Event, cue: [u8; 24], bytes: &[u8]) -> Option<Line>
     ensures { kept result ≡ lines_for host.0 (action_of what cue []) (Out bytes.now) }
 {
     match what {
-        Event::Moves(_) => none(),
         Event::Send => sent_line(host, cue, bytes),
-        Event::Arrival => none(),
-        Event::Fire => none(),
-        Event::Report => none(),
-        Event::Fetch(_) => none(),
-        Event::Announce => none(),
+        _ => None,
     }
 }
 
@@ -102,7 +73,7 @@ fn got_line(host: Host, name: Name, out: &[u8]) -> Line
     ensures { result ≡ handed_out host.0 name.source.0 name.number.0 (take 24 out.now) }
 {
     let mut cue = [0u8; 24];
-    numbers::put_bytes(&mut cue, 0, &out[..24]);
+    cue.copy_from_slice(&out[..24]);
     Line {
         said: Said::Got(host, name),
         cue,
@@ -110,23 +81,15 @@ fn got_line(host: Host, name: Name, out: &[u8]) -> Line
 }
 
 // The line that a call leaves, by its answer and its output.
-fn line_of(host: Host, what: Event, cue: [u8; 24], a: Answer, out: &[u8]) -> Line
+fn line_of(host: Host, what: Event, cue: [u8; 24], a: Answer, out: &[u8]) -> Option<Line>
     requires { 24 ≤ length out.now }
     ensures { kept result ≡ kept_of host what cue a out.now }
 {
     match a {
-        Answer::Refused(_) => none(),
-        Answer::Out(n) => {
-            let len = store::least(n, out.len());
-            out_line(host, what, cue, &out[..len])
-        }
-        Answer::Got(name) => got_line(host, name, out),
+        Answer::Out(n) => out_line(host, what, cue, &out[..n.min(out.len())]),
+        Answer::Got(name) => Some(got_line(host, name, out)),
         Answer::Done => moved_line(host, what),
-        Answer::Ignored => none(),
-        Answer::Nothing => none(),
-        Answer::Clash(_) => none(),
-        Answer::Late(_) => none(),
-        Answer::Exhausted => none(),
+        _ => None,
     }
 }
 
@@ -148,16 +111,13 @@ fn put_pair(out: &mut [u8], at: usize, b: u8) -> usize
     answers::text(out, at, &pair)
 }
 
-fn put_digits(out: &mut [u8], at: usize, cue: &[u8]) -> usize
-    requires cue_len { length cue.now ≡ 24 }
-    requires at_in_bounds { at + 48 ≤ length out.old }
+fn put_digits(out: &mut [u8], at: usize, cue: &[u8; 24]) -> usize
+    requires { at + 48 ≤ length out.old }
     ensures { Put 48 at (hex_text cue.now) out.old out.new result }
 {
     let mut end = at;
-    let mut i: usize = 0;
-    while i < 24 {
-        end = put_pair(out, end, cue[i]);
-        i += 1;
+    for b in cue {
+        end = put_pair(out, end, *b);
     }
     end
 }
@@ -189,31 +149,31 @@ fn put_moved(out: &mut [u8], at: usize, m: Move, host: Host) -> usize
     ensures { Put widest at (moved_text m host.0) out.old out.new result }
 {
     let word = put_move(out, at, m);
-    let end = answers::small_number(out, word, host.0);
+    let end = answers::number::<3>(out, word, host.0 as u64);
     answers::text(out, end, b"\n")
 }
 
 // A number and the cue.
-fn put_numbered(out: &mut [u8], at: usize, number: u16, cue: &[u8; 24]) -> usize
+fn put_numbered(out: &mut [u8], at: usize, number: CueNumber, cue: &[u8; 24]) -> usize
     requires { at + 55 ≤ length out.old }
-    ensures { Put 55 at (numbered_text number cue.now) out.old out.new result }
+    ensures { Put 55 at (numbered_text number.0 cue.now) out.old out.new result }
 {
-    let end = answers::spaced_number(out, at, number);
+    let end = answers::spaced::<5>(out, at, number.0 as u64);
     put_cue(out, end, cue)
 }
 
 // A source, a number of its cues, and the cue.
-fn put_named(out: &mut [u8], at: usize, source: Host, number: u16, cue: &[u8; 24]) -> usize
+fn put_named(out: &mut [u8], at: usize, source: Host, number: CueNumber, cue: &[u8; 24]) -> usize
     requires { at + 59 ≤ length out.old }
-    ensures { Put 59 at (named_text source.0 number cue.now) out.old out.new result }
+    ensures { Put 59 at (named_text source.0 number.0 cue.now) out.old out.new result }
 {
-    let end = answers::spaced(out, at, source.0);
+    let end = answers::spaced::<3>(out, at, source.0 as u64);
     put_numbered(out, end, number, cue)
 }
 
-fn put_sent(out: &mut [u8], at: usize, host: Host, number: u16, cue: &[u8; 24]) -> usize
+fn put_sent(out: &mut [u8], at: usize, host: Host, number: CueNumber, cue: &[u8; 24]) -> usize
     requires { at + widest ≤ length out.old }
-    ensures { Put widest at (sent_text host.0 number cue.now) out.old out.new result }
+    ensures { Put widest at (sent_text host.0 number.0 cue.now) out.old out.new result }
 {
     let end = answers::text(out, at, b"send ");
     put_named(out, end, host, number, cue)
@@ -223,24 +183,21 @@ fn put_got(out: &mut [u8], at: usize, host: Host, name: Name, cue: &[u8; 24]) ->
     requires { at + widest ≤ length out.old }
     ensures { Put widest at (got_text host.0 name cue.now) out.old out.new result }
 {
-    let source = name.source;
-    let number = name.number;
     let word = answers::text(out, at, b"got ");
-    let end = answers::spaced(out, word, host.0);
-    put_named(out, end, source, number.0, cue)
+    let end = answers::spaced::<3>(out, word, host.0 as u64);
+    put_named(out, end, name.source, name.number, cue)
 }
 
-// Writes a line with its line feed; nothing where there is no line.
+// Writes a line with its line feed; nothing for a malformed one, which no call leaves.
 fn put_line(out: &mut [u8], at: usize, l: Line) -> usize
     requires { at + widest ≤ length out.old }
-    ensures { Put widest at (record_text (kept l)) out.old out.new result }
+    ensures { Put widest at (record_text (kept (Some l))) out.old out.new result }
 {
-    let said = l.said;
     let cue = l.cue;
-    match said {
+    match l.said {
         Said::Malformed => at,
         Said::Moved(m, host) => put_moved(out, at, m, host),
-        Said::Sent(host, number) => put_sent(out, at, host, number.0, &cue),
+        Said::Sent(host, number) => put_sent(out, at, host, number, &cue),
         Said::Got(host, name) => put_got(out, at, host, name, &cue),
     }
 }
@@ -259,8 +216,10 @@ fn put_call(
     requires in_bounds { 24 ≤ length out.now }
     ensures { Put widest at (record_text (kept_of host what cue a out.now)) text.old text.new result }
 {
-    let l = line_of(host, what, cue, a, out);
-    put_line(text, at, l)
+    match line_of(host, what, cue, a, out) {
+        Some(l) => put_line(text, at, l),
+        None => at,
+    }
 }
 
 // Writes what a call leaves in the record, from a place of the text on, and answers where it ends. Where the text has no room for a line, or the
@@ -276,13 +235,7 @@ pub fn put(
 ) -> usize
     ensures { PutInRoom at (record_text (kept_of host what cue a out.now)) out.now text.old text.new result }
 {
-    if text.len() < WIDEST {
-        return at;
-    }
-    if text.len() - WIDEST < at {
-        return at;
-    }
-    if out.len() < 24 {
+    if text.len() < WIDEST || text.len() - WIDEST < at || out.len() < 24 {
         return at;
     }
     put_call(text, at, host, what, cue, a, out)

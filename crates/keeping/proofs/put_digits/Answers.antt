@@ -4,6 +4,7 @@ use Prim.Native.Nat.{ℕ, suc, ◌+◌, ◌≤◌, ◌<◌}
 use native.Mathlib.Omega.{arith}
 use lib.ListN.{length, take, get_or}
 use lib.Seq.{take_all}
+use borrow.Author.Rules.{rules}
 use Rattle.numbers.proofs.SpliceLaws.{length-splice}
 use Rattle.record.specs.Text.{hex_text}
 use Rattle.answers.specs.Put.{Put}
@@ -33,28 +34,15 @@ one_more {at} {end} {next} {i} {cue} {start} {out} d p h k r =
 all_digits : {at end i : ℕ} {cue start out : List ℕ} → DigitsSoFar at cue start out end i → 24 ≤ i → length cue ≡ 24 → Put 48 at (hex_text cue) start out end
 all_digits {at} {end} {i} {cue} d h k = put_same (put_wider d.put (omega (arith, d.few))) (ap hex_text (take_all i cue (omega (arith, k))))
 
-pub loop-i-init : goal.loop-i-init
+pub loop-b-init : goal.loop-b-init
 unfolding hex_text
-loop-i-init c = record { put = put-none _ _; few = omega arith; same = refl }
-
-pub bounds-cue-i : goal.bounds-cue-i
-bounds-cue-i c = omega arith
+loop-b-init c = record { put = put-none _ _; few = omega arith; same = refl }
 
 pub put_pair-end-requires : goal.put_pair-end-requires
-put_pair-end-requires c = room_for_pair c.loop-i.invariant (omega arith) (omega arith)
+put_pair-end-requires c = room_for_pair c.loop-b.invariant (omega arith) (omega arith)
 
-pub overflow_add-i : goal.overflow_add-i
-overflow_add-i c = omega arith
-
-pub loop-i-smaller : goal.loop-i-smaller
-loop-i-smaller c = omega arith
-
-pub loop-i-preserved : goal.loop-i-preserved
-loop-i-preserved c =
-    one_more c.loop-i.invariant c.put_pair-end.ensures (omega arith) (omega arith) (omega arith)
-
-pub shape_of-out : goal.shape_of-out
-shape_of-out c = c.loop-i.invariant.same
+pub loop-b-preserved : goal.loop-b-preserved
+loop-b-preserved c = one_more c.loop-b.invariant c.put_pair-end.ensures (omega arith) (search rules) (omega arith)
 
 pub returns : goal.returns
-returns c = all_digits c.loop-i.invariant (omega arith) (omega arith)
+returns c = all_digits c.loop-b.invariant (omega arith) (search rules)

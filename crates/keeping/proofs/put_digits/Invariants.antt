@@ -1,6 +1,6 @@
 use mathlib.Core.Path.{◌≡◌}
 use mathlib.Core.List.{List}
-use Prim.Native.Nat.{ℕ, ◌+◌, ◌-◌, ◌≤◌}
+use Prim.Native.Nat.{ℕ, ◌+◌, ◌≤◌}
 use lib.ListN.{length, take}
 use Rattle.record.specs.Text.{hex_text}
 use Rattle.answers.specs.Put.{Put}
@@ -12,8 +12,5 @@ pub record DigitsSoFar (at : ℕ) (cue start out : List ℕ) (end i : ℕ) : Typ
   pub few : i ≤ 24
   pub same : length out ≡ length start
 
-abbrev pub invariant-loop-i : goal.invariant-loop-i
-invariant-loop-i l = DigitsSoFar l.at l.cue l.initial.out l.out l.end l.i
-
-abbrev pub decreases-loop-i : goal.decreases-loop-i
-decreases-loop-i l = 24 - l.i
+abbrev pub invariant-loop-b : goal.invariant-loop-b
+invariant-loop-b l = DigitsSoFar l.at l.cue l.initial.out l.out l.end l.b-index

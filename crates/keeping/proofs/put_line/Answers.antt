@@ -1,5 +1,6 @@
 use mathlib.Core.Path.{sym, ap, ◌∙◌}
 use mathlib.Core.List.{List}
+use Rattle.std.specs.Prelude.{Some}
 use Prim.Native.Nat.{ℕ}
 use native.Mathlib.Omega.{arith}
 use Rattle.record.specs.declared.Said.{Said}
@@ -12,7 +13,7 @@ use Rattle.keeping.proofs.put_line.Goals as goal
 -- `keeping::put_line` meets its contract: what the line says is what was matched.
 -- what is written for a line
 abbrev text : List ℕ → Said → List ℕ
-text cue said = record_text (kept (record { said = said; cue = cue }))
+text cue said = record_text (kept (Some (record { said = said; cue = cue })))
 
 pub returns-in-Malformed : goal.returns-in-Malformed
 unfolding record_text

@@ -1,6 +1,6 @@
 -- A line that is played: what its call and its printing give.
 use mathlib.Core.Path.{◌≡◌, refl, sym, ap, ◌∙◌}
-use mathlib.Core.Bool.{Bool, cond}
+use mathlib.Core.Bool.{Bool, true, false, not, cond, true≢false}
 use mathlib.Core.List.{List, [], ◌∷◌}
 use Prim.Native.Nat.{ℕ, zero, suc, ◌<◌, min}
 use native.Mathlib.Nat.{min-eq_left, add-zero}
@@ -14,11 +14,13 @@ use Rattle.end.specs.declared.End.{End}
 use Rattle.script.specs.declared.Call.{Call}
 use Rattle.script.specs.declared.Line.{Line}
 use Rattle.script.specs.declared.Line.TheVariants.{Play}
-use Rattle.store.specs.Store.{messages_in}
+use Rattle.store.specs.declared.Store.{Store}
+use Rattle.store.specs.Store.{kept}
 use Rattle.answers.specs.Put.{Put}
 use Rattle.answers.proofs.PutLaws.{put_same}
 use Rattle.player.specs.declared.Played.{Played}
-use Rattle.player.specs.Play.{Turn}
+use Rattle.std.specs.Prelude.{is_some}
+use Rattle.player.specs.Play.{Printed, Bad, Shows, Turn}
 use Rattle.player.specs.Explain.{played_by}
 use Rattle.player.specs.Promise.{Plays}
 use Rattle.player.specs.House.{House, widest, is_bad, printed_line, end_at, turn_at, at_end, bad_line}
@@ -36,27 +38,34 @@ module _ (p : Pair) (call : Call) where
   abbrev gives : Turn
   gives = turn_at call (house_in p)
 
-  pub called : {e first second : End} {places lengths before output : List ℕ} {played : Played} {at used : ℕ} {stopped : Bool}
+  pub called : {e first second : End} {store : Store} {before output : List ℕ} {played : Played} {at used : ℕ} {stopped : Bool}
       → e ≡ end_at call.end (house_in p)
-      → Plays p.explains e call.verb call.clock (messages_in p.places p.lengths p.count) played (messages_in places lengths played.count)
+      → Plays p.explains e call.verb call.clock (kept p.store) played (kept store)
       → Put widest at (printed_line call.end call.clock played.printed) before output used
       → stopped ≡ is_bad played.printed → first ≡ cond is_zero played.end p.zero → second ≡ cond is_zero p.one played.end
       → PlaysLine (Play call) (house_in p) at before output
-      (record { pair = record { zero = first; one = second; places = places; lengths = lengths; count = played.count; explains = p.explains }; len = 0; stopped = stopped; used = used })
-  called {e} {first} {second} {places} {lengths} {before} {output} {played} is-e plays put bad is-first is-second =
+      (record { pair = record { zero = first; one = second; store = store; explains = p.explains }; len = 0; stopped = stopped; used = used })
+  called {e} {first} {second} {store} {before} {output} {played} is-e plays put bad is-first is-second =
       let by : End → Turn = λ x. played_by p.explains x call.verb call.clock (house_in p).messages in
       let t : by e ≡ gives = ap by is-e in
       let printed : played.printed ≡ gives.printed = plays.printed ∙ ap (λ (x : Turn). x.printed) t in
       let left : played.end ≡ gives.left = plays.left ∙ ap (λ (x : Turn). x.left) t in
-      let kept = plays.kept ∙ ap (λ (x : Turn). x.messages) t in
+      let messages = plays.kept ∙ ap (λ (x : Turn). x.messages) t in
       let one = is-first ∙ ap (λ (x : End). cond is_zero x p.zero) left in
       let two = is-second ∙ ap (λ (x : End). cond is_zero p.one x) left in
       let stops = bad ∙ ap is_bad printed in
       record {
-        stands = λ i. record { house = record { zero = one i; one = two i; messages = kept i; explains = p.explains }; line = []; stopped = stops i };
+        stands = λ i. record { house = record { zero = one i; one = two i; messages = messages i; explains = p.explains }; line = []; stopped = stops i };
         fresh = refl;
         put = put_same put (ap (printed_line call.end call.clock) printed);
       }
+
+-- "bad" is printed where there is no answer
+pub stops-bad : (p : Printed) (s : Bool) → is_some p ≡ not s → s ≡ is_bad p
+stops-bad Bad true h = refl
+stops-bad Bad false h = absurd (true≢false (sym h))
+stops-bad (Shows a) true h = absurd (true≢false h)
+stops-bad (Shows a) false h = refl
 
 -- another name for the same line
 pub line_same : {l m : Line} {h : House} {at : ℕ} {before output : List ℕ} {r : Turned} → PlaysLine l h at before output r → m ≡ l → PlaysLine m h at before output r

@@ -5,7 +5,7 @@ use Rattle.lines.specs.Cut.{longest}
 use Rattle.script.specs.declared.Line.{Line}
 use Rattle.script.specs.declared.Line.TheVariants.{Malformed}
 use Rattle.script.specs.Line.{line_of}
-use Rattle.store.specs.Store.{messages_in}
+use Rattle.store.specs.Store.{kept}
 use Rattle.player.specs.House.{House, opened, line_prints, line_house, line_stops, at_end, prints_of}
 use Rattle.interpreter.specs.declared.Pair.{Pair}
 use Rattle.interpreter.specs.declared.Playing.{Playing}
@@ -71,7 +71,7 @@ PrintsInPieces = (explains : Bool) (pieces : List (List ℕ)) → all_print (sta
 -- ---- as the code keeps it
 
 abbrev pub house_in : Pair → House
-house_in p = record { zero = p.zero; one = p.one; messages = messages_in p.places p.lengths p.count; explains = p.explains }
+house_in p = record { zero = p.zero; one = p.one; messages = kept p.store; explains = p.explains }
 
 abbrev pub standing_of : Pair → List ℕ → ℕ → Bool → Standing
 standing_of p line len stopped = record { house = house_in p; line = take len line; stopped = stopped }

@@ -7,25 +7,22 @@ ghost use Rattle.std.specs.Prelude.{◌≡◌, true, false, cond, ◌+◌, ◌�
 ghost use Rattle.numbers.specs.Splice.{splice};
 ghost use Rattle.end.specs.Opening.{house_params, opening_of};
 ghost use Rattle.script.specs.Line.{line_of};
-ghost use Rattle.player.specs.House.{widest, is_bad};
+ghost use Rattle.player.specs.House.{widest};
 ghost use Rattle.interpreter.specs.Interpreter.{start, end_prints, house_in, standing};
 ghost use Rattle.interpreter.specs.Promise.{PlaysLine, Turns, Feeds};
 
 use end::{End, Params};
 use lines::Fed;
 use message::Host;
-use player::Printed;
 use script::{Call, Line};
+use store::Store;
 
-// The two ends, hosts 0 and 1, and the messages that they have put out, `count` of them, each in a place of 128 bytes. Where it explains,
-// the reason is printed after "ignored".
+// The two ends, hosts 0 and 1, and the messages that they have put out. Where it explains, the reason is printed after "ignored".
 #[derive(Clone, Copy)]
 pub struct Pair {
     pub zero: End,
     pub one: End,
-    pub places: [u8; 8192],
-    pub lengths: [u8; 64],
-    pub count: usize,
+    pub store: Store,
     pub explains: bool,
 }
 
@@ -84,9 +81,7 @@ fn opened_as(explains: bool) -> Playing
     let pair = Pair {
         zero,
         one,
-        places: [0; 8192],
-        lengths: [0; 64],
-        count: 0,
+        store: Store::new(),
         explains,
     };
     Playing {
@@ -111,15 +106,6 @@ pub fn opened_explaining() -> Playing
     opened_as(true)
 }
 
-fn is_bad(printed: Printed) -> bool
-    ensures { result ≡ is_bad printed }
-{
-    match printed {
-        Printed::Bad => true,
-        Printed::Shows(_) => false,
-    }
-}
-
 // The first of two ends, if the test says so.
 fn chosen(test: bool, first: End, second: End) -> End
     ensures { result ≡ cond test first second }
@@ -137,29 +123,18 @@ fn play_call(pair: Pair, call: Call, out: &mut [u8], at: usize) -> Turned
     let is_zero = host.0 == 0;
     let zero = pair.zero;
     let one = pair.one;
-    let mut places = pair.places;
-    let mut lengths = pair.lengths;
+    let mut store = pair.store;
     let e = chosen(is_zero, zero, one);
     let explains = pair.explains;
-    let played = player::play(
-        explains,
-        e,
-        verb,
-        call.clock,
-        &mut places,
-        &mut lengths,
-        pair.count,
-    );
+    let played = player::play(explains, e, verb, call.clock, &mut store);
     let printed = played.printed;
     let end = played.end;
     let used = player::put_printed(out, at, host, call.clock, printed);
-    let stopped = is_bad(printed);
+    let stopped = printed.is_none();
     let next = Pair {
         zero: chosen(is_zero, end, zero),
         one: chosen(is_zero, one, end),
-        places,
-        lengths,
-        count: played.count,
+        store,
         explains,
     };
     Turned {
@@ -175,7 +150,7 @@ fn play_malformed(pair: Pair, out: &mut [u8], at: usize) -> Turned
     requires { at + widest ≤ length out.old }
     ensures { PlaysLine Line.Malformed (house_in pair) at out.old out.new result }
 {
-    let used = player::put_printed(out, at, Host(0), 0, Printed::Bad);
+    let used = player::put_printed(out, at, Host(0), 0, None);
     Turned {
         pair,
         len: 0,
@@ -199,8 +174,7 @@ fn play(pair: Pair, meant: Line, out: &mut [u8], at: usize) -> Turned
 fn meaning(line: &[u8], len: usize) -> Line
     ensures { result ≡ line_of (take len line.now) }
 {
-    let n = store::least(len, line.len());
-    script::read_line(&line[..n])
+    script::read_line(&line[..len.min(line.len())])
 }
 
 // A line by what became of it: it goes on, or is played.

@@ -27,15 +27,13 @@ use Rattle.script.specs.declared.Verb.{Verb}
 use Rattle.script.specs.declared.Verb.TheVariants as verb
 use Rattle.answers.specs.declared.Shown.{Shown}
 use Rattle.answers.specs.declared.Shown.TheVariants as shown
-use Rattle.store.specs.Store.{most, room, message_in, first_messages, messages_in}
+use Rattle.store.specs.declared.Store.{Store}
+use Rattle.store.specs.Store.{most, room, message_in, first_messages, kept}
 use Rattle.store.proofs.StoreLaws.{length-first, first-at}
-use Rattle.player.specs.declared.Printed.{Printed}
-use Rattle.player.specs.declared.Printed.TheVariants.{Bad, Shows}
 use Rattle.player.specs.declared.Played.{Played}
-use Rattle.player.specs.declared.Told.{Told}
-use Rattle.player.specs.Play.{draws, event_for, heard_number, is_known, Turn, turn_of, result_of, played_of, shows, stops}
+use Rattle.player.specs.Play.{Printed, Bad, Shows, draws, event_for, heard_number, is_known, Turn, turn_of, result_of, played_of, shows, stops}
 use Rattle.player.specs.Explain.{with_reason, explained, why_for}
-use Rattle.player.specs.Promise.{Plays, PlaysOn, Tells, printed_for, messages_for, InOutput}
+use Rattle.player.specs.Promise.{Plays, Tells, printed_for, messages_for, InOutput}
 use Rattle.player.proofs.CueLaws.{Wide, wide}
 
 -- ---- the message that is heard
@@ -65,13 +63,6 @@ event-known (verb.Hear n) places lengths k h = ap Arrival (sym (first-at places 
 event-known verb.Fire places lengths k h = refl
 event-known verb.Report places lengths k h = refl
 
--- the part that is lent is the message in its place
-pub cut_message : (places lengths : List ℕ) {k n h : ℕ} → k ≡ h → n ≡ min (get_or lengths k 0) room
-    → take (k * room + n - k * room) (drop (k * room) places) ≡ message_in places lengths h
-cut_message places lengths {k} {n} e l =
-    let cut : k * room + n - k * room ≡ n = omega arith in
-    ap (λ (m : ℕ). take m (drop (k * room) places)) (cut ∙ l) ∙ ap (message_in places lengths) e
-
 -- ---- what an answer tells
 
 in_buffer : (o : Outcome) (output : List ℕ) → InOutput (answer_of o) (buffer_of o output)
@@ -86,19 +77,17 @@ in_buffer (Did (Clash name)) output = tt
 in_buffer (Did (Late name cue)) output = tt
 in_buffer (Did Exhausted) output = tt
 
+-- how many messages are kept, where each has a place
+length-kept : (s : Store) → s.count ≤ most → length (kept s) ≡ s.count
+length-kept s h = length-first s.places s.lengths (min s.count most) ∙ min-eq_left h
+
 -- an answer that puts nothing out
-pub tells : {w : Why} {a b : Answer} {s : Shown} {r : Told} (places lengths : List ℕ) {output : List ℕ} {count : ℕ} → a ≡ b → count ≤ most
-    → r ≡ record { printed = Shows s; count = count } → explained w (printed_for b output count) ≡ Shows s
-    → ((ms : List (List ℕ)) → messages_for b output ms ≡ ms)
-    → Tells w a output (first_messages places lengths count) count r (first_messages places lengths r.count)
-tells {w} {a} {b} {s} {r} places lengths {output} {count} is small p q m =
-    let n : r.count ≡ count = ap (λ (x : Told). x.count) p in
+pub tells : {w : Why} {a b : Answer} {p : Printed} {output : List ℕ} {s : Store} → a ≡ b → p ≡ explained w (printed_for b output s.count)
+    → ((ms : List (List ℕ)) → messages_for b output ms ≡ ms) → Tells w a output s s p
+tells {w} {a} {b} {p} {output} {s} is q m =
     record {
-      printed = ap (λ (x : Told). x.printed) p ∙ sym q ∙ ap (λ (x : Answer). explained w (printed_for x output count)) (sym is);
-      few = omega arith;
-      kept =
-          ap (first_messages places lengths) n ∙ sym (m (first_messages places lengths count))
-          ∙ ap (λ (x : Answer). messages_for x output (first_messages places lengths count)) (sym is);
+      printed = q ∙ ap (λ (x : Answer). explained w (printed_for x output s.count)) (sym is);
+      messages = sym (m (kept s)) ∙ ap (λ (x : Answer). messages_for x output (kept s)) (sym is);
     }
 
 -- an answer that puts a message out has no reason
@@ -106,38 +95,36 @@ out_as_is : (w : Why) (there : Bool) (count : ℕ) → cond there (Shows (shown.
 out_as_is w true count = refl
 out_as_is w false count = refl
 
-pub tells-out : {w : Why} {a : Answer} {n : ℕ} {output : List ℕ} {ms after : List (List ℕ)} {count : ℕ} {r : Told} → a ≡ answer.Out n
-    → Tells why.NoReason (answer.Out n) output ms count r after → Tells w a output ms count r after
+pub tells-out : {w : Why} {a : Answer} {n : ℕ} {output : List ℕ} {s after : Store} {r : Printed} → a ≡ answer.Out n
+    → Tells why.NoReason (answer.Out n) output s after r → Tells w a output s after r
 unfolding printed_for
-tells-out {w} {a} {n} {output} {ms} {after} {count} {r} e t =
-    let here = ltb count most in
-    subst (λ (x : Answer). Tells w x output ms count r after) (sym e)
-    (record { printed = t.printed ∙ sym (out_as_is why.NoReason here count) ∙ out_as_is w here count; few = t.few; kept = t.kept })
+tells-out {w} {a} {n} {output} {s} {after} {r} e t =
+    let here = ltb s.count most in
+    subst (λ (x : Answer). Tells w x output s after r) (sym e)
+    (record { printed = t.printed ∙ sym (out_as_is why.NoReason here s.count) ∙ out_as_is w here s.count; messages = t.messages })
 
 pub out-there : {a : Answer} {n : ℕ} (output : List ℕ) → a ≡ answer.Out n → InOutput a output → n ≤ length output
 unfolding InOutput
 out-there {a} {n} output e h = subst (λ (x : Answer). InOutput x output) e h
 
 -- a message that is put out
-module _ (n : ℕ) (output : List ℕ) (places lengths : List ℕ) (count : ℕ) where
+module _ (n : ℕ) (output : List ℕ) (s : Store) (few : s.count ≤ most) where
   abbrev out : Answer
   out = answer.Out n
 
-  abbrev before : List (List ℕ)
-  before = first_messages places lengths count
-
-  pub put-kept : (after lengths' : List ℕ) → count < most → first_messages after lengths' (suc count) ≡ before ++ (take n output ∷ [])
-      → Tells why.NoReason out output before count (record { printed = Shows (shown.Out count); count = count + 1 }) (first_messages after lengths' (count + 1))
+  pub put-kept : (after : Store) → s.count < most → kept after ≡ kept s ++ (take n output ∷ []) → Tells why.NoReason out output s after (Shows (shown.Out s.count))
   unfolding printed_for messages_for
-  put-kept after lengths' h e =
-      let t : ltb count most ≡ true = lt-ltb count most h in
-      record { printed = rw t; few = omega arith; kept = rw (length-first places lengths count, t, add-one) e }
+  put-kept after h e =
+      let t : ltb s.count most ≡ true = lt-ltb s.count most h in
+      let l : ltb (length (kept s)) most ≡ true = ap (λ (x : ℕ). ltb x most) (length-kept s few) ∙ t in
+      record { printed = rw t; messages = rw l e }
 
-  pub put_beyond : count ≤ most → most ≤ count → Tells why.NoReason out output before count (record { printed = Bad; count = count }) before
+  pub put_beyond : most ≤ s.count → Tells why.NoReason out output s s Bad
   unfolding printed_for messages_for
-  put_beyond small h =
-      let t : ltb count most ≡ false = le-ltb count most h in
-      record { printed = rw t; few = small; kept = rw (length-first places lengths count, t) }
+  put_beyond h =
+      let t : ltb s.count most ≡ false = le-ltb s.count most h in
+      let l : ltb (length (kept s)) most ≡ false = ap (λ (x : ℕ). ltb x most) (length-kept s few) ∙ t in
+      record { printed = rw t; messages = rw l }
 
 -- ---- the turn of an outcome, by the answer and the output
 
@@ -164,14 +151,14 @@ turn_for (Did (Out bytes)) e output ms w =
     let t = out-turn (ltb (length ms) most) e ms bytes (drop (length bytes) output) in
     record { printed = t.0; messages = t.1.0; left = t.1.1 }
 turn_for (Did (Got name cue)) e output ms w =
-    let says : List ℕ → Printed = λ x. Shows (shown.Got name.source name.number (signed (value x))) in
+    let says : List ℕ → Printed = λ x. Shows (shown.Got name (signed (value x))) in
     record { printed = ap says (focus_read cue output w); messages = refl; left = refl }
 turn_for (Did Done) e output ms w = record { printed = refl; messages = refl; left = refl }
 turn_for (Did Ignored) e output ms w = record { printed = refl; messages = refl; left = refl }
 turn_for (Did Nothing) e output ms w = record { printed = refl; messages = refl; left = refl }
 turn_for (Did (Clash name)) e output ms w = record { printed = refl; messages = refl; left = refl }
 turn_for (Did (Late name cue)) e output ms w =
-    let says : List ℕ → Printed = λ x. Shows (shown.Late name.source name.number (signed (value x))) in
+    let says : List ℕ → Printed = λ x. Shows (shown.Late name (signed (value x))) in
     record { printed = ap says (focus_read cue output w); messages = refl; left = refl }
 turn_for (Did Exhausted) e output ms w = record { printed = refl; messages = refl; left = refl }
 
@@ -180,14 +167,14 @@ turn_for (Did Exhausted) e output ms w = record { printed = refl; messages = ref
 -- without one, all is shown as it is
 shown_as_is : (a : Shown) → with_reason why.NoReason a ≡ a
 shown_as_is (shown.Out message) = refl
-shown_as_is (shown.Got source number focus) = refl
+shown_as_is (shown.Got name focus) = refl
 shown_as_is shown.Done = refl
 shown_as_is shown.Ignored = refl
 shown_as_is (shown.IgnoredFor reason) = refl
 shown_as_is shown.Nothing = refl
 shown_as_is (shown.Refused question) = refl
-shown_as_is (shown.Clash source number) = refl
-shown_as_is (shown.Late source number focus) = refl
+shown_as_is (shown.Clash name) = refl
+shown_as_is (shown.Late name focus) = refl
 shown_as_is shown.Exhausted = refl
 
 -- asked for, or not
@@ -198,19 +185,19 @@ explained-by false w (Shows a) = ap Shows (shown_as_is a)
 
 -- ---- a played line
 
-module _ (explains : Bool) (e : End) (v : Verb) (clock used : ℕ) (places lengths : List ℕ) where
+module _ (explains : Bool) (e : End) (v : Verb) (clock : ℕ) (s : Store) (few : s.count ≤ most) where
   abbrev ms : List (List ℕ)
-  ms = first_messages places lengths used
+  ms = kept s
 
-  counted : length ms ≡ used
-  counted = length-first places lengths used
+  counted : length ms ≡ s.count
+  counted = length-kept s few
 
   stays : (explains : Bool) → Bad ≡ cond explains Bad Bad
   stays true = refl
   stays false = refl
 
   -- an unknown message number
-  not-played : is_known v used ≡ false → Plays explains e v clock ms (record { printed = Bad; end = e; count = used }) ms
+  pub not-played : is_known v s.count ≡ false → Plays explains e v clock ms (record { printed = Bad; end = e }) ms
   unfolding played_of
   not-played h =
       let known : is_known v (length ms) ≡ false = ap (is_known v) counted ∙ h in
@@ -223,50 +210,43 @@ module _ (explains : Bool) (e : End) (v : Verb) (clock used : ℕ) (places lengt
 
   -- the event, and the call that the code makes
   abbrev Happens : Action
-  Happens = event_for v (message_in places lengths (heard_number v))
+  Happens = event_for v (message_in s.places s.lengths (heard_number v))
 
   abbrev Made : Result
   Made = event_of e Happens clock room draws
 
-  module _ (known : is_known v used ≡ true) (s : Stepped) (output : List ℕ) (is-called : s ≡ called_of Made) (is-left : output ≡ buffer_of Made.outcome (replicate 128 0)) where
+  module _ (known : is_known v s.count ≡ true) (st : Stepped) (output : List ℕ) (is-called : st ≡ called_of Made) (is-left : output ≡ buffer_of Made.outcome (replicate 128 0)) where
+    heard : Happens ≡ event_for v (get_or ms (heard_number v) [])
+    heard = event-known v s.places s.lengths (min s.count most) (ap (is_known v) (min-eq_left few) ∙ known)
+
     turned : played_of e v clock ms ≡ turn_of Made.outcome Made.left ms
     unfolding played_of
     turned =
         let k : is_known v (length ms) ≡ true = ap (is_known v) counted ∙ known in
-        let made : Made ≡ result_of e v clock ms = ap (λ (ev : Action). event_of e ev clock room draws) (event-known v places lengths used known) in
+        let made : Made ≡ result_of e v clock ms = ap (λ (ev : Action). event_of e ev clock room draws) heard in
         rw k (ap (λ (r : Result). turn_of r.outcome r.left ms) (sym made))
 
-    pub in_output : InOutput s.answer output
+    pub in_output : InOutput st.answer output
     in_output = rw (is-called, is-left) (in_buffer Made.outcome (replicate 128 0))
 
-    pub played : (t : Told) (after : List (List ℕ)) (w : Why) → w ≡ cond explains (why_of e clock Happens) why.NoReason → Tells w s.answer output ms used t after
-        → PlaysOn explains e v clock ms (record { printed = t.printed; end = s.end; count = t.count }) after
-    played t after w asked told =
+    pub played : (p : Printed) (after : Store) (w : Why) → w ≡ cond explains (why_of e clock Happens) why.NoReason → Tells w st.answer output s after p
+        → Plays explains e v clock ms (record { printed = p; end = st.end }) (kept after)
+    played p after w asked told =
         let o = Made.outcome in
         let f = turn_for o Made.left (replicate 128 0) ms (wide e Happens clock room draws) in
-        let a : s.answer ≡ answer_of o = ap (λ (x : Stepped). x.answer) is-called in
-        let plain : printed_for s.answer output used ≡ (played_of e v clock ms).printed =
+        let a : st.answer ≡ answer_of o = ap (λ (x : Stepped). x.answer) is-called in
+        let plain : printed_for st.answer output s.count ≡ (played_of e v clock ms).printed =
         (λ i. printed_for (a i) (is-left i) (sym counted i)) ∙ f.printed ∙ sym (ap (λ (t : Turn). t.printed) turned) in
-        let reason : why_of e clock Happens ≡ why_for e v clock ms = ap (why_of e clock) (event-known v places lengths used known) in
+        let reason : why_of e clock Happens ≡ why_for e v clock ms = ap (why_of e clock) heard in
         record {
-          plays = record {
-            printed =
-                told.printed ∙ ap (λ (x : Why). explained x (printed_for s.answer output used)) asked
-                ∙ explained-by explains (why_of e clock Happens) (printed_for s.answer output used)
-                ∙ (λ i. cond explains (explained (reason i) (plain i)) (plain i));
-            left = ap (λ (x : Stepped). x.end) is-called ∙ f.left ∙ sym (ap (λ (t : Turn). t.left) turned);
-            kept = told.kept ∙ (λ i. messages_for (a i) (is-left i) ms) ∙ f.messages ∙ sym (ap (λ (t : Turn). t.messages) turned);
-          };
-          few = told.few;
+          printed =
+              told.printed ∙ ap (λ (x : Why). explained x (printed_for st.answer output s.count)) asked
+              ∙ explained-by explains (why_of e clock Happens) (printed_for st.answer output s.count)
+              ∙ (λ i. cond explains (explained (reason i) (plain i)) (plain i));
+          left = ap (λ (x : Stepped). x.end) is-called ∙ f.left ∙ sym (ap (λ (t : Turn). t.left) turned);
+          kept = told.messages ∙ (λ i. messages_for (a i) (is-left i) ms) ∙ f.messages ∙ sym (ap (λ (t : Turn). t.messages) turned);
         }
 
--- the messages in the places that are used
-module _ (explains : Bool) (e : End) (v : Verb) (clock count used : ℕ) (places lengths : List ℕ) (is-used : used ≡ min count most) where
-  pub play_bad : is_known v used ≡ false → Plays explains e v clock (messages_in places lengths count) (record { printed = Bad; end = e; count = used }) (messages_in places lengths used)
-  play_bad h =
-      let small : min used most ≡ used = omega arith in
-      rw (← is-used, small) (not-played explains e v clock used places lengths h)
-
-  pub play-on : (r : Played) (after lengths' : List ℕ) → PlaysOn explains e v clock (first_messages places lengths used) r (first_messages after lengths' r.count)
-      → Plays explains e v clock (messages_in places lengths count) r (messages_in after lengths' r.count)
-  play-on r after lengths' p = rw (← is-used, min-eq_left p.few) p.plays
+-- with no more messages counted than there are places, the same are kept
+pub same-kept : (s : Store) (used : ℕ) → used ≡ min s.count most → kept (record s { count = used }) ≡ kept s
+same-kept s used e = let n : min used most ≡ min s.count most = omega (arith, e) in ap (first_messages s.places s.lengths) n

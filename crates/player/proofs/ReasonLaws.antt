@@ -19,22 +19,20 @@ use Rattle.script.specs.declared.Verb.{Verb}
 use Rattle.answers.specs.declared.Shown.{Shown}
 use Rattle.answers.specs.declared.Shown.TheVariants as shown
 use Rattle.store.specs.Store.{most, room}
-use Rattle.player.specs.declared.Printed.{Printed}
-use Rattle.player.specs.declared.Printed.TheVariants.{Bad, Shows}
-use Rattle.player.specs.Play.{draws, event_for, heard_number, is_known, Turn, turn_of, result_of, played_of}
+use Rattle.player.specs.Play.{Printed, Bad, Shows, draws, event_for, heard_number, is_known, Turn, turn_of, result_of, played_of}
 use Rattle.player.specs.Explain.{explained, why_for, IgnoredHasReason}
 
 -- "ignored" without a reason
 abbrev bare : Shown → Bool
 bare (shown.Out message) = false
-bare (shown.Got source number focus) = false
+bare (shown.Got name focus) = false
 bare shown.Done = false
 bare shown.Ignored = true
 bare (shown.IgnoredFor reason) = false
 bare shown.Nothing = false
 bare (shown.Refused question) = false
-bare (shown.Clash source number) = false
-bare (shown.Late source number focus) = false
+bare (shown.Clash name) = false
+bare (shown.Late name focus) = false
 bare shown.Exhausted = false
 
 abbrev is_bare : Printed → Bool

@@ -8,9 +8,7 @@ use Rattle.end.specs.Why.{why_of}
 use Rattle.script.specs.declared.Verb.{Verb}
 use Rattle.answers.specs.declared.Shown.{Shown}
 use Rattle.answers.specs.declared.Shown.TheVariants as shown
-use Rattle.player.specs.declared.Printed.{Printed}
-use Rattle.player.specs.declared.Printed.TheVariants.{Bad, Shows}
-use Rattle.player.specs.Play.{event_for, heard_number, Turn, played_of}
+use Rattle.player.specs.Play.{Printed, Bad, Shows, event_for, heard_number, Turn, played_of}
 
 -- "ignored", and the reason where there is one
 abbrev pub ignored_for : Why → Shown
@@ -21,14 +19,14 @@ ignored_for why.NoReason = shown.Ignored
 -- the other answers are shown as they are
 abbrev pub with_reason : Why → Shown → Shown
 with_reason w (shown.Out message) = shown.Out message
-with_reason w (shown.Got source number focus) = shown.Got source number focus
+with_reason w (shown.Got name focus) = shown.Got name focus
 with_reason w shown.Done = shown.Done
 with_reason w shown.Ignored = ignored_for w
 with_reason w (shown.IgnoredFor reason) = shown.IgnoredFor reason
 with_reason w shown.Nothing = shown.Nothing
 with_reason w (shown.Refused question) = shown.Refused question
-with_reason w (shown.Clash source number) = shown.Clash source number
-with_reason w (shown.Late source number focus) = shown.Late source number focus
+with_reason w (shown.Clash name) = shown.Clash name
+with_reason w (shown.Late name focus) = shown.Late name focus
 with_reason w shown.Exhausted = shown.Exhausted
 
 abbrev pub explained : Why → Printed → Printed

@@ -9,9 +9,7 @@ use Rattle.script.specs.declared.Line.{Line}
 use Rattle.script.specs.declared.Line.TheVariants.{Play, Malformed}
 use Rattle.script.specs.Line.{line_of}
 use Rattle.answers.specs.AnswerLine.{answer_line}
-use Rattle.player.specs.declared.Printed.{Printed}
-use Rattle.player.specs.declared.Printed.TheVariants.{Bad, Shows}
-use Rattle.player.specs.Play.{Turn}
+use Rattle.player.specs.Play.{Printed, Bad, Shows, Turn}
 use Rattle.player.specs.Explain.{played_by}
 
 -- no line that is printed has more bytes

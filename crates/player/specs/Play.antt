@@ -1,5 +1,5 @@
 -- What a line of a script does on the end that it names. Document 01, "Cases", the program "house".
-use Rattle.std.specs.Prelude.{ℕ, Bool, true, cond, List, [], ◌∷◌, ◌++◌, length, get_or, replicate, ℤ, pos, ltb}
+use Rattle.std.specs.Prelude.{ℕ, Bool, true, cond, List, [], ◌∷◌, ◌++◌, length, get_or, replicate, ℤ, pos, ltb, Option, Some, None}
 use Rattle.message.specs.Cue.{cue_with, fields_of}
 use Rattle.end.specs.declared.End.{End}
 use Rattle.end.specs.Answer.{Out, Got, Done, Ignored, Nothing, Clash, Late, Exhausted}
@@ -11,8 +11,6 @@ use Rattle.script.specs.declared.Verb.TheVariants as verb
 use Rattle.answers.specs.declared.Shown.{Shown}
 use Rattle.answers.specs.declared.Shown.TheVariants as shown
 use Rattle.store.specs.Store.{most, room}
-use Rattle.player.specs.declared.Printed.{Printed}
-use Rattle.player.specs.declared.Printed.TheVariants.{Bad, Shows}
 
 -- "draws 0": there are 64
 abbrev pub draws : List ℕ
@@ -58,6 +56,16 @@ is_known (verb.Hear number) count = ltb number count
 is_known verb.Fire count = true
 is_known verb.Report count = true
 
+-- what is printed for a line: its answer, or "bad"
+abbrev pub Printed : Type 0
+Printed = Option Shown
+
+pattern abbrev pub Bad : Printed
+Bad = None
+
+pattern abbrev pub Shows : Shown → Printed
+Shows a = Some a
+
 -- what a line gives: what is printed for it, the end that is left, and the messages from then on
 pub record Turn : Type 0 where
   pub printed : Printed
@@ -76,12 +84,12 @@ unfoldable pub turn_of : Outcome → End → List (List ℕ) → Turn
 turn_of (Refused question) e messages = shows (shown.Refused question) e messages
 turn_of (Did (Out bytes)) e messages =
     cond (ltb (length messages) most) (shows (shown.Out (length messages)) e (messages ++ (bytes ∷ []))) (stops e messages)
-turn_of (Did (Got name cue)) e messages = shows (shown.Got name.source name.number (fields_of cue).focus) e messages
+turn_of (Did (Got name cue)) e messages = shows (shown.Got name (fields_of cue).focus) e messages
 turn_of (Did Done) e messages = shows shown.Done e messages
 turn_of (Did Ignored) e messages = shows shown.Ignored e messages
 turn_of (Did Nothing) e messages = shows shown.Nothing e messages
-turn_of (Did (Clash name)) e messages = shows (shown.Clash name.source name.number) e messages
-turn_of (Did (Late name cue)) e messages = shows (shown.Late name.source name.number (fields_of cue).focus) e messages
+turn_of (Did (Clash name)) e messages = shows (shown.Clash name) e messages
+turn_of (Did (Late name cue)) e messages = shows (shown.Late name (fields_of cue).focus) e messages
 turn_of (Did Exhausted) e messages = shows shown.Exhausted e messages
 
 -- the call that a line makes, with an output of 128 bytes

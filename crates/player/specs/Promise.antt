@@ -11,12 +11,10 @@ use Rattle.end.specs.declared.Why.{Why}
 use Rattle.script.specs.declared.Verb.{Verb}
 use Rattle.script.specs.declared.Verb.TheVariants as verb
 use Rattle.answers.specs.declared.Shown.TheVariants as shown
-use Rattle.store.specs.Store.{most, room}
-use Rattle.player.specs.declared.Printed.{Printed}
-use Rattle.player.specs.declared.Printed.TheVariants.{Bad, Shows}
+use Rattle.store.specs.declared.Store.{Store}
+use Rattle.store.specs.Store.{most, room, kept}
 use Rattle.player.specs.declared.Played.{Played}
-use Rattle.player.specs.declared.Told.{Told}
-use Rattle.player.specs.Play.{focused}
+use Rattle.player.specs.Play.{Printed, Bad, Shows, focused}
 use Rattle.player.specs.Explain.{explained, played_by}
 
 -- a line was played: `after` are the messages that are kept then
@@ -25,23 +23,18 @@ pub record Plays (explains : Bool) (e : End) (v : Verb) (clock : ℕ) (messages 
   pub left : r.end ≡ (played_by explains e v clock messages).left
   pub kept : after ≡ (played_by explains e v clock messages).messages
 
--- the same with how many messages there are then, which all have a place
-pub record PlaysOn (explains : Bool) (e : End) (v : Verb) (clock : ℕ) (messages : List (List ℕ)) (r : Played) (after : List (List ℕ)) : Type 0 where
-  pub plays : Plays explains e v clock messages r after
-  pub few : r.count ≤ most
-
 -- ---- by the answer of a call and the output that it left
 
 -- what is printed for an answer
 unfoldable pub printed_for : Answer → List ℕ → ℕ → Printed
 printed_for (answer.Refused question) output count = Shows (shown.Refused question)
 printed_for (answer.Out n) output count = cond (ltb count most) (Shows (shown.Out count)) Bad
-printed_for (answer.Got name) output count = Shows (shown.Got name.source name.number (steps_at output 0))
+printed_for (answer.Got name) output count = Shows (shown.Got name (steps_at output 0))
 printed_for answer.Done output count = Shows shown.Done
 printed_for answer.Ignored output count = Shows shown.Ignored
 printed_for answer.Nothing output count = Shows shown.Nothing
-printed_for (answer.Clash name) output count = Shows (shown.Clash name.source name.number)
-printed_for (answer.Late name) output count = Shows (shown.Late name.source name.number (steps_at output 0))
+printed_for (answer.Clash name) output count = Shows (shown.Clash name)
+printed_for (answer.Late name) output count = Shows (shown.Late name (steps_at output 0))
 printed_for answer.Exhausted output count = Shows shown.Exhausted
 
 -- the messages then
@@ -69,17 +62,14 @@ InOutput (answer.Late name) output = Unit {0}
 InOutput answer.Exhausted output = Unit {0}
 
 -- what is told of an answer: what is printed for it, with the reason that was asked for, and the messages that are kept after it
-pub record Tells (w : Why) (a : Answer) (output : List ℕ) (messages : List (List ℕ)) (count : ℕ) (r : Told) (after : List (List ℕ)) : Type 0 where
-  pub printed : r.printed ≡ explained w (printed_for a output count)
-  pub few : r.count ≤ most
-  pub kept : after ≡ messages_for a output messages
+pub record Tells (w : Why) (a : Answer) (output : List ℕ) (before after : Store) (r : Printed) : Type 0 where
+  pub printed : r ≡ explained w (printed_for a output before.count)
+  pub messages : kept after ≡ messages_for a output (kept before)
 
--- the sizes of an output, of the places for messages and of their lengths; the messages that are kept have a place each
-pub record Shelf (output places lengths : List ℕ) (count : ℕ) : Type 0 where
+-- the size of an output; the messages that are kept have a place each
+pub record Shelf (output : List ℕ) (s : Store) : Type 0 where
   pub out-size : length output ≡ room
-  pub places-size : length places ≡ most * room
-  pub lengths_size : length lengths ≡ most
-  pub few : count ≤ most
+  pub few : s.count ≤ most
 
 -- ---- the parts of a verb's event: what `event_for` puts together
 

@@ -2,9 +2,9 @@
 // gives), Explain.antt (the reason after "ignored") and House.antt (what is printed, for a line and for a whole script).
 #![tactic(auto)]
 
-ghost use Rattle.std.specs.Prelude.{◌≡◌, true, cond, ◌+◌, ◌*◌, ◌≤◌, ◌<◌, length};
+ghost use Rattle.std.specs.Prelude.{◌≡◌, true, cond, ◌+◌, ◌≤◌, ◌<◌, length};
 ghost use Rattle.message.specs.Cue.{steps_at};
-ghost use Rattle.store.specs.Store.{most, room, message_in, first_messages, messages_in};
+ghost use Rattle.store.specs.Store.{most, room, message_in, kept};
 ghost use Rattle.answers.specs.Put.{Put};
 ghost use Rattle.end.specs.Event.{event_of};
 ghost use Rattle.end.specs.Answer.{called_of, buffer_of};
@@ -12,34 +12,19 @@ ghost use Rattle.end.specs.Why.{why_of};
 ghost use Rattle.player.specs.Play.{draws, event_for, heard_number, is_known};
 ghost use Rattle.player.specs.Explain.{ignored_for};
 ghost use Rattle.player.specs.House.{widest, bad_line, printed_line};
-ghost use Rattle.player.specs.Promise.{Plays, PlaysOn, Tells, Shelf, InOutput, kind_for, cue_for};
+ghost use Rattle.player.specs.Promise.{Plays, Tells, Shelf, InOutput, kind_for, cue_for};
 
 use answers::Shown;
 use end::{Answer, Draw, End, Event, Move, Stepped, Why};
 use message::Host;
 use script::Verb;
-use store::{MOST, ROOM};
+use store::Store;
 
-// What is printed for a line: its answer, or "bad", after which the house stops.
-#[derive(Clone, Copy)]
-pub enum Printed {
-    Bad,
-    Shows(Shown),
-}
-
-// What a played line gives: what is printed, the end that is left, and how many messages there are then.
+// What a played line gives: the answer that is printed for it, or none where "bad" is, after which the house stops; and the end that is left.
 #[derive(Clone, Copy)]
 pub struct Played {
-    pub printed: Printed,
+    pub printed: Option<Shown>,
     pub end: End,
-    pub count: usize,
-}
-
-// What an answer tells: what is printed, and how many messages there are then.
-#[derive(Clone, Copy)]
-struct Told {
-    printed: Printed,
-    count: usize,
 }
 
 // What an event gives, and why it was ignored, where that is asked for.
@@ -54,15 +39,8 @@ fn is_known(verb: Verb, count: usize) -> bool
     ensures { result ≡ is_known verb count }
 {
     match verb {
-        Verb::Join => true,
-        Verb::Joined => true,
-        Verb::Leave => true,
-        Verb::Left => true,
-        Verb::Crash => true,
-        Verb::Send(_) => true,
         Verb::Hear(n) => n < count as u64,
-        Verb::Fire => true,
-        Verb::Report => true,
+        _ => true,
     }
 }
 
@@ -70,15 +48,8 @@ fn heard_number(verb: Verb) -> u64
     ensures { result ≡ heard_number verb }
 {
     match verb {
-        Verb::Join => 0,
-        Verb::Joined => 0,
-        Verb::Leave => 0,
-        Verb::Left => 0,
-        Verb::Crash => 0,
-        Verb::Send(_) => 0,
         Verb::Hear(n) => n,
-        Verb::Fire => 0,
-        Verb::Report => 0,
+        _ => 0,
     }
 }
 
@@ -104,15 +75,8 @@ fn cue_of(verb: Verb) -> [u8; 24]
     ensures { result ≡ cue_for verb }
 {
     match verb {
-        Verb::Join => [0; 24],
-        Verb::Joined => [0; 24],
-        Verb::Leave => [0; 24],
-        Verb::Left => [0; 24],
-        Verb::Crash => [0; 24],
         Verb::Send(focus) => message::cue_with(focus, 0, 0, 0, 0),
-        Verb::Hear(_) => [0; 24],
-        Verb::Fire => [0; 24],
-        Verb::Report => [0; 24],
+        _ => [0; 24],
     }
 }
 
@@ -121,19 +85,15 @@ fn event(e: End, verb: Verb, clock: u64, bytes: &[u8], out: &mut [u8]) -> Steppe
     ensures value { result ≡ called_of (event_of e (event_for verb bytes.now) clock (length out.old) draws) }
     ensures out_after { out.new ≡ buffer_of (event_of e (event_for verb bytes.now) clock (length out.old) draws).outcome out.old }
 {
-    let none: [Draw; 64] = [0; 64];
-    let what = event_of(verb);
-    let cue = cue_of(verb);
-    link::event(e, clock, &none, what, cue, bytes, out)
+    let draws: [Draw; 64] = [0; 64];
+    link::event(e, clock, &draws, event_of(verb), cue_of(verb), bytes, out)
 }
 
 // Why the event of a verb would be ignored.
 fn reason(e: End, verb: Verb, clock: u64, bytes: &[u8]) -> Why
     ensures { result ≡ why_of e clock (event_for verb bytes.now) }
 {
-    let what = event_of(verb);
-    let cue = cue_of(verb);
-    link::reason(e, clock, what, cue, bytes)
+    link::reason(e, clock, event_of(verb), cue_of(verb), bytes)
 }
 
 // The same where it is asked for.
@@ -153,51 +113,33 @@ fn event_in(
     e: End,
     verb: Verb,
     clock: u64,
-    places: &[u8],
-    lengths: &[u8],
+    store: &Store,
     out: &mut [u8],
 ) -> Happened
-    requires places_len { length places.now ≡ most * room }
-    requires lengths_len { length lengths.now ≡ most }
-    requires verb_bound { heard_number verb < most }
-    ensures stepped_value { result.stepped ≡ called_of (event_of e (event_for verb (message_in places.now lengths.now (heard_number verb))) clock (length out.old) draws) }
-    ensures out_after { out.new ≡ buffer_of (event_of e (event_for verb (message_in places.now lengths.now (heard_number verb))) clock (length out.old) draws).outcome out.old }
-    ensures why_value { result.why ≡ cond explains (why_of e clock (event_for verb (message_in places.now lengths.now (heard_number verb)))) Why.NoReason }
+    requires { heard_number verb < most }
+    ensures stepped_value { result.stepped ≡ called_of (event_of e (event_for verb (message_in store.now.places store.now.lengths (heard_number verb))) clock (length out.old) draws) }
+    ensures out_after { out.new ≡ buffer_of (event_of e (event_for verb (message_in store.now.places store.now.lengths (heard_number verb))) clock (length out.old) draws).outcome out.old }
+    ensures why_value { result.why ≡ cond explains (why_of e clock (event_for verb (message_in store.now.places store.now.lengths (heard_number verb)))) Why.NoReason }
 {
-    let k = heard_number(verb) as usize;
-    let n = store::size(lengths, k);
-    let at = k * ROOM;
-    let stepped = event(e, verb, clock, &places[at..at + n], out);
-    let why = reason_asked(explains, e, verb, clock, &places[at..at + n]);
-    Happened { stepped, why }
-}
-
-// A message of n bytes that was put out is kept under the next number, if there is one.
-fn put_out(n: usize, out: &[u8], places: &mut [u8], lengths: &mut [u8], count: usize) -> Told
-    requires n_in_bounds { n ≤ length out.now }
-    requires shelf { Shelf out.now places.old lengths.old count }
-    ensures { Tells Why.NoReason (Answer.Out n) out.now (first_messages places.old lengths.old count) count result (first_messages places.new lengths.new result.count) }
-{
-    if count < MOST {
-        store::keep(places, lengths, count, &out[..n]);
-        Told {
-            printed: Printed::Shows(Shown::Out(count as u64)),
-            count: count + 1,
-        }
-    } else {
-        Told {
-            printed: Printed::Bad,
-            count,
-        }
+    let message = store.message(heard_number(verb) as usize);
+    Happened {
+        stepped: event(e, verb, clock, message, out),
+        why: reason_asked(explains, e, verb, clock, message),
     }
 }
 
-fn shows(shown: Shown, count: usize) -> Told
-    ensures { result ≡ record { printed = Printed.Shows shown; count = count } }
+// A message of n bytes that was put out is kept under the next number, if there is one.
+fn put_out(n: usize, out: &[u8], store: &mut Store) -> Option<Shown>
+    requires n_in_bounds { n ≤ length out.now }
+    requires shelf { Shelf out.now store.old }
+    ensures { Tells Why.NoReason (Answer.Out n) out.now store.old store.new result }
 {
-    Told {
-        printed: Printed::Shows(shown),
-        count,
+    if store.count < store::MOST {
+        let number = store.count as u64;
+        store.keep(&out[..n]);
+        Some(Shown::Out(number))
+    } else {
+        None
     }
 }
 
@@ -205,9 +147,8 @@ fn ignored_for(why: Why) -> Shown
     ensures { result ≡ ignored_for why }
 {
     match why {
-        Why::Refused(_) => Shown::Ignored,
         Why::Because(reason) => Shown::IgnoredFor(reason),
-        Why::NoReason => Shown::Ignored,
+        _ => Shown::Ignored,
     }
 }
 
@@ -219,96 +160,51 @@ fn focus_in(out: &[u8]) -> i16
     numbers::read_i16(out, 0)
 }
 
-// What an answer tells, with the output that the call left, and with the reason where it was asked for.
-fn tell(
-    why: Why,
-    answer: Answer,
-    out: &[u8],
-    places: &mut [u8],
-    lengths: &mut [u8],
-    count: usize,
-) -> Told
+// What is printed for an answer, with the output that the call left, and with the reason where it was asked for. What was put out is kept.
+fn tell(why: Why, answer: Answer, out: &[u8], store: &mut Store) -> Option<Shown>
     requires in_output { InOutput answer out.now }
-    requires shelf { Shelf out.now places.old lengths.old count }
-    ensures { Tells why answer out.now (first_messages places.old lengths.old count) count result (first_messages places.new lengths.new result.count) }
+    requires shelf { Shelf out.now store.old }
+    ensures { Tells why answer out.now store.old store.new result }
 {
     match answer {
-        Answer::Refused(question) => shows(Shown::Refused(question), count),
-        Answer::Out(n) => put_out(n, out, places, lengths, count),
-        Answer::Got(name) => {
-            let source = name.source;
-            let number = name.number;
-            let focus = focus_in(out);
-            shows(Shown::Got(source, number, focus), count)
-        }
-        Answer::Done => shows(Shown::Done, count),
-        Answer::Ignored => shows(ignored_for(why), count),
-        Answer::Nothing => shows(Shown::Nothing, count),
-        Answer::Clash(name) => {
-            let source = name.source;
-            let number = name.number;
-            shows(Shown::Clash(source, number), count)
-        }
-        Answer::Late(name) => {
-            let source = name.source;
-            let number = name.number;
-            let focus = focus_in(out);
-            shows(Shown::Late(source, number, focus), count)
-        }
-        Answer::Exhausted => shows(Shown::Exhausted, count),
+        Answer::Refused(question) => Some(Shown::Refused(question)),
+        Answer::Out(n) => put_out(n, out, store),
+        Answer::Got(name) => Some(Shown::Got(name, focus_in(out))),
+        Answer::Done => Some(Shown::Done),
+        Answer::Ignored => Some(ignored_for(why)),
+        Answer::Nothing => Some(Shown::Nothing),
+        Answer::Clash(name) => Some(Shown::Clash(name)),
+        Answer::Late(name) => Some(Shown::Late(name, focus_in(out))),
+        Answer::Exhausted => Some(Shown::Exhausted),
     }
 }
 
-// Plays a line that names no unknown message, with the first messages, `used` of them.
-fn play_known(
-    explains: bool,
-    e: End,
-    verb: Verb,
-    clock: u64,
-    places: &mut [u8; 8192],
-    lengths: &mut [u8; 64],
-    used: usize,
-) -> Played
-    requires used_value { is_known verb used ≡ true }
-    requires used_le_most { used ≤ most }
-    ensures { PlaysOn explains e verb clock (first_messages places.old lengths.old used) result (first_messages places.new lengths.new result.count) }
+// Plays a line that names no unknown message.
+fn play_known(explains: bool, e: End, verb: Verb, clock: u64, store: &mut Store) -> Played
+    requires known { is_known verb store.old.count ≡ true }
+    requires few { store.old.count ≤ most }
+    ensures { Plays explains e verb clock (kept store.old) result (kept store.new) }
 {
     let mut out = [0u8; 128];
-    let happened = event_in(explains, e, verb, clock, places, lengths, &mut out);
-    let stepped = happened.stepped;
-    let why = happened.why;
-    let answer = stepped.answer;
-    let t = tell(why, answer, &out, places, lengths, used);
-    let printed = t.printed;
-    let end = stepped.end;
+    let happened = event_in(explains, e, verb, clock, store, &mut out);
     Played {
-        printed,
-        end,
-        count: t.count,
+        printed: tell(happened.why, happened.stepped.answer, &out, store),
+        end: happened.stepped.end,
     }
 }
 
-// Plays a line: the verb and the clock on an end, with the messages that were put out so far, of which there are `count`, 64 at
-// most. The next message goes into the next place. Where it explains, the reason follows "ignored".
-pub fn play(
-    explains: bool,
-    e: End,
-    verb: Verb,
-    clock: u64,
-    places: &mut [u8; 8192],
-    lengths: &mut [u8; 64],
-    count: usize,
-) -> Played
-    ensures { Plays explains e verb clock (messages_in places.old lengths.old count) result (messages_in places.new lengths.new result.count) }
+// Plays a line: the verb and the clock on an end, with the messages that were put out so far, 64 at most. The next message goes into the
+// next place. Where it explains, the reason follows "ignored".
+pub fn play(explains: bool, e: End, verb: Verb, clock: u64, store: &mut Store) -> Played
+    ensures { Plays explains e verb clock (kept store.old) result (kept store.new) }
 {
-    let used = store::least(count, MOST);
-    if is_known(verb, used) {
-        play_known(explains, e, verb, clock, places, lengths, used)
+    store.count = store.used();
+    if is_known(verb, store.count) {
+        play_known(explains, e, verb, clock, store)
     } else {
         Played {
-            printed: Printed::Bad,
+            printed: None,
             end: e,
-            count: used,
         }
     }
 }
@@ -317,17 +213,22 @@ fn put_bad(out: &mut [u8], at: usize) -> usize
     requires { at + 4 ≤ length out.old }
     ensures { Put 4 at bad_line out.old out.new result }
 {
-    numbers::put_bytes(out, at, b"bad\n");
-    at + 4
+    answers::text(out, at, b"bad\n")
 }
 
 // Writes what is printed for a line from a place on, and answers where it ends. A helper of the interpreter, which has seen to the room.
-pub fn put_printed(out: &mut [u8], at: usize, end: Host, clock: u64, printed: Printed) -> usize
+pub fn put_printed(
+    out: &mut [u8],
+    at: usize,
+    end: Host,
+    clock: u64,
+    printed: Option<Shown>,
+) -> usize
     requires { at + widest ≤ length out.old }
     ensures { Put widest at (printed_line end clock printed) out.old out.new result }
 {
     match printed {
-        Printed::Bad => put_bad(out, at),
-        Printed::Shows(a) => answers::put_line(out, at, end, clock, a),
+        None => put_bad(out, at),
+        Some(a) => answers::put_line(out, at, end, clock, a),
     }
 }

@@ -17,24 +17,12 @@ fn shown(a: Answer, message: u64, focus: i16) -> Shown {
     match a {
         Answer::Refused(question) => Shown::Refused(question),
         Answer::Out(_) => Shown::Out(message),
-        Answer::Got(name) => {
-            let source = name.source;
-            let number = name.number;
-            Shown::Got(source, number, focus)
-        }
+        Answer::Got(name) => Shown::Got(name, focus),
         Answer::Done => Shown::Done,
         Answer::Ignored => Shown::Ignored,
         Answer::Nothing => Shown::Nothing,
-        Answer::Clash(name) => {
-            let source = name.source;
-            let number = name.number;
-            Shown::Clash(source, number)
-        }
-        Answer::Late(name) => {
-            let source = name.source;
-            let number = name.number;
-            Shown::Late(source, number, focus)
-        }
+        Answer::Clash(name) => Shown::Clash(name),
+        Answer::Late(name) => Shown::Late(name, focus),
         Answer::Exhausted => Shown::Exhausted,
     }
 }

@@ -30,7 +30,7 @@ fn event_for(word: u64) -> Event {
 
 // Makes the call of an event, with 64 draws of 0; the first `len` bytes are those of the message that is heard.
 fn call(e: End, said: Said, bytes: &[u8], len: usize, out: &mut [u8]) -> Stepped {
-    let size = store::least(len, bytes.len());
+    let size = len.min(bytes.len());
     let none: [Draw; 64] = [0; 64];
     let what = event_for(said.word);
     let cue = message::cue_with(said.focus, 0, 0, 0, 0);

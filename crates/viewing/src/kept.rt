@@ -12,9 +12,9 @@ fn keep_at(places: &mut [u8], lengths: &mut [u8], k: usize, out: &[u8], len: usi
     requires lengths_len { length lengths.old ≡ 64 }
     requires k_bound { k < 64 }
 {
-    let most = store::least(len, store::ROOM);
-    let size = store::least(most, out.len());
-    store::keep(places, lengths, k, &out[0..size]);
+    let size = len.min(store::ROOM).min(out.len());
+    numbers::put_bytes(places, k * store::ROOM, &out[0..size]);
+    lengths[k] = size as u8;
 }
 
 // Keeps the first `len` bytes of an output as the next message.
@@ -46,7 +46,7 @@ fn take(places: &[u8], lengths: &[u8], k: usize, bytes: &mut [u8]) -> usize
     requires k_bound { k < 64 }
     requires bytes_len { length bytes.old ≡ 256 }
 {
-    let size = store::size(lengths, k);
+    let size = (lengths[k] as usize).min(store::ROOM);
     let at = k * store::ROOM;
     numbers::put_bytes(bytes, 0, &places[at..at + size]);
     size

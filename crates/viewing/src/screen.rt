@@ -79,8 +79,8 @@ fn call(
     out: &mut [u8],
     room: usize,
 ) -> Shown {
-    let size = store::least(len, bytes.len());
-    let most = store::least(room, out.len());
+    let size = len.min(bytes.len());
+    let most = room.min(out.len());
     if word == words::HEAR {
         display::hear(d, clock, &bytes[0..size], &mut out[0..most])
     } else {

@@ -1,7 +1,5 @@
-use Rattle.store.specs.Store.{first_messages}
 use Rattle.interpreter.proofs.opened_as.Goals as goal
 
 -- `interpreter::opened_as` meets its contract: both ends are fresh, and there is no message.
 pub returns : goal.returns
-unfolding first_messages
-returns c = rw (c.fresh-zero.ensures, c.fresh-one.ensures)
+returns c = rw (c.fresh-zero.ensures, c.fresh-one.ensures, c.new.ensures)

@@ -5,4 +5,4 @@ use Rattle.player.proofs.event.Goals as goal
 pub returns : goal.returns
 returns c =
     let a = c.args in
-    let same = acts a.verb a.bytes.now c.event_of-what.ensures c.cue_of-cue.ensures in record { value = rw same at c.event.ensures.value; out_after = rw same at c.event.ensures.out_after }
+    let same = acts a.verb a.bytes.now c.event_of.ensures c.cue_of.ensures in record { value = rw same at c.event.ensures.value; out_after = rw same at c.event.ensures.out_after }

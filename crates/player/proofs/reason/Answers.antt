@@ -5,4 +5,4 @@ use Rattle.player.proofs.reason.Goals as goal
 pub returns : goal.returns
 returns c =
     let a = c.args in
-    rw (acts a.verb a.bytes.now c.event_of-what.ensures c.cue_of-cue.ensures) at c.reason.ensures.value
+    rw (acts a.verb a.bytes.now c.event_of.ensures c.cue_of.ensures) at c.reason.ensures.value

@@ -9,13 +9,14 @@ ghost use Rattle.decimal.specs.Decimal.{decimal as decimalOf};
 ghost use Rattle.record.specs.Line.{malformed, line_of};
 ghost use Rattle.ledger.specs.Judgement.{most_lines, judgement_of};
 ghost use Rattle.judgement.specs.Record.{printed};
-ghost use Rattle.judgement.specs.Pieces.{start, line_places, added, after, closed, end_prints, lines_in, standing};
-ghost use Rattle.judgement.specs.Promise.{cut_to, Takes, Puts};
+ghost use Rattle.judgement.specs.Pieces.{start, line_places, added, after_byte, after, closed, end_prints, lines_in, standing};
+ghost use Rattle.judgement.specs.Promise.{Puts};
 
 use ledger::Judgement;
 use record::{Line, Said};
 
 // The lines so far: the first `count` of the places.
+// Kept: (a) an array with a count beside it, since the judge's memory is fixed: a record is judged the same on any machine.
 #[derive(Clone, Copy)]
 pub struct Noted {
     pub lines: [Line; 1025],
@@ -30,24 +31,10 @@ pub struct Kept {
     pub len: usize,
 }
 
-// How many bytes a line has after those of a piece, whether it is whole, and where the bytes after it start.
-#[derive(Clone, Copy)]
-struct Cut {
-    len: usize,
-    whole: bool,
-    at: usize,
-}
-
 // A record of more lines is refused; there is a place for one line more, which tells that.
 const MOST_LINES: usize = 1024;
 
 const LINE_PLACES: usize = 1025;
-
-fn least(a: usize, b: usize) -> usize
-    ensures { result ≡ min a b }
-{
-    if a < b { a } else { b }
-}
 
 fn no_line() -> Line
     ensures { result ≡ malformed }
@@ -55,6 +42,24 @@ fn no_line() -> Line
     Line {
         said: Said::Malformed,
         cue: [0; 24],
+    }
+}
+
+impl Noted {
+    fn all(&self) -> &[Line]
+        ensures { result.now ≡ lines_in self.now }
+    {
+        &self.lines[..self.count.min(LINE_PLACES)]
+    }
+
+    // One line more, where there is a place.
+    fn add(&mut self, l: Line)
+        ensures { lines_in self.new ≡ added line_places (lines_in self.old) l }
+    {
+        if self.count < LINE_PLACES {
+            self.lines[self.count] = l;
+            self.count += 1;
+        }
     }
 }
 
@@ -71,82 +76,35 @@ fn longer(line: &mut [u8], len: usize, b: u8) -> usize
     len
 }
 
-// Takes the bytes of a piece, from a place on, into a line, up to the line's end.
-fn take_line(piece: &[u8], from: usize, line: &mut [u8; 63], len: usize) -> Cut
-    requires { from < length piece.now }
-    ensures { Takes piece.now from (take len line.old) result line.new }
-{
-    let mut at = from;
-    let mut n = len;
-    while at < piece.len() {
-        let b = piece[at];
-        at += 1;
-        if b == b'\n' {
-            return Cut {
-                len: n,
-                whole: true,
-                at,
-            };
-        }
-        n = longer(line, n, b);
-    }
-    Cut {
-        len: n,
-        whole: false,
-        at,
-    }
-}
-
 // What the first bytes of a line's buffer mean.
 fn meaning(line: &[u8], len: usize) -> Line
     ensures { result ≡ line_of (take len line.now) }
 {
-    let n = least(len, line.len());
-    record::read_line(&line[..n])
+    record::read_line(&line[..len.min(line.len())])
 }
 
-// One line more, where there is a place.
-fn noted_with(n: Noted, l: Line) -> Noted
-    ensures { lines_in result ≡ added line_places (lines_in n) l }
+// One byte more of the record.
+fn take_byte(kept: &mut Kept, b: u8)
+    ensures { standing kept.new ≡ after_byte (standing kept.old) b }
 {
-    let mut lines = n.lines;
-    let count = n.count;
-    if count < LINE_PLACES {
-        lines[count] = l;
-        return Noted {
-            lines,
-            count: count + 1,
-        };
+    if b == b'\n' {
+        let line = meaning(&kept.line, kept.len);
+        kept.noted.add(line);
+        kept.len = 0;
+    } else {
+        kept.len = longer(&mut kept.line, kept.len, b);
     }
-    n
-}
-
-// The lines, with one more where it is whole.
-fn turned(n: Noted, whole: bool, line: &[u8; 63], len: usize) -> Noted
-    ensures { lines_in result ≡ (cut_to whole (lines_in n) (take len line.now)).lines }
-{
-    if whole {
-        return noted_with(n, meaning(line, len));
-    }
-    n
-}
-
-// How many bytes the next line has so far.
-fn left(whole: bool, len: usize) -> usize
-    ensures { result ≡ cond whole 0 len }
-{
-    if whole { 0 } else { len }
 }
 
 // A record before its first byte.
 pub fn opened() -> Kept
     ensures { standing result ≡ start }
 {
-    let blank = no_line();
-    let lines = [blank; 1025];
-    let noted = Noted { lines, count: 0 };
     Kept {
-        noted,
+        noted: Noted {
+            lines: [no_line(); 1025],
+            count: 0,
+        },
         line: [0; 63],
         len: 0,
     }
@@ -156,31 +114,18 @@ pub fn opened() -> Kept
 pub fn feed(kept: Kept, piece: &[u8]) -> Kept
     ensures { standing result ≡ after (standing kept) piece.now }
 {
-    let mut noted = kept.noted;
-    let mut line = kept.line;
-    let mut len = kept.len;
-    let mut at: usize = 0;
-    while at < piece.len() {
-        let cut = take_line(piece, at, &mut line, len);
-        noted = turned(noted, cut.whole, &line, cut.len);
-        len = left(cut.whole, cut.len);
-        at = cut.at;
+    let mut kept = kept;
+    for b in piece {
+        take_byte(&mut kept, *b);
     }
-    Kept { noted, line, len }
-}
-
-fn more_than_most(n: Noted) -> bool
-    ensures { result ≡ ltb most_lines (length (lines_in n)) }
-{
-    MOST_LINES < n.count
+    kept
 }
 
 // Whether there are too many lines already: what comes after does not count then.
 pub fn too_many(kept: Kept) -> bool
     ensures { result ≡ ltb most_lines (length (standing kept).lines) }
 {
-    let noted = kept.noted;
-    more_than_most(noted)
+    MOST_LINES < kept.noted.count
 }
 
 // ---- the judgement
@@ -189,19 +134,18 @@ pub fn too_many(kept: Kept) -> bool
 fn closed_lines(kept: Kept) -> Noted
     ensures { lines_in result ≡ closed (standing kept).lines (standing kept).line }
 {
-    let noted = kept.noted;
+    let mut noted = kept.noted;
     if kept.len == 0 {
         return noted;
     }
-    noted_with(noted, no_line())
+    noted.add(no_line());
+    noted
 }
 
 fn judged(kept: Kept) -> Judgement
     ensures { result ≡ judgement_of (closed (standing kept).lines (standing kept).line) }
 {
-    let noted = closed_lines(kept);
-    let lines = noted.lines;
-    ledger::judge(lines, noted.count)
+    ledger::judge(closed_lines(kept).all())
 }
 
 // Each function below writes from `at` on, where there is room, and answers where that ends.

@@ -1,21 +1,22 @@
 -- The lines one by one: the book after them, the first that is not permitted, and a malformed one.
 use mathlib.Core.Path.{◌≡◌, refl, sym, ap, ◌∙◌}
-use mathlib.Core.Bool.{Bool, true, false, cond, ◌||◌, or-false, or_assoc}
+use mathlib.Core.Bool.{Bool, true, false, cond, or-true}
 use mathlib.Core.List.{List, [], ◌∷◌, ◌++◌}
-use Prim.Native.Nat.{ℕ, ◌+◌, ◌≤◌, ◌<◌, min}
-use native.Mathlib.Nat.{min-eq_left}
+use Prim.Native.Nat.{ℕ, zero, suc, ◌+◌, ◌≤◌, ◌<◌}
 use native.Mathlib.Numerals.{add-one}
 use native.Mathlib.Omega.{arith}
 use lib.ListN.{length, take, drop, get_or, drop_of_length-le}
-use lib.Seq.{take-suc, take_all, drop-cons, get_or-take, length-take-le}
-use borrow.Author.Tests.{lt-ltb, le-ltb}
-use Rattle.numbers.proofs.Cases.{by_order}
+use lib.Seq.{take-suc, take_all, drop-cons}
 use Rattle.end.specs.Book.{Book, empty_book}
 use Rattle.record.specs.declared.Line.{Line}
 use Rattle.ledger.specs.declared.Asked.{Asked}
 use Rattle.ledger.specs.declared.View.{View}
-use Rattle.ledger.specs.declared.Judgement.TheVariants.{Allowed, BrokenAt, Refused}
-use Rattle.ledger.specs.Judgement.{permits, written, written_all, judged_from, is_malformed, any_malformed, most_lines, judgement_of}
+use Rattle.std.specs.Prelude.{Option, Some, None, MatchOption}
+use Rattle.std.specs.Bool.{MatchBool}
+use Rattle.std.specs.List.{HoldsAt, AllWithin}
+use Rattle.ledger.specs.declared.Judgement.{Judgement}
+use Rattle.ledger.specs.declared.Judgement.TheVariants.{Allowed, BrokenAt}
+use Rattle.ledger.specs.Judgement.{permits, written, written_all, judged_from, is_malformed, any_malformed}
 use Rattle.ledger.specs.View.{no_line, view_of, view_after}
 use Rattle.ledger.proofs.ViewLaws.{view_written, filed-few}
 
@@ -50,98 +51,99 @@ line_viewed {lines} {a} {v} {w} {i} p h e =
       few = omega (arith, ap (λ (x : View). x.filed) e, filed-few a l.said l.cue v, p.few);
     }
 
+-- after all of them
+pub all_viewed : {lines : List Line} {a : Asked} {v : View} {i : ℕ} → Viewed lines a v i → length lines ≤ i → v ≡ view_of (written_all empty_book lines) a
+all_viewed {lines} {a} {v} {i} p h = p.is ∙ ap (λ (ls : List Line). view_of (written_all empty_book ls) a) (take_all i lines h)
+
 -- ---- the first line that is not permitted
 
 -- the first k lines are permitted
-pub record Permitted (lines : List Line) (count k : ℕ) : Type 0 where
-  pub within : k ≤ count
-  pub left : judged_from (written_all empty_book (take k lines)) (k + 1) (drop k (take count lines)) ≡ judged_from empty_book 1 (take count lines)
+record Permitted (lines : List Line) (k : ℕ) : Type 0 where
+  within : k ≤ length lines
+  left : judged_from (written_all empty_book (take k lines)) (k + 1) (drop k lines) ≡ judged_from empty_book 1 lines
 
-pub none_judged : (lines : List Line) (count : ℕ) → Permitted lines count 0
+none_judged : (lines : List Line) → Permitted lines 0
 unfolding written_all
-none_judged lines count = record { within = omega arith; left = refl }
+none_judged lines = record { within = omega arith; left = refl }
 
-module _ {lines : List Line} {count k : ℕ} (p : Permitted lines count k) (fits : count ≤ length lines) where
+module _ {lines : List Line} {k : ℕ} (p : Permitted lines k) where
   book : Book
   book = written_all empty_book (take k lines)
 
   line : Line
   line = get_or lines k no_line
 
-  next : k < count → drop k (take count lines) ≡ line ∷ drop (k + 1) (take count lines)
+  next : k < length lines → drop k lines ≡ line ∷ drop (k + 1) lines
   unfolding line
-  next h =
-      drop-cons (take count lines) k no_line (omega (arith, length-take-le count lines fits))
-      ∙ (λ i. get_or-take count lines k no_line h i ∷ drop (sym (add-one k) i) (take count lines))
+  next h = drop-cons lines k no_line h ∙ (λ i. get_or lines k no_line ∷ drop (sym (add-one k) i) lines)
 
-  stepped : k < count → judged_from empty_book 1 (take count lines)
-      ≡ cond (permits book line) (judged_from (written book line) (k + 1 + 1) (drop (k + 1) (take count lines))) (BrokenAt (k + 1))
+  stepped : k < length lines → judged_from empty_book 1 lines
+      ≡ cond (permits book line) (judged_from (written book line) (k + 1 + 1) (drop (k + 1) lines)) (BrokenAt (k + 1))
   unfolding book line judged_from
   stepped h = sym p.left ∙ ap (judged_from (written_all empty_book (take k lines)) (k + 1)) (next h)
 
-  pub line_permitted : k < count → permits (written_all empty_book (take k lines)) (get_or lines k no_line) ≡ true → Permitted lines count (k + 1)
+  line_permitted : k < length lines → permits (written_all empty_book (take k lines)) (get_or lines k no_line) ≡ true → Permitted lines (k + 1)
   unfolding book line
   line_permitted h t =
       record {
         within = omega arith;
         left =
             let next = written-more empty_book lines k (omega arith) in
-            sym (stepped h ∙ rw t (ap (λ (b : Book). judged_from b (k + 1 + 1) (drop (k + 1) (take count lines))) (sym next)));
+            sym (stepped h ∙ rw t (ap (λ (b : Book). judged_from b (k + 1 + 1) (drop (k + 1) lines)) (sym next)));
       }
 
-  pub line-broken : k < count → permits (written_all empty_book (take k lines)) (get_or lines k no_line) ≡ false
-      → BrokenAt (k + 1) ≡ judged_from empty_book 1 (take count lines)
+  line-broken : k < length lines → permits (written_all empty_book (take k lines)) (get_or lines k no_line) ≡ false
+      → BrokenAt (k + 1) ≡ judged_from empty_book 1 lines
   unfolding book line
   line-broken h f = sym (stepped h ∙ rw f)
 
-  pub all_permitted : count ≤ k → Allowed ≡ judged_from empty_book 1 (take count lines)
+  all_permitted : length lines ≤ k → Allowed ≡ judged_from empty_book 1 lines
   unfolding judged_from
-  all_permitted h =
-      let none = drop_of_length-le (take count lines) {i = k} (omega (arith, length-take-le count lines fits)) in
-      sym (ap (judged_from (written_all empty_book (take k lines)) (k + 1)) none) ∙ p.left
+  all_permitted h = sym (ap (judged_from (written_all empty_book (take k lines)) (k + 1)) (drop_of_length-le lines {i = k} h)) ∙ p.left
+
+-- whether the book permits line k after the lines before it
+abbrev pub permits_at : List Line → ℕ → Bool
+permits_at lines k = permits (written_all empty_book (take k lines)) (get_or lines k no_line)
+
+permitted_to : (lines : List Line) (k : ℕ) → k ≤ length lines → ((i : ℕ) → i < k → permits_at lines i ≡ true) → Permitted lines k
+permitted_to lines zero h each = none_judged lines
+permitted_to lines (suc k) h each =
+    let p = permitted_to lines k (omega arith) (λ i l. each i (omega arith)) in
+    rw add-one at (line_permitted p (omega arith) (each k (omega arith)))
+
+-- what a search for the first that is not permitted finds
+abbrev pub told_by : Option ℕ → Judgement
+told_by None = Allowed
+told_by (Some k) = BrokenAt (k + 1)
+
+abbrev pub First : List Line → Option ℕ → Type 0
+First lines found =
+    MatchOption found
+    ((k : ℕ) → 0 ≤ k → k < length lines → permits_at lines k ≡ true)
+    (λ i. (0 ≤ i) × (i < length lines) × (permits_at lines i ≡ false) × ((k : ℕ) → 0 ≤ k → k < i → permits_at lines k ≡ true))
+
+pub first_judged : (lines : List Line) (found : Option ℕ) → First lines found → told_by found ≡ judged_from empty_book 1 lines
+first_judged lines None h =
+    all_permitted (permitted_to lines (length lines) (omega arith) (λ i l. h i (omega arith) l)) (omega arith)
+first_judged lines (Some k) h = line-broken (permitted_to lines k (omega (arith, h.1)) (λ i l. h.3 i (omega arith) l)) h.1 h.2
 
 -- ---- a malformed line
-
-malformed-last : (ls : List Line) (l : Line) → any_malformed (ls ++ (l ∷ [])) ≡ (any_malformed ls || is_malformed l.said)
+one_malformed : (ls : List Line) (k : ℕ) → k < length ls → is_malformed (get_or ls k no_line).said ≡ true → any_malformed ls ≡ true
 unfolding any_malformed
-malformed-last [] l = or-false (is_malformed l.said)
-malformed-last (x ∷ ls) l =
-    ap (λ (t : Bool). is_malformed x.said || t) (malformed-last ls l) ∙ sym (or_assoc (is_malformed x.said) (any_malformed ls) (is_malformed l.said))
+one_malformed [] k h t = absurd (omega arith)
+one_malformed (l ∷ ls) zero h t = rw t
+one_malformed (l ∷ ls) (suc k) h t = rw (one_malformed ls k (omega arith) t) (or-true (is_malformed l.said))
 
-pub malformed-none : (lines : List Line) → false ≡ any_malformed (take 0 lines)
+no_malformed : (ls : List Line) → ((k : ℕ) → k < length ls → is_malformed (get_or ls k no_line).said ≡ false) → any_malformed ls ≡ false
 unfolding any_malformed
-malformed-none lines = refl
+no_malformed [] h = refl
+no_malformed (l ∷ ls) h = rw (h 0 (omega arith), no_malformed ls (λ k b. h (suc k) (omega arith)))
 
-pub malformed-more : (lines : List Line) (i : ℕ) {any this : Bool} → i < length lines → any ≡ any_malformed (take i lines)
-    → this ≡ is_malformed (get_or lines i no_line).said → (any || this) ≡ any_malformed (take (i + 1) lines)
-malformed-more lines i h p q =
-    (λ k. p k || q k) ∙ sym (malformed-last (take i lines) (get_or lines i no_line))
-    ∙ sym (ap any_malformed (ap (λ (k : ℕ). take k lines) (add-one i) ∙ take-suc lines i no_line h))
-
--- ---- the judgement: of the first n lines, which are all that are counted
-first-lines : (count : ℕ) (lines : List Line) → take (min count (length lines)) lines ≡ take count lines
-first-lines count lines =
-    by_order (length lines) count
-    (λ l.
-    let e : min count (length lines) ≡ length lines = omega arith in
-    ap (λ (k : ℕ). take k lines) e ∙ take_all (length lines) lines (omega arith) ∙ sym (take_all count lines (omega arith)))
-    (λ g. ap (λ (k : ℕ). take k lines) (min-eq_left g))
-
-module _ (lines : List Line) (count : ℕ) {n : ℕ} (least : n ≡ min count (length lines)) where
-  first : take n lines ≡ take count lines
-  first = ap (λ (k : ℕ). take k lines) least ∙ first-lines count lines
-
-  counted : length (take count lines) ≡ n
-  counted = sym (ap length first) ∙ length-take-le n lines (omega arith)
-
-  pub too_many : most_lines < n → Refused 16 ≡ judgement_of (take count lines)
-  unfolding judgement_of
-  too_many h = sym (rw (counted, lt-ltb most_lines n h))
-
-  pub one-malformed : n ≤ most_lines → any_malformed (take n lines) ≡ true → Refused 17 ≡ judgement_of (take count lines)
-  unfolding judgement_of
-  one-malformed h t = sym (rw (counted, le-ltb most_lines n h, sym (ap any_malformed first) ∙ t))
-
-  pub none-malformed : n ≤ most_lines → any_malformed (take n lines) ≡ false → judged_from empty_book 1 (take n lines) ≡ judgement_of (take count lines)
-  unfolding judgement_of
-  none-malformed h f = ap (judged_from empty_book 1) first ∙ sym (rw (counted, le-ltb most_lines n h, sym (ap any_malformed first) ∙ f))
+-- what a search for one finds
+pub malformed_told : (ls : List Line) (found : Bool)
+    → MatchBool found
+    ((k : ℕ) × (k < length ls) × HoldsAt (λ l. is_malformed l.said ≡ true) ls k)
+    (AllWithin (λ l. is_malformed l.said ≡ false) ls 0 (length ls))
+    → found ≡ any_malformed ls
+malformed_told ls true h = sym (one_malformed ls h.0 h.1 (h.2 no_line))
+malformed_told ls false h = sym (no_malformed ls (λ k b. h k no_line (omega arith) b))

@@ -18,6 +18,7 @@ use Rattle.message.specs.Entry.{cue_width}
 use Rattle.message.specs.Section.{all, rises, flat, section}
 use Rattle.message.specs.Message.{DATA, Meaning, Saying, bytes_of, bytes_with, held_as}
 use Rattle.message.specs.Question.{refusal_of, in_range, window_fits, hosts_fit, write_refusal, written_of, output_of}
+use Rattle.message.specs.declared.Message.{Message}
 use Rattle.message.specs.declared.Written.{Written}
 use Rattle.message.proofs.QuestionLaws.{and_both}
 use Rattle.panel.specs.Answers.{is_whole, cue_test_of, own_data, data_refusal, data_answer, data_output}
@@ -134,6 +135,13 @@ module _ (sender number stamp : ℕ) (cue out : List ℕ) where
     pub written : w ≡ written_of (Saying (held_as said)) out
     pub refusal : refusal_of w.verdict ≡ write_refusal (Saying (held_as said)) out
     pub output : last ≡ output_of (Saying (held_as said)) out
+
+  -- for a message that holds the cue's own bytes
+  pub wrote_by : {bytes last : List ℕ} {m : Message} {w : Written} → length cue ≡ cue_width → bytes ≡ cue → m ≡ held_as (own_data sender number stamp bytes)
+      → w ≡ written_of (Saying m) out → refusal_of w.verdict ≡ write_refusal (Saying m) out → last ≡ output_of (Saying m) out → Wrote w last
+  wrote_by h b e p q r =
+      let is = rw b at e in
+      record { whole = h; written = rw is at p; refusal = rw is at q; output = rw is at r }
 
   -- is what is promised here
   module _ {w : Written} {last : List ℕ} (g : Wrote w last) where

@@ -6,24 +6,12 @@
 ghost use Rattle.std.specs.Prelude.{◌≡◌, length};
 ghost use Rattle.message.specs.Entry.{cue_width};
 ghost use Rattle.message.specs.Message.{held_as};
-ghost use Rattle.message.specs.Question.{refusal_of};
 ghost use Rattle.panel.specs.Answers.{verdict_of, cue_test_of, own_data, data_answer, data_output};
 
 use message::{
     CUE_WIDTH, Counts, CueNumber, DATA, HOST_LIMIT, Host, Message, NUMBER_LIMIT, Name, NameEntry,
-    ROOM_NEEDED, Verdict,
+    ROOM_NEEDED,
 };
-
-// Document 01's number of a verdict, 0 where nothing was refused.
-fn number_of(verdict: Verdict) -> u32
-    ensures { result ≡ refusal_of verdict }
-{
-    match verdict {
-        Verdict::Refused(number) => number as u32,
-        Verdict::Accepted => 0,
-        Verdict::Probe => 0,
-    }
-}
 
 // The 24 bytes of a whole cue.
 fn cue_bytes(cue: &[u8]) -> [u8; 24]
@@ -39,17 +27,13 @@ fn cue_bytes(cue: &[u8]) -> [u8; 24]
 fn own_data(sender: Host, number: CueNumber, stamp: u64, cue: [u8; 24]) -> Message
     ensures { result ≡ held_as (own_data sender.0 number.0 stamp cue) }
 {
-    let blank = message::blank();
-    let mut names = blank.names;
-    names[0] = NameEntry {
+    let own = NameEntry {
         name: Name {
             source: sender,
             number,
         },
         host: sender,
     };
-    let reports = blank.reports;
-    let echoes = blank.echoes;
     Message {
         kind: DATA,
         sender,
@@ -57,13 +41,11 @@ fn own_data(sender: Host, number: CueNumber, stamp: u64, cue: [u8; 24]) -> Messa
         counts: Counts {
             names: 1,
             cues: 1,
-            reports: 0,
-            echoes: 0,
+            ..Counts::default()
         },
-        names,
+        names: [own, NameEntry::default()],
         cue,
-        reports,
-        echoes,
+        ..message::blank()
     }
 }
 
@@ -73,24 +55,19 @@ fn write_data(sender: Host, number: CueNumber, stamp: u64, cue: &[u8], out: &mut
     ensures value { result ≡ data_answer sender.0 number.0 stamp cue.now out.old }
     ensures out_after { out.new ≡ data_output sender.0 number.0 stamp cue.now out.old }
 {
-    let bytes = cue_bytes(cue);
-    let message = own_data(sender, number, stamp, bytes);
+    let message = own_data(sender, number, stamp, cue_bytes(cue));
     let written = writer::write(message, out);
-    let verdict = written.verdict;
-    let refusal = number_of(verdict);
-    if refusal != 0 {
-        return refusal;
+    match message::number_of(written.verdict) {
+        0 => written.len as u32,
+        refusal => refusal as u32,
     }
-    written.len as u32
 }
 
 // The reader's verdict on a datagram: 0 where it is accepted or is a probe, else 8 to 11.
 pub fn panel_verdict(bytes: &[u8]) -> u32
     ensures { result ≡ verdict_of bytes.now }
 {
-    let reading = reader::read(bytes);
-    let verdict = reading.verdict;
-    number_of(verdict)
+    message::number_of(reader::read(bytes).verdict) as u32
 }
 
 // The cue test: 0 where the cue is in range, else 6.

@@ -7,4 +7,4 @@ use Rattle.panel.proofs.panel_verdict.Goals as goal
 -- `panel::panel_verdict` meets its contract: the number of the reader's verdict.
 pub returns : goal.returns
 unfolding verdict_of
-returns c = c.number_of.ensures ∙ ap (λ (r : Reading). refusal_of r.verdict) c.read-reading.ensures.value
+returns c = c.number_of.ensures ∙ ap (λ (r : Reading). refusal_of r.verdict) c.read.ensures.value

@@ -7,29 +7,33 @@ ghost use Rattle.message.specs.Message.{meaning_of};
 ghost use Rattle.end.specs.Answer.{Did, done, called_of, buffer_of};
 ghost use Rattle.acting.specs.Acting.{acted, Acting};
 
-use end::{Draw, End, Event, Stepped};
+use end::{Answer, Draw, End, Event};
 use message::Message;
 
 // What an event does on an end that takes it: its clock is set, and every question was answered yes.
 pub fn act(
-    end: End,
+    e: &mut End,
     draws: &[Draw],
     what: Event,
     cue: [u8; 24],
     message: Message,
     out: &mut [u8],
-) -> Stepped
-    requires { Acting what end message (length draws.now) (length out.old) }
-    ensures value { result ≡ called_of (done (acted draws.now what cue (meaning_of message) end)) }
-    ensures out_after { out.new ≡ buffer_of (Did (acted draws.now what cue (meaning_of message) end).effect) out.old }
+) -> Answer
+    requires { Acting what e.old message (length draws.now) (length out.old) }
+    ensures value { called_of (done (acted draws.now what cue (meaning_of message) e.old)) ≡ record { answer = result; end = e.new } }
+    ensures out_after { out.new ≡ buffer_of (Did (acted draws.now what cue (meaning_of message) e.old).effect) out.old }
 {
     match what {
-        Event::Moves(m) => membership::moved(end, m),
-        Event::Send => sending::send(end, draws, cue, out),
-        Event::Arrival => receive::arrival(end, draws, message, out),
-        Event::Fire => transmit::fire(end, draws, out),
-        Event::Report => transmit::report(end, out),
-        Event::Fetch(name) => fetch::fetch(end, name, out),
-        Event::Announce => transmit::announce(end, out),
+        Event::Moves(m) => {
+            let stepped = membership::moved(*e, m);
+            *e = stepped.end;
+            stepped.answer
+        }
+        Event::Send => sending::send(e, draws, cue, out),
+        Event::Arrival => receive::arrival(e, draws, message, out),
+        Event::Fire => transmit::fire(e, draws, out),
+        Event::Report => transmit::report(e, out),
+        Event::Fetch(name) => fetch::fetch(e, name, out),
+        Event::Announce => transmit::announce(e, out),
     }
 }

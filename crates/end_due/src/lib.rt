@@ -2,14 +2,13 @@
 // through once, as Fire goes through them.
 #![tactic(auto)]
 
-ghost use Rattle.std.specs.Prelude.{◌≡◌, ◌+◌, ◌≤◌};
-ghost use Rattle.message.specs.Limit.{number_limit};
-ghost use Rattle.end.specs.Records.{start, width};
+ghost use Rattle.std.specs.Prelude.{◌≡◌};
+ghost use Rattle.end.specs.Records.{width};
 ghost use Rattle.end.specs.Ready.{SpanIn};
 ghost use Rattle.state.specs.Settled.{Settled};
 ghost use Rattle.end_due.specs.Due.{slot_due, names_due, next_due};
 
-use end::{End, Slot, Source, Span};
+use end::{End, Slot, Source};
 
 fn slot_due(slot: Slot, m: u64) -> u64
     ensures { result ≡ slot_due slot m }
@@ -22,25 +21,13 @@ fn slot_due(slot: Slot, m: u64) -> u64
     }
 }
 
-// How many the numbers first..last are.
-fn width_of(span: Span) -> u64
-    requires { SpanIn span }
-    ensures value { result ≡ width span }
-    ensures result_bound { start span + result ≤ number_limit }
-{
-    match span {
-        None => 0,
-        Some((first, last)) => last.0 as u64 + 1 - first.0 as u64,
-    }
-}
-
 fn names_due(s: &Source, m: u64) -> u64
     requires { SpanIn s.now.span }
     ensures { result ≡ names_due s.now m (width s.now.span) }
 {
     let from = state::start_of(s.span);
     let mut out = m;
-    for i in 0..width_of(s.span) {
+    for i in 0..state::width_of(s.span) {
         let at = state::place(from + i);
         out = slot_due(s.names[at].slot, out);
     }

@@ -3,37 +3,46 @@
 // `requires` for the reading that goes with the event.
 #![tactic(auto)]
 
-ghost use Rattle.std.specs.Prelude.{◌≡◌, cond, ℕ, List};
-ghost use Rattle.end.specs.Answer.{answer_of};
+ghost use Rattle.std.specs.Prelude.{◌≡◌, ℕ, List};
 ghost use Rattle.end.specs.Event.{action_of};
 ghost use Rattle.taking.specs.Taking.{reading_for};
 ghost use Rattle.frame.specs.Promise.{Promised};
-ghost use Rattle.frame.specs.Frame.{Brought, untaken_for};
+ghost use Rattle.frame.specs.Frame.{Brought};
 
 use end::{Answer, Draw, End, Event, Stepped};
 use message::Reading;
 
-// The clock after a call: an unrefused event sets it, but on a crashed end.
-fn clock_after(sets: bool, clock: u64, was: u64) -> u64
-    ensures { result ≡ cond sets clock was }
+// What the event answers, and does to the end, in its place. A refusal changes nothing; an unrefused event sets the clock, but on a crashed end.
+fn answer(
+    e: &mut End,
+    clock: u64,
+    draws: &[Draw],
+    what: Event,
+    cue: [u8; 24],
+    reading: Reading,
+    out: &mut [u8],
+) -> Answer
+    requires { Brought what reading }
+    ensures { (bytes : List ℕ) → reading ≡ reading_for what bytes → Promised e.old (action_of what cue bytes) clock draws.now out.old (record { answer = result; end = e.new }) out.new }
 {
-    if sets { clock } else { was }
-}
-
-// The answer of a call with the first no q that is not taken.
-fn untaken(q: u8) -> Answer
-    ensures { result ≡ answer_of (untaken_for q) }
-{
-    if q == 0 {
-        Answer::Ignored
+    let verdict = reading.verdict;
+    let number = questions::refusal(*e, clock, out.len(), draws.len(), what, cue, verdict);
+    if number != 0 {
+        return Answer::Refused(number);
+    }
+    if state::is_crashed(e.status) {
+        return Answer::Ignored;
+    }
+    e.clock = clock;
+    let taken = taking::taken_as(what, taking::is_probe(verdict));
+    if taking::takes(taken, e.status) {
+        acting::act(e, draws, taken, cue, reading.message, out)
     } else {
-        Answer::Refused(q)
+        Answer::Ignored
     }
 }
 
-// The frame of an event, once its bytes are read. The reading is not made here: its many small writes would keep the compiler from seeing
-// that nothing has changed the state since the call, and it would copy the state once more. The two ends of the last test each give a
-// state of their own for the same reason.
+// The frame of an event, once its bytes are read.
 pub fn frame(
     e: End,
     clock: u64,
@@ -46,19 +55,7 @@ pub fn frame(
     requires { Brought what reading }
     ensures { (bytes : List ℕ) → reading ≡ reading_for what bytes → Promised e (action_of what cue bytes) clock draws.now out.old result out.new }
 {
-    let verdict = reading.verdict;
-    let message = reading.message;
-    let q = questions::refusal(e, clock, out.len(), draws.len(), what, cue, verdict);
-    let status = e.status;
-    let probe = taking::is_probe(verdict);
-    let taken = taking::taken_as(what, probe);
-    let taking = taking::takes(taken, status);
-    let sets = (q == 0) & !state::is_crashed(status);
-    let end = state::with_clock(e, clock_after(sets, clock, e.clock));
-    let answer = untaken(q);
-    if sets & taking {
-        acting::act(end, draws, taken, cue, message, out)
-    } else {
-        Stepped { answer, end }
-    }
+    let mut end = e;
+    let answer = answer(&mut end, clock, draws, what, cue, reading, out);
+    Stepped { answer, end }
 }

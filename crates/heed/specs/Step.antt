@@ -1,12 +1,11 @@
 -- A message about a name as a step on the name's source: what it asks for, and what it gives.
-use Rattle.std.specs.Prelude.{ℕ, List}
+use Rattle.std.specs.Prelude.{ℕ}
 use Rattle.end.specs.declared.Source.{Source}
 use Rattle.end.specs.declared.Moment.{Moment}
 use Rattle.end.specs.declared.Word.{Word}
-use Rattle.end.specs.Answer.{Effect, Did, answer_of}
+use Rattle.end.specs.Answer.{Effect}
 use Rattle.end.specs.Ready.{Ranges, Numbered}
-use Rattle.end.specs.Decide.{number, known, decide, apply, effect_of}
-use Rattle.state.specs.declared.Change.{Change}
+use Rattle.end.specs.Decide.{number, known, decide, effect_of}
 use Rattle.state.specs.Counted.{Counted}
 
 -- the distances to the source and to the requester in range, the source counted, and the number and the draws that the questions let
@@ -20,6 +19,3 @@ pub record Heeded (t : Moment) (w : Word) (s : Source) (draws : ℕ) : Type 0 wh
 -- what is decided is done, and answered
 abbrev pub decided_effect : Moment → Word → Source → Effect
 decided_effect t w s = effect_of t w (known w s) (decide t w s)
-
-abbrev pub stepped : Moment → List ℕ → Word → Source → Change
-stepped t us w s = record { answer = answer_of (Did (decided_effect t w s)); source = apply t us w (decide t w s) s }

@@ -1,32 +1,27 @@
--- What holds where an arrival's loop over the reports starts, and what its steps then give.
+-- What holds where an arrival's reports have stepped their sources, and what its last step then gives.
 use mathlib.Core.Path.{◌≡◌, sym, ap, ◌∙◌}
 use Prim.Native.Nat.{ℕ, ◌≤◌, ◌<◌}
 use native.Mathlib.Omega.{arith}
 use mathlib.Core.Bool.{true, cond, ◌||◌}
 use mathlib.Core.List.{List}
-use lib.ListN.{length, take, get_or}
+use lib.ListN.{take}
 use Rattle.message.specs.declared.Host.{Host}
-use Rattle.message.specs.declared.Report.{Report}
 use Rattle.message.specs.declared.Message.{Message}
-use Rattle.message.specs.Limit.{number_limit}
 use Rattle.message.specs.Section.{all}
-use Rattle.message.specs.Entry.{blank_report}
 use Rattle.message.specs.Message.{meaning_of}
 use Rattle.message.specs.Question.{report_in, same_host}
 use Rattle.message.proofs.QuestionLaws.{counts-small}
 use Rattle.end.specs.declared.Moment.{Moment}
+use Rattle.end.specs.declared.Answer.{Answer}
+use Rattle.end.specs.declared.Source.{Source}
 use Rattle.end.specs.declared.End.{End}
-use Rattle.end.specs.State.{source_at, distance_to, moment_of, on_source}
+use Rattle.end.specs.State.{source_at, distance_to, moment_of, with_source, on_source}
 use Rattle.end.specs.Answer.{Did, Step, give, answer_of, done, called_of, buffer_of}
-use Rattle.end.specs.Ready.{Ranges}
 use Rattle.end.specs.Session.{all_reported}
 use Rattle.end.specs.Arrival.{arrival_of}
 use Rattle.end.proofs.Ready.{ranges}
-use Rattle.state.specs.declared.Change.{Change}
-use Rattle.state.specs.Change.{changed}
 use Rattle.says.specs.Said.{is_about, asker_in, subject_of}
-use Rattle.session.proofs.Lists.{used_at}
-use Rattle.session.proofs.Passes.{report_in_lem, in_range_lem}
+use Rattle.session.proofs.Passes.{in_range_lem}
 use Rattle.receive.specs.Hearing.{AllCounted, Hearing, HearingOn}
 use Rattle.receive.specs.Steps.{reports_for, effect_on, left_on}
 use Rattle.receive.proofs.Lists.{none-taken, none-most, none-all}
@@ -59,37 +54,29 @@ known e m draws room t asker d count h p q r k =
       heard = rw same (none-taken none m.counts.reports m.reports);
     }
 
-module _ (e : End) (m : Message) (draws room : ℕ) (t : Moment) (d count : ℕ) (k : Known e m draws room t d count) where
-  -- the report of a turn is in range
-  pub turn_in : (i : ℕ) (r : Report) → i < count → (r ≡ get_or m.reports i blank_report) × (length m.reports ≡ 8)
-      → (r.source.0 < 8) × (r.last.0 < number_limit)
-  turn_in i r h p =
-      report_in_lem r (ap (report_in 65535) p.0 ∙ used_at (report_in 65535) count m.reports i blank_report k.reports_in_lem h (omega (arith, k.most, p.1)))
-
-  -- the end that some of the reports left, and a source of it
-  module _ (us : List ℕ) (l : List Report) (x : End) (p : x ≡ all_reported t us l e) (h : Host) (small : h.0 < 8) where
-    pub turn_ranges : Ranges t (distance_to x h)
-    turn_ranges = reports_ranges t us l e x k.hearing.ready k.moment p h small
-
-    pub hearing-on : AllCounted x → HearingOn t (source_at x h) d m draws room
-    hearing-on c = record {
-      source = turn_ranges;
+module _ {e : End} {m : Message} {draws room : ℕ} {t : Moment} {d count : ℕ} (k : Known e m draws room t d count) where
+  -- the end that the reports left, and a source of it
+  module _ (us : List ℕ) (x : End) (p : x ≡ all_reported t us (take count m.reports) e) (h : Host) where
+    pub hearing-on : AllCounted x → h.0 < 8 → HearingOn t (source_at x h) d m draws room
+    hearing-on c small = record {
+      source = reports_ranges t us (take count m.reports) e x k.hearing.ready k.moment p h small;
       counted = c h small;
       requester = rw (k.away, k.moment) (ranges e k.hearing.ready (asker_in (meaning_of m)) (asker_in_lem (meaning_of m) k.hearing.passed.ranges_in));
       passed = k.hearing.passed;
     }
 
-  -- after all reports, the step on the source that the message is about is the arrival's
-  pub gives : (us : List ℕ) (i : ℕ) (x : End) (h : Host) (c : Change) (out after : List ℕ) → i ≡ count
-      → x ≡ all_reported t us (take i m.reports) e → h ≡ subject_of (meaning_of m)
-      → c ≡ record { answer = answer_of (Did (effect_on t d (meaning_of m) (source_at x h))); source = left_on t us d (meaning_of m) (source_at x h) }
-      → after ≡ buffer_of (Did (effect_on t d (meaning_of m) (source_at x h))) out
-      → (changed x h c ≡ called_of (done (arrival_of us (meaning_of m) e))) × (after ≡ buffer_of (Did (arrival_of us (meaning_of m) e).effect) out)
-  gives us i x h c out after all p q r b =
-      let M = meaning_of m in
-      let left : x ≡ all_reported (moment_of e) us (reports_for e.host M) e =
-      p ∙ ap (λ (n : ℕ). all_reported t us (take n m.reports) e) all ∙ λ j. all_reported (k.moment j) us (k.heard j) e in
-      let same : give (effect_on t d M (source_at x h)) (on_source x h (left_on t us d M)) ≡ arrival_of us M e =
-      (λ j. give (effect_on (k.moment j) (k.away j) M (source_at (left j) (q j))) (on_source (left j) (q j) (left_on (k.moment j) us (k.away j) M)))
-      ∙ sym (whole us M e) in
-      (ap (changed x h) r ∙ ap (λ (s : Step). called_of (done s)) same, b ∙ ap (λ (s : Step). buffer_of (Did s.effect) out) same)
+    -- the step on the source that the message is about is then the arrival's
+    pub gives : (r : Answer) (s : Source) (out after : List ℕ) → h ≡ subject_of (meaning_of m)
+        → r ≡ answer_of (Did (effect_on t d (meaning_of m) (source_at x h))) → s ≡ left_on t us d (meaning_of m) (source_at x h)
+        → after ≡ buffer_of (Did (effect_on t d (meaning_of m) (source_at x h))) out
+        → (called_of (done (arrival_of us (meaning_of m) e)) ≡ record { answer = r; end = with_source x h s })
+        × (after ≡ buffer_of (Did (arrival_of us (meaning_of m) e).effect) out)
+    gives r s out after q v l b =
+        let M = meaning_of m in
+        let left : x ≡ all_reported (moment_of e) us (reports_for e.host M) e = p ∙ λ j. all_reported (k.moment j) us (k.heard j) e in
+        let same : give (effect_on t d M (source_at x h)) (on_source x h (left_on t us d M)) ≡ arrival_of us M e =
+        (λ j. give (effect_on (k.moment j) (k.away j) M (source_at (left j) (q j))) (on_source (left j) (q j) (left_on (k.moment j) us (k.away j) M)))
+        ∙ sym (whole us M e) in (
+          sym ((λ j. record { answer = v j; end = with_source x h (l j) }) ∙ ap (λ (y : Step). called_of (done y)) same),
+          b ∙ ap (λ (y : Step). buffer_of (Did y.effect) out) same,
+        )

@@ -1,26 +1,24 @@
 // What a member, its clock set, does with a message that passed its questions: the definition `arrival_of` of the crate end,
-// specs/Arrival.antt, with its answer and its output. A message is steps on single sources (specs/Steps.antt): each function here is
-// given the one source that it may change and gives it back, and `arrival` stores it in the one copy of the end, with one way out: each
-// further copy or way out would cost a copy of the whole state. Nothing here refuses, tests the membership or sets the clock: these are
-// the calls' frame, in the crate frame. What a message says is the crate says, and what a SESS does to a source the crate session. Helpers of
-// the crates above and no calls of the product: each asks in its `requires` for what soundness and the questions give.
+// specs/Arrival.antt, with its answer and its output. A message is steps on single sources (specs/Steps.antt), each in its place in the end.
+// Nothing here refuses, tests the membership or sets the clock: these are the calls' frame, in the crate frame. What a message says is the crate
+// says, and what a SESS does to a source the crate session. Helpers of the crates above and no calls of the product: each asks in its `requires`
+// for what soundness and the questions give.
 #![tactic(auto)]
 
-ghost use Rattle.std.specs.Prelude.{◌≡◌, true, ◌-◌, ◌<◌, length, get_or};
+ghost use Rattle.std.specs.Prelude.{◌≡◌, true, ◌-◌, length};
 ghost use Rattle.message.specs.Limit.{number_limit};
-ghost use Rattle.message.specs.Entry.{blank_report};
-ghost use Rattle.message.specs.Message.{report_places, meaning_of};
+ghost use Rattle.message.specs.Message.{meaning_of};
 ghost use Rattle.message.specs.Question.{in_range};
 ghost use Rattle.end.specs.Answer.{Did, answer_of, done, called_of, buffer_of};
+ghost use Rattle.end.specs.Session.{all_reported};
 ghost use Rattle.end.specs.Why.{because};
 ghost use Rattle.end.specs.Arrival.{arrival_of};
 ghost use Rattle.receive.specs.Steps.{unnamed_effect, unnamed_source, effect_on, left_on};
 ghost use Rattle.receive.specs.Reason.{named_reason, fetch_reason, reason_for};
-ghost use Rattle.receive.specs.Hearing.{Hearing, HeardOn, HearingOn};
+ghost use Rattle.receive.specs.Hearing.{AllCounted, Reporting, Hearing, HeardOn, HearingOn};
 
-use end::{Answer, Draw, End, Moment, Reason, Source, Stepped, Why};
+use end::{Answer, Draw, End, Moment, Reason, Source, Why};
 use message::{ANNC, FTCH, LATE, Message, Report};
-use state::Change;
 
 // ---- why a message is ignored
 
@@ -76,85 +74,70 @@ pub fn reason(e: End, m: Message) -> Why
 // ---- a message of any kind
 
 // The step of the kinds 22 to 24 and of SESS on the source that it is about. Kind 24 is for displays, and changes nothing.
-fn step_unnamed(t: Moment, m: Message, s: Source, out: &mut [u8]) -> Change
+#[tactic(auto, unfolding(end::specs::Answer::answer_of, end::specs::Answer::buffer_of))]
+fn step_unnamed(t: Moment, m: Message, s: &mut Source, out: &mut [u8]) -> Answer
     requires { HeardOn t m (length out.old) }
-    ensures value { result ≡ record { answer = answer_of (Did (unnamed_effect t (meaning_of m) s)); source = unnamed_source t (meaning_of m) s } }
-    ensures out_after { out.new ≡ buffer_of (Did (unnamed_effect t (meaning_of m) s)) out.old }
+    ensures value { result ≡ answer_of (Did (unnamed_effect t (meaning_of m) s.old)) }
+    ensures source { s.new ≡ unnamed_source t (meaning_of m) s.old }
+    ensures out_after { out.new ≡ buffer_of (Did (unnamed_effect t (meaning_of m) s.old)) out.old }
 {
-    let entry = says::entry_of(m);
-    let sender = m.sender;
-    let cue = says::cue_of(m);
-    if m.kind == FTCH {
-        return fetch::answer_fetch(t, entry, sender, s, out);
-    }
-    if m.kind == LATE {
-        return fetch::hand_late(t.me, entry, sender, cue, s, out);
-    }
-    if m.kind == ANNC {
-        return Change {
-            answer: Answer::Done,
-            source: s,
-        };
-    }
-    Change {
-        answer: Answer::Done,
-        source: session::hear(t, m, s),
+    match m.kind {
+        FTCH => fetch::answer_fetch(t, says::entry_of(m), m.sender, s, out),
+        LATE => fetch::hand_late(t.me, says::entry_of(m), m.sender, says::cue_of(m), s, out),
+        ANNC => Answer::Done,
+        _ => {
+            *s = session::hear(t, m, *s);
+            Answer::Done
+        }
     }
 }
 
 // Its step on the source that it is about, with the distance d to who asked. A message of one's own is ignored.
-fn step_source(t: Moment, draws: &[Draw], m: Message, d: u64, s: Source, out: &mut [u8]) -> Change
-    requires { HearingOn t s d m (length draws.now) (length out.old) }
-    ensures value { result ≡ record { answer = answer_of (Did (effect_on t d (meaning_of m) s)); source = left_on t draws.now d (meaning_of m) s } }
-    ensures out_after { out.new ≡ buffer_of (Did (effect_on t d (meaning_of m) s)) out.old }
+#[tactic(auto, unfolding(crate::specs::Steps::effect_on, crate::specs::Steps::left_on, end::specs::Answer::answer_of, end::specs::Answer::buffer_of))]
+fn step_source(
+    t: Moment,
+    draws: &[Draw],
+    m: Message,
+    d: u64,
+    s: &mut Source,
+    out: &mut [u8],
+) -> Answer
+    requires { HearingOn t s.old d m (length draws.now) (length out.old) }
+    ensures value { result ≡ answer_of (Did (effect_on t d (meaning_of m) s.old)) }
+    ensures source { s.new ≡ left_on t draws.now d (meaning_of m) s.old }
+    ensures out_after { out.new ≡ buffer_of (Did (effect_on t d (meaning_of m) s.old)) out.old }
 {
     if m.sender.0 == t.me.0 {
-        return state::unchanged(s);
+        Answer::Ignored
+    } else if says::is_named(m.kind) {
+        heed::step(t, draws, says::word_in(m, d), s, out)
+    } else {
+        step_unnamed(t, m, s, out)
     }
-    if says::is_named(m.kind) {
-        let w = says::word_in(m, d);
-        return heed::step(t, draws, w, s, out);
-    }
-    step_unnamed(t, m, s, out)
 }
 
-// A report by its place, of eight.
-fn report_at(reports: [Report; 8], i: usize) -> Report
-    requires { i < report_places }
-    ensures { (result ≡ get_or reports i blank_report) × (length reports ≡ report_places) }
+// The reports step their sources one by one.
+fn take_reports(e: &mut End, t: Moment, draws: &[Draw], reports: &[Report])
+    requires { Reporting t e.old reports.now (length draws.now) }
+    ensures left { e.new ≡ all_reported t draws.now reports.now e.old }
+    ensures counted { AllCounted e.new }
 {
-    reports[i]
-}
-
-// Arrival: the reports step their sources one by one, and then the message the source that it is about.
-pub fn arrival(e: End, draws: &[Draw], m: Message, out: &mut [u8]) -> Stepped
-    requires { Hearing e m (length draws.now) (length out.old) }
-    ensures value { result ≡ called_of (done (arrival_of draws.now (meaning_of m) e)) }
-    ensures out_after { out.new ≡ buffer_of (Did (arrival_of draws.now (meaning_of m) e).effect) out.old }
-{
-    let t = state::moment_of(e);
-    let asker = says::asker_in(m);
-    let count = says::report_count(t.me, m);
-    let reports = m.reports;
-    let mut end = e;
-    let to = asker.0 as usize;
-    let asked = end.sources[to];
-    let d = asked.distance;
-    let mut i: usize = 0;
-    while i < count {
-        let r = report_at(reports, i);
+    for r in reports {
         let at = r.source.0 as usize;
-        let s = end.sources[at];
-        let s1 = session::report(t, draws, r, s);
-        end.sources[at] = s1;
-        i += 1;
+        e.sources[at] = session::report(t, draws, *r, e.sources[at]);
     }
-    let subject = says::subject_of(m);
-    let at = subject.0 as usize;
-    let s = end.sources[at];
-    let change = step_source(t, draws, m, d, s, out);
-    let answer = change.answer;
-    let s1 = change.source;
-    end.sources[at] = s1;
-    Stepped { answer, end }
+}
+
+// Arrival: the reports step their sources, and then the message the source that it is about.
+pub fn arrival(e: &mut End, draws: &[Draw], m: Message, out: &mut [u8]) -> Answer
+    requires { Hearing e.old m (length draws.now) (length out.old) }
+    ensures value { called_of (done (arrival_of draws.now (meaning_of m) e.old)) ≡ record { answer = result; end = e.new } }
+    ensures out_after { out.new ≡ buffer_of (Did (arrival_of draws.now (meaning_of m) e.old).effect) out.old }
+{
+    let t = state::moment_of(*e);
+    let d = e.sources[says::asker_in(m).0 as usize].distance;
+    let count = says::report_count(t.me, m);
+    take_reports(e, t, draws, &m.reports[..count]);
+    let at = says::subject_of(m).0 as usize;
+    step_source(t, draws, m, d, &mut e.sources[at], out)
 }

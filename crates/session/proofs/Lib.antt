@@ -1,3 +1,2 @@
 pub mod Lists
 pub mod Passes
-pub mod Turns

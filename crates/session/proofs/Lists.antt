@@ -1,4 +1,4 @@
--- The used places of an array: the first ones, as many as a count says. What a loop over them does, a turn for each.
+-- A test of all of a list, and what a loop over it does, a turn for each.
 use mathlib.Core.Path.{◌≡◌, sym, ap, ◌∙◌}
 use Prim.Native.Nat.{ℕ, zero, suc, ◌+◌, ◌<◌}
 use native.Mathlib.Numerals.{add-one}
@@ -16,13 +16,12 @@ unfolding all
 all_first p [] d h k = k
 all_first p (a ∷ l) d h k = (and_both (p a) (all p l) h).0
 
--- a test of the used places holds at each of them
-pub used_at : {A : Type 0} (p : A → Bool) (n : ℕ) (l : List A) (i : ℕ) (d : A) → all p (take n l) ≡ true → i < n → i < length l → p (get_or l i d) ≡ true
+-- and at each place of the list
+pub all_at : {A : Type 0} (p : A → Bool) (l : List A) (i : ℕ) (d : A) → all p l ≡ true → i < length l → p (get_or l i d) ≡ true
 unfolding all
-used_at p n [] i d h a b = absurd (omega arith)
-used_at p zero (x ∷ l) i d h a b = absurd (omega arith)
-used_at p (suc n) (x ∷ l) zero d h a b = (and_both (p x) (all p (take n l)) h).0
-used_at p (suc n) (x ∷ l) (suc i) d h a b = used_at p n l i d (and_both (p x) (all p (take n l)) h).1 (omega arith) (omega arith)
+all_at p [] i d h a = absurd (omega arith)
+all_at p (x ∷ l) zero d h a = (and_both (p x) (all p l) h).0
+all_at p (x ∷ l) (suc i) d h a = all_at p l i d (and_both (p x) (all p l) h).1 (omega arith)
 
 -- F goes through a list from its first element on, and each element steps by g
 module _ {A B : Type 0} (F : List A → B → B) (g : A → B → B) (stop : (b : B) → F [] b ≡ b)

@@ -3,7 +3,7 @@
 // in its `requires` for what soundness and the questions give.
 #![tactic(auto)]
 
-ghost use Rattle.std.specs.Prelude.{◌≡◌, true, cond, ◌&&◌, ◌+◌, ◌-◌, ◌≤◌, ◌<◌, length, take, leb};
+ghost use Rattle.std.specs.Prelude.{◌≡◌, true, cond, ◌&&◌, ◌+◌, ◌-◌, ◌≤◌, ◌<◌, length, leb};
 ghost use Rattle.message.specs.Limit.{number_limit, ticks_limit};
 ghost use Rattle.message.specs.Section.{all};
 ghost use Rattle.message.specs.Message.{report_places, echo_places, meaning_of};
@@ -13,7 +13,7 @@ ghost use Rattle.end.specs.Ready.{Ranges, Numbered};
 ghost use Rattle.end.specs.Session.{reported_source, measured, reported_in, heard_from};
 ghost use Rattle.state.specs.Counted.{Counted};
 
-use end::{Draw, Heard, Hosts, Moment, Source};
+use end::{Draw, Hosts, Moment, Source};
 use message::{Echo, Host, Message, Report};
 
 // The source of a report: where the report makes its last rise, the new numbers are asked for.
@@ -23,10 +23,7 @@ pub fn report(t: Moment, draws: &[Draw], r: Report, s: Source) -> Source
     requires counted { Counted s }
     ensures { result ≡ reported_source t draws.now r s }
 {
-    let span = s.span;
-    let other = !(r.source.0 == t.me.0);
-    let above = other & state::is_above(span, r.last);
-    if above {
+    if r.source.0 != t.me.0 && state::is_above(s.span, r.last) {
         rises::rise_to(s, t, draws, r.last)
     } else {
         s
@@ -39,7 +36,7 @@ fn by_echo(me: Host, clock: u64, x: Echo, d: u64) -> u64
     ensures { result ≡ cond (same_host x.host me && leb (x.stamp + x.held) clock) (half_trip (clock - (x.stamp + x.held))) d }
 {
     let gone = x.stamp + x.held;
-    if (x.host.0 == me.0) & (gone <= clock) {
+    if x.host.0 == me.0 && gone <= clock {
         timing::half_trip(clock - gone)
     } else {
         d
@@ -47,31 +44,25 @@ fn by_echo(me: Host, clock: u64, x: Echo, d: u64) -> u64
 }
 
 // The distance after all echoes.
-fn measure(me: Host, clock: u64, echoes: [Echo; 7], count: usize, d: u64) -> u64
-    requires { (count ≤ echo_places) × (all echo_in (take count echoes) ≡ true) × (clock < ticks_limit) }
-    ensures { result ≡ measured me clock (take count echoes) d }
+fn measure(me: Host, clock: u64, echoes: &[Echo], d: u64) -> u64
+    requires { (all echo_in echoes.now ≡ true) × (clock < ticks_limit) }
+    ensures { result ≡ measured me clock echoes.now d }
 {
     let mut out = d;
-    let mut i: usize = 0;
-    while i < count {
-        let x = echoes[i];
-        out = by_echo(me, clock, x, out);
-        i += 1;
+    for x in echoes {
+        out = by_echo(me, clock, *x, out);
     }
     out
 }
 
 // The sources that a session message reported.
-fn reported_in(reports: [Report; 8], count: usize) -> Hosts
-    requires { (count ≤ report_places) × (all (report_in (number_limit - 1)) (take count reports) ≡ true) }
-    ensures { result ≡ reported_in (take count reports) }
+fn reported_in(reports: &[Report]) -> Hosts
+    requires { all (report_in (number_limit - 1)) reports.now ≡ true }
+    ensures { result ≡ reported_in reports.now }
 {
-    let mut out: u8 = 0;
-    let mut i: usize = 0;
-    while i < count {
-        let r = reports[i];
+    let mut out = 0;
+    for r in reports {
         out = numbers::bits::with_host(out, r.source.0);
-        i += 1;
     }
     out
 }
@@ -83,11 +74,7 @@ pub fn hear(t: Moment, m: Message, s: Source) -> Source
     requires clock_lt_ticks_limit { t.clock < ticks_limit }
     ensures { result ≡ heard_from t (meaning_of m) s }
 {
-    let count = m.counts.echoes;
-    let echoes = m.echoes;
-    let d = measure(t.me, t.clock, echoes, count, s.distance);
-    let said = m.counts.reports;
-    let reports = m.reports;
-    let reported = reported_in(reports, said);
+    let d = measure(t.me, t.clock, &m.echoes[..m.counts.echoes], s.distance);
+    let reported = reported_in(&m.reports[..m.counts.reports]);
     state::with_heard(s, d, Some((m.stamp, t.clock, reported)))
 }

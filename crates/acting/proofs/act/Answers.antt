@@ -1,23 +1,23 @@
 -- `acting::act` meets its contract: the event that was matched has this step.
-use mathlib.Core.Path.{subst}
+use mathlib.Core.Path.{sym, subst}
 use Rattle.end.specs.declared.Event.{Event}
 use Rattle.acting.specs.Acting.{OwnGiven}
 use Rattle.acting.proofs.MoveLaws.{move-quiet}
 use Rattle.acting.proofs.act.Goals as goal
 
-pub moved-requires : goal.moved-requires
-moved-requires c = c.requires.settled.host
+pub moved-stepped-requires : goal.moved-stepped-requires
+moved-stepped-requires c = c.requires.settled.host
 
 pub send-requires : goal.send-requires
 send-requires c =
     let pre = c.requires in
-    let own = subst (λ (w : Event). OwnGiven w c.args.end c.args.message) c.in-Send.is pre.own in
+    let own = subst (λ (w : Event). OwnGiven w c.args.e.now c.args.message) c.in-Send.is pre.own in
     record { settled = pre.settled; next = own; draws = pre.draws; room = pre.room }
 
 pub arrival-requires : goal.arrival-requires
 arrival-requires c =
     let pre = c.requires in
-    let own = subst (λ (w : Event). OwnGiven w c.args.end c.args.message) c.in-Arrival.is pre.own in
+    let own = subst (λ (w : Event). OwnGiven w c.args.e.now c.args.message) c.in-Arrival.is pre.own in
     record {
       ready = pre.settled.ready;
       counts = pre.settled.counts;
@@ -41,8 +41,7 @@ announce-requires c =
     record { settled = c.requires.settled; room = c.requires.room }
 
 pub returns-in-Moves : goal.returns-in-Moves
-returns-in-Moves c =
-    let a = c.args in rw c.in-Moves.is (record { value = c.moved.ensures; out_after = move-quiet _ a.end _ })
+returns-in-Moves c = rw c.in-Moves.is (record { value = sym c.moved-stepped.ensures; out_after = move-quiet _ c.args.e.now _ })
 
 pub returns-in-Send : goal.returns-in-Send
 returns-in-Send c = rw c.in-Send.is (record { value = c.send.ensures.value; out_after = c.send.ensures.out_after })

@@ -4,4 +4,4 @@ use Rattle.heed.proofs.repair.Goals as goal
 
 pub returns : goal.returns
 unfolding apply
-returns c = rw (c.hush.ensures, c.hold_cue-held.ensures, c.rise_to-higher.ensures)
+returns c = rw (c.hush.ensures, c.hold_cue.ensures, c.rise_to-higher.ensures)

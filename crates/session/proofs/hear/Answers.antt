@@ -5,11 +5,11 @@ use Rattle.session.proofs.hear.Goals as goal
 -- `session::hear` meets its contract: the sender's source with its measured distance.
 pub measure-d-requires : goal.measure-d-requires
 measure-d-requires c =
-    (c.requires.reports_le_report_places.1, (in_range_lem (meaning_of c.args.m) c.requires.m_value).echoes, c.requires.clock_lt_ticks_limit)
+    ((in_range_lem (meaning_of c.args.m) c.requires.m_value).echoes, c.requires.clock_lt_ticks_limit)
 
 pub reported_in-reported-requires : goal.reported_in-reported-requires
 reported_in-reported-requires c =
-    (c.requires.reports_le_report_places.0, (in_range_lem (meaning_of c.args.m) c.requires.m_value).reports)
+    (in_range_lem (meaning_of c.args.m) c.requires.m_value).reports
 
 pub returns : goal.returns
 returns c = rw (c.with_heard.ensures, c.reported_in-reported.ensures, c.measure-d.ensures)

@@ -1,12 +1,8 @@
 use mathlib.Core.Path.{◌≡◌}
-use Prim.Native.Nat.{◌-◌, ◌≤◌}
-use lib.ListN.{take}
+use lib.ListN.{drop}
 use Rattle.end.specs.Session.{measured}
 use Rattle.session.proofs.measure.Given as goal
 
--- `session::measure` meets its contract: after i turns the distance is that after the first i echoes.
-abbrev pub invariant-loop-i : goal.invariant-loop-i
-invariant-loop-i l = (l.i ≤ l.count) × (l.out ≡ measured l.me l.clock (take l.i l.echoes) l.d)
-
-abbrev pub decreases-loop-i : goal.decreases-loop-i
-decreases-loop-i l = l.count - l.i
+-- `session::measure` meets its contract: what the echoes still to come make of the distance so far is the result.
+abbrev pub invariant-loop-x : goal.invariant-loop-x
+invariant-loop-x l = measured l.me l.clock (drop l.x-index l.echoes) l.out ≡ measured l.me l.clock l.echoes l.d

@@ -1,12 +1,8 @@
 use mathlib.Core.Path.{◌≡◌}
-use Prim.Native.Nat.{◌-◌, ◌≤◌}
-use lib.ListN.{take}
-use Rattle.end.specs.Session.{reported_in}
+use lib.ListN.{drop}
+use Rattle.end.specs.Session.{reported_after, reported_in}
 use Rattle.session.proofs.reported_in.Given as goal
 
--- `session::reported_in` meets its contract: after i turns the set is that of the first i reports.
-abbrev pub invariant-loop-i : goal.invariant-loop-i
-invariant-loop-i l = (l.i ≤ l.count) × (l.out ≡ reported_in (take l.i l.reports))
-
-abbrev pub decreases-loop-i : goal.decreases-loop-i
-decreases-loop-i l = l.count - l.i
+-- `session::reported_in` meets its contract: the set so far with the sources still to come is the result.
+abbrev pub invariant-loop-r : goal.invariant-loop-r
+invariant-loop-r l = reported_after l.out (drop l.r-index l.reports) ≡ reported_in l.reports

@@ -1,37 +1,27 @@
-use mathlib.Core.Path.{◌≡◌, refl, subst}
-use mathlib.Core.List.{List}
-use Prim.Native.Nat.{ℕ}
-use Rattle.end.specs.Parts.{Span, Closed, Open}
+use mathlib.Core.Path.{refl, ap, subst}
+use Rattle.message.specs.Message.{bytes_of}
 use Rattle.end.specs.declared.Moment.{Moment}
-use Rattle.end.specs.declared.Answer.{Answer}
-use Rattle.end.specs.declared.End.{End}
-use Rattle.end.specs.State.{source_at, moment_of}
-use Rattle.end.specs.Answer.{Step, give}
-use Rattle.end.specs.Event.{announced, announce_of}
+use Rattle.end.specs.Parts.{Span}
+use Rattle.end.specs.State.{moment_of}
+use Rattle.end.specs.Messages.{announce_message}
+use Rattle.end.specs.Event.{announced}
+use Rattle.end.specs.Answer.{Out, answer_of, buffer_of}
 use Rattle.compose.proofs.PutLaws.{Answers}
-use Rattle.transmit.specs.Announced.{announced_effect}
-use Rattle.compose.proofs.GiveLaws.{Gives, gives}
+use Rattle.compose.proofs.GiveLaws.{leaves}
 use Rattle.transmit.proofs.announce.Goals as goal
 
 -- `transmit::announce` meets its contract: what the own span has goes out, and the end stays.
-by_span : (t : Moment) (x : Span) (e : End) → give (announced_effect t x) e ≡ announced t x e
-by_span t Closed e = refl
-by_span t (Open first last) e = refl
+pub returns-in-None : goal.returns-in-None
+unfolding answer_of buffer_of
+returns-in-None c = rw c.in-None.is (record { value = refl; out_after = refl })
 
-announces : (e : End) (t : Moment) (r : Answer) (out last : List ℕ) → t ≡ moment_of e → Answers (announced_effect t (source_at e t.me).span) r out last
-    → Gives (announce_of e) (record { answer = r; end = e }) out last
-announces e t r out last p w =
-    let span = (source_at e e.host).span in
-    let own = subst (λ (x : Moment). Answers (announced_effect x (source_at e x.me).span) r out last) p w in
-    subst (λ (step : Step). Gives step (record { answer = r; end = e }) out last) (by_span (moment_of e) span e)
-    (gives (announced_effect (moment_of e) span) e r e out last own refl)
-
-pub bounds-e-at : goal.bounds-e-at
-bounds-e-at c =
-    rw c.moment_of-t.ensures c.requires.settled.host
-
-pub returns : goal.returns
-returns c =
-    let a = c.args in let it = announces a.e c.moment_of-t.result c.announced_answer-answer.result a.out.now c.announced_answer-answer.new.out c.moment_of-t.ensures
-    (c.announced_answer-answer.ensures.value, c.announced_answer-answer.ensures.out_after) in
+pub returns-in-Some : goal.returns-in-Some
+returns-in-Some c =
+    let e = c.args.e.now in
+    let out = c.args.out.now in
+    let last = c.put_announce.new.out in
+    let it = leaves c.put_announce.result e out last (ap (λ (x : Span). announced (moment_of e) x e) c.in-Some.is)
+    (subst (λ (t : Moment). Answers (Out (bytes_of (announce_message t c.in-Some.first c.in-Some.last))) c.put_announce.result out last) c.moment_of.ensures
+    (c.put_announce.ensures.value, c.put_announce.ensures.out_after))
+    refl in
     record { value = it.0; out_after = it.1 }

@@ -1,14 +1,12 @@
 -- A piece that is taken by several calls: each takes bytes, one call more, and the end.
 use mathlib.Core.Path.{◌≡◌, refl, sym, ap, ◌∙◌}
-use mathlib.Core.Bool.{Bool, true, false, not, ◌&&◌, true≢false}
-use mathlib.Core.Logic.{◌⊎◌, inl, inr, ⊎_elim}
-use mathlib.Core.List.{List, []}
+use mathlib.Core.Bool.{true, false, true≢false}
+use mathlib.Core.Logic.{⊎_elim}
+use mathlib.Core.List.{List, [], ◌∷◌}
 use Prim.Native.Nat.{ℕ, ◌+◌, ◌-◌, ◌≤◌, ◌<◌}
 use native.Mathlib.Omega.{arith}
 use lib.ListN.{length, take, drop, length-drop, take-append-drop}
-use lib.Seq.{take-add, take_all}
-use lib.Dec.{ltb}
-use borrow.Author.Tests.{ltb-false, not-false}
+use lib.Seq.{take_all}
 use Rattle.numbers.proofs.Cases.{by_order}
 use Rattle.player.specs.House.{widest}
 use Rattle.interpreter.specs.declared.Playing.{Playing}
@@ -16,15 +14,6 @@ use Rattle.interpreter.specs.declared.Progress.{Progress}
 use Rattle.interpreter.specs.Interpreter.{Standing, after, prints, standing}
 use Rattle.interpreter.specs.Promise.{Feeds}
 use Rattle.interpreter.proofs.Pieces.{after_both, after-stopped}
-
--- ---- the loop's test
-
-either : (a b : Bool) → a && b ≡ false → (a ≡ false) ⊎ (b ≡ false)
-either true b h = inr h
-either false b h = inl refl
-
-abbrev goes : ℕ → List ℕ → Playing → Bool
-goes at piece p = ltb at (length piece) && not p.stopped
 
 -- ---- a call takes bytes where it can
 
@@ -46,45 +35,24 @@ module _ {s : Standing} {piece before output : List ℕ} {r : Progress} (f : Fee
 
 -- ---- one call more, and the end
 
--- the first `at` bytes of a piece are taken
-pub record SoFar (s : Standing) (piece : List ℕ) (p : Playing) (at : ℕ) : Type 0 where
-  pub stands : standing p ≡ after s (take at piece)
-  pub inside : at ≤ length piece
+-- what is left of a piece gives from here on what the whole of it gives from the start
+abbrev pub Left : Playing → List ℕ → Standing → Type 0
+Left p rest end = after (standing p) rest ≡ end
 
-pub none-taken : (p : Playing) (piece : List ℕ) → SoFar (standing p) piece p 0
+-- after a call, what it did not take is left
+pub more-taken : {end : Standing} (p q : Playing) (rest : List ℕ) (n m : ℕ) → length rest ≤ n + m → Left p rest end → standing q ≡ after (standing p) (take n rest)
+    → Left q (take m (drop n rest)) end
+more-taken p q rest n m k h t =
+    let d : length (drop n rest) ≡ length rest - n = length-drop n rest in
+    ap (after (standing q)) (take_all m (drop n rest) (omega (arith, d, k)))
+    ∙ ap (λ (x : Standing). after x (drop n rest)) t ∙ sym (after_both (standing p) (take n rest) (drop n rest))
+    ∙ ap (after (standing p)) (take-append-drop n rest) ∙ h
+
+-- nothing is left, or nothing that is left changes anything
+pub none-left : {end : Standing} (p : Playing) (rest : List ℕ) → Left p rest end → length rest ≡ 0 → standing p ≡ end
 unfolding after
-none-taken p piece = record { stands = refl; inside = omega arith }
+none-left p [] h e = h
+none-left p (b ∷ rest) h e = absurd (omega (arith, e))
 
-module _ {s : Standing} {piece : List ℕ} {p : Playing} {at : ℕ} (f : SoFar s piece p at) where
-  -- where the loop's test fails, nothing that is left would change anything
-  pub all-taken : goes at piece p ≡ false → standing p ≡ after s piece
-  all-taken h =
-      ⊎_elim
-      (λ a. f.stands ∙ ap (after s) (take_all at piece (ltb-false at (length piece) a)))
-      (λ b.
-      sym (after-stopped (standing p) (drop at piece) (not-false p.stopped b)) ∙ ap (λ (x : Standing). after x (drop at piece)) f.stands
-      ∙ sym (after_both s (take at piece) (drop at piece)) ∙ ap (after s) (take-append-drop at piece))
-      (either (ltb at (length piece)) (not p.stopped) h)
-
-  -- the part that is lent
-  abbrev part : List ℕ
-  part = take (length piece - at) (drop at piece)
-
-  rest : length (drop at piece) ≡ length piece - at
-  rest = length-drop at piece
-
-  whole_part : part ≡ drop at piece
-  whole_part = take_all (length piece - at) (drop at piece) (omega (arith, rest))
-
-  part-size : length part ≡ length piece - at
-  part-size = ap length whole_part ∙ rest
-
-  pub more-taken : (q : Playing) (n : ℕ) → standing q ≡ after (standing p) (take n part) → n ≤ length part → SoFar s piece q (at + n)
-  more-taken q n t k =
-      let these = take n (drop at piece) in
-      record {
-        stands =
-            t ∙ ap (λ (x : List ℕ). after (standing p) (take n x)) whole_part ∙ ap (λ (x : Standing). after x these) f.stands
-            ∙ sym (after_both s (take at piece) these) ∙ ap (after s) (sym (take-add at n piece));
-        inside = omega (arith, part-size, f.inside);
-      }
+pub stopped-left : {end : Standing} (p : Playing) (rest : List ℕ) → Left p rest end → p.stopped ≡ true → standing p ≡ end
+stopped-left p rest h e = sym (after-stopped (standing p) rest e) ∙ h

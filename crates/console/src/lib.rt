@@ -9,13 +9,6 @@ use interpreter::{Playing, Progress};
 use std::io;
 use std::io::Read;
 
-// Where the script stands after a piece, and whether another is to be read.
-#[derive(Clone, Copy)]
-struct Next {
-    playing: Playing,
-    more: bool,
-}
-
 // Takes bytes of a piece, at least one, and writes what they print.
 fn play_some(rt: &impl Print, playing: Playing, piece: &[u8]) -> io::Result<Progress>
     requires stopped_value { playing.stopped ≡ false }
@@ -26,8 +19,7 @@ fn play_some(rt: &impl Print, playing: Playing, piece: &[u8]) -> io::Result<Prog
 {
     let mut out = [0u8; 4096];
     let fed = interpreter::feed(playing, piece, &mut out);
-    let used = fed.used;
-    rt.write_all(&out[..used])?;
+    rt.write_all(&out[..fed.used])?;
     Ok(fed)
 }
 
@@ -36,33 +28,25 @@ fn play_piece(rt: &impl Print, from: Playing, piece: &[u8]) -> io::Result<Playin
     ensures { IfOk result (λ playing. standing playing ≡ after (standing from) piece.now) }
 {
     let mut playing = from;
-    let mut at: usize = 0;
-    while (at < piece.len()) & !playing.stopped {
-        let fed = play_some(rt, playing, &piece[at..])?;
-        at += fed.taken;
+    let mut rest = piece;
+    while !rest.is_empty() && !playing.stopped {
+        let fed = play_some(rt, playing, rest)?;
+        rest = &rest[fed.taken..];
         playing = fed.playing;
     }
     Ok(playing)
 }
 
-// Reads the next piece and plays it; there is no more at the end of the input, and where the script has stopped.
-fn play_next(rt: &impl Print, input: &mut impl Read, from: Playing) -> io::Result<Next> {
-    let mut piece = [0u8; 4096];
-    let n = input.read(&mut piece)?;
-    let playing = play_piece(rt, from, &piece[..n])?;
-    let more = (0 < n) & !playing.stopped;
-    Ok(Next { playing, more })
-}
-
-// Plays all of standard input. A proved loop has to end, and nothing says that the input does, so the pieces are counted, up to a
-// number that no run uses up. An error is one of reading or writing.
+// Plays all of standard input, up to its end or to where the script stops. A proved loop has to end, and nothing says that the input does,
+// so the pieces are counted, up to a number that no run uses up. An error is one of reading or writing.
 pub fn play(rt: &(impl Input + Print), from: Playing) -> io::Result<()> {
     let mut input = rt.reader();
     let mut playing = from;
     for _ in 0..u64::MAX {
-        let next = play_next(rt, &mut input, playing)?;
-        playing = next.playing;
-        if !next.more {
+        let mut piece = [0u8; 4096];
+        let n = input.read(&mut piece)?;
+        playing = play_piece(rt, playing, &piece[..n])?;
+        if n == 0 || playing.stopped {
             break;
         }
     }

@@ -1,12 +1,11 @@
 use lib.ListN.{length}
-use Prim.Native.Nat.{◌-◌}
-use Rattle.interpreter.specs.Interpreter.{standing}
-use Rattle.console.proofs.PieceLaws.{SoFar}
+use Rattle.interpreter.specs.Interpreter.{after, standing}
+use Rattle.console.proofs.PieceLaws.{Left}
 use Rattle.console.proofs.play_piece.Given as goal
 
--- Each call takes bytes of the piece, until there are none or the script has stopped.
-abbrev pub invariant-loop-at : goal.invariant-loop-at
-invariant-loop-at g l = SoFar (standing l.initial.playing) l.piece l.playing l.at
+-- What is left of the piece gives what the whole piece gives.
+abbrev pub invariant-loop-rest : goal.invariant-loop-rest
+invariant-loop-rest g l = Left l.playing l.rest (after (standing l.initial.playing) l.initial.rest)
 
-abbrev pub decreases-loop-at : goal.decreases-loop-at
-decreases-loop-at g l = length l.piece - l.at
+abbrev pub decreases-loop-rest : goal.decreases-loop-rest
+decreases-loop-rest g l = length l.rest

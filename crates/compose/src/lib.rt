@@ -54,8 +54,7 @@ fn about_name(kind: u8, t: Moment, name: Name, host: Host, cues: usize, cue: [u8
         },
         names: [NameEntry { name, host }, message::no_name()],
         cue,
-        reports: [message::no_report(); 8],
-        echoes: [message::no_echo(); 7],
+        ..message::blank()
     }
 }
 
@@ -88,9 +87,7 @@ fn announce_message(t: Moment, first: CueNumber, last: CueNumber) -> Message
             echoes: 0,
         },
         names: [own_entry(t, first), own_entry(t, last)],
-        cue: [0; 24],
-        reports: [message::no_report(); 8],
-        echoes: [message::no_echo(); 7],
+        ..message::blank()
     }
 }
 
@@ -179,10 +176,9 @@ pub fn session_message(e: End) -> Message
             reports: entries.reports.count,
             echoes: entries.echoes.count,
         },
-        names: [message::no_name(); 2],
-        cue: [0; 24],
         reports,
         echoes,
+        ..message::blank()
     }
 }
 

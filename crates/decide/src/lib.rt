@@ -61,7 +61,7 @@ impl Case {
         if name.number.0 < first.0 {
             return Decision::Ignores(Reason::BelowFirst);
         }
-        if name.source.0 == self.t.me.0 && last.0 < name.number.0 {
+        if name.source == self.t.me && last.0 < name.number.0 {
             return Decision::Ignores(Reason::OwnAboveLast);
         }
         otherwise
@@ -86,10 +86,7 @@ impl Case {
     fn decide_express(self) -> Decision
         ensures { result ≡ decide_express self.t self.w self.r self.span }
     {
-        if self.w.host.0 == self.t.me.0
-            && state::is_held(self.r.slot)
-            && self.r.hush <= self.t.clock
-        {
+        if self.w.host == self.t.me && state::is_held(self.r.slot) && self.r.hush <= self.t.clock {
             return Decision::Expresses;
         }
         self.decide_request()

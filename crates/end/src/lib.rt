@@ -56,6 +56,7 @@ pub type Reply = Option<(u64, Host)>;
 // Whether an express wait stands beside a request, and when it is due.
 pub type Express = Option<u64>;
 
+// Kept: (d) three states, the last two with parts of their own: an Option of a Result would give a waiting request no name.
 // What an end has of a name: nothing; its cue, and beside it perhaps a waiting reply; or a request for it, and beside that perhaps an
 // express wait.
 #[derive(Clone, Copy)]
@@ -88,6 +89,7 @@ pub type Pair = Option<(Host, Host, CueNumber)>;
 // The number of the first original since joining, of another host's source.
 pub type Origin = Option<CueNumber>;
 
+// Kept: (d) `late` is a mark of its own, and says nothing of whether `tried` counts.
 // What an end has done to fetch one of the 64 numbers below a source's first original: the hosts that it tried, and whether the cue was handed
 // out as Late.
 #[derive(Clone, Copy, Debug, PartialEq, Eq)]
@@ -191,6 +193,7 @@ pub enum Reason {
     NoFetch,
 }
 
+// Kept: (d) three outcomes of one call; a Result of an Option would hide that two of them are answers to the same question.
 // What the reason call gives: the number of the question that would refuse the event, or why it would be Ignored, or that it would be
 // neither.
 #[derive(Clone, Copy)]
@@ -254,6 +257,7 @@ pub type Earliest = Option<Wait>;
 // The nearest host found so far to fetch a cue from, and its distance.
 pub type Nearest = Option<(Host, u64)>;
 
+// Kept: (a) document 01: a call gives its answer and the end beside each other, also where it is refused; so does an opening.
 // What a call gives: its answer, and the end that it leaves.
 #[derive(Clone, Copy)]
 pub struct Stepped {

@@ -160,7 +160,7 @@ pub fn keep_pair(s: Source, requester: Host, sender: Host, n: CueNumber) -> Sour
 fn is_requester(me: Host, pair: Pair) -> bool
     ensures { result ≡ is_requester me pair }
 {
-    pair.is_some_and(|(requester, _, _)| requester.0 == me.0)
+    pair.is_some_and(|(requester, _, _)| requester == me)
 }
 
 // The express wait beside round 1 by a gap before a DATA: the kept requester sets one.

@@ -10,9 +10,7 @@ ghost use Rattle.end.specs.Arrival.{message_cue, requester_in};
 ghost use Rattle.says.specs.Said.{is_named, is_about, says_in, entry_in, asker_in, word_in, subject_of};
 
 use end::{Says, Word};
-use message::{
-    ANNC, CueNumber, DATA, FTCH, Host, LATE, Message, Name, NameEntry, REPL, RQST, XPRS,
-};
+use message::{ANNC, DATA, FTCH, Host, LATE, Message, NameEntry, REPL, RQST, XPRS};
 
 // Whether a message of this kind is decided on by its word.
 pub fn is_named(kind: u8) -> bool
@@ -44,13 +42,7 @@ pub fn entry_of(m: Message) -> NameEntry
     ensures { result ≡ entry_in (meaning_of m) }
 {
     if m.counts.names == 0 {
-        return NameEntry {
-            name: Name {
-                source: Host(0),
-                number: CueNumber(0),
-            },
-            host: Host(0),
-        };
+        return message::no_name();
     }
     m.names[0]
 }
@@ -109,7 +101,7 @@ pub fn subject_of(m: Message) -> Host
 pub fn report_count(me: Host, m: Message) -> usize
     ensures { result ≡ cond (same_host m.sender me || is_about m.kind) 0 m.counts.reports }
 {
-    if m.sender.0 == me.0 || is_about(m.kind) {
+    if m.sender == me || is_about(m.kind) {
         0
     } else {
         m.counts.reports

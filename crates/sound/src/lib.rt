@@ -37,10 +37,7 @@ impl Owner {
         ensures { result ≡ all_of (reply_tests self.me self.source reply) }
     {
         reply.is_none_or(|(due, requester)| {
-            due < TIME_LIMIT
-                && requester.0 < 8
-                && requester.0 != self.me.0
-                && requester.0 != self.source.0
+            due < TIME_LIMIT && requester.0 < 8 && requester != self.me && requester != self.source
         })
     }
 
@@ -58,7 +55,7 @@ impl Owner {
             Slot::Empty => false,
             Slot::Held(reply) => self.held_sound(r, reply),
             Slot::Waiting(q, x) => {
-                self.source.0 != self.me.0
+                self.source != self.me
                     && request_sound(q)
                     && r.hush < TIME_LIMIT
                     && express_sound(self.pair, x)
@@ -135,7 +132,7 @@ fn pair_sound(me: Host, pair: Pair) -> bool
     ensures { result ≡ all_of (pair_tests me pair) }
 {
     pair.is_none_or(|(requester, sender, n)| {
-        requester.0 < 8 && sender.0 < 8 && sender.0 != me.0 && u32::from(n.0) < NUMBERS
+        requester.0 < 8 && sender.0 < 8 && sender != me && u32::from(n.0) < NUMBERS
     })
 }
 

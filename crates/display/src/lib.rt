@@ -7,6 +7,7 @@
 ghost use Rattle.std.specs.Prelude.{◌≡◌, Some, None, true, ◌-◌, ◌≤◌, ◌<◌, length};
 ghost use Rattle.message.specs.Limit.{room_needed};
 ghost use Rattle.message.specs.Message.{Meaning, held_as, Small, number_width, meaning_of};
+ghost use Rattle.message.specs.Question.{outcome, refusal_of};
 ghost use Rattle.end.specs.Answer.{Got, Done, Did, Refused, answer_of, buffer_of};
 ghost use Rattle.display_window.specs.Window.{window_sound, raised, start_at, taken, none_lost, lost_by};
 ghost use Rattle.display.specs.Display.{hosts_apart, sound_of, fresh, opening_of, with_window};
@@ -19,7 +20,7 @@ use display_window::{Lost, Window};
 use end::Answer;
 use message::{
     ANNC, Counts, CueNumber, DATA, HOST_LIMIT, Host, Message, Name, NameEntry, REPL, ROOM_NEEDED,
-    RQST, TICKS_LIMIT, Verdict,
+    RQST, Refusal, TICKS_LIMIT, Verdict,
 };
 
 // The state of a display: its own host, its sender's, its clock and its window.
@@ -40,6 +41,7 @@ pub struct Shown {
 }
 
 // What an opening answers: whether it was refused, and the display.
+// Kept: (a) a display beside the verdict, since `open` promises one beside a refusal too (specs/Display.antt, display_for).
 #[derive(Clone, Copy)]
 pub struct OpenedDisplay {
     pub verdict: Verdict,
@@ -309,22 +311,26 @@ fn stepped(d: Display, out: &mut [u8]) -> Shown
 
 // ---- the calls
 
-// Questions 1, 3, 4 and 5, before others whose first no is `own`.
-fn refusal(d: Display, clock: u64, room: usize, own: u8) -> u8
-    ensures { result ≡ first_of d clock room own }
+// Questions 1, 3, 4 and 5, before others that gave this verdict.
+fn asked(d: Display, clock: u64, room: usize, verdict: Verdict) -> Result<(), Refusal>
+    ensures { result ≡ outcome (first_of d clock room (refusal_of verdict)) }
 {
-    let five = message::asked(d.clock <= clock, 5, own);
-    let four = message::asked(clock < TICKS_LIMIT, 4, five);
-    let three = message::asked(sound(d), 3, four);
-    message::asked(ROOM_NEEDED <= room, 1, three)
+    message::ask(ROOM_NEEDED <= room, 1)?;
+    message::ask(sound(d), 3)?;
+    message::ask(clock < TICKS_LIMIT, 4)?;
+    message::ask(d.clock <= clock, 5)?;
+    match message::number_of(verdict) {
+        0 => Ok(()),
+        number => Err(Refusal(number)),
+    }
 }
 
 #[tactic(auto, unfolding(end::specs::Answer::answer_of))]
-fn refused(number: u8, d: Display) -> Shown
-    ensures { result ≡ record { answer = answer_of (Refused number); lost = none_lost; display = d } }
+fn refused(refusal: Refusal, d: Display) -> Shown
+    ensures { result ≡ record { answer = answer_of (Refused refusal.0); lost = none_lost; display = d } }
 {
     Shown {
-        answer: Answer::Refused(number),
+        answer: Answer::Refused(refusal.0),
         lost: display_window::none_lost(),
         display: d,
     }
@@ -336,12 +342,9 @@ pub fn hear(d: Display, clock: u64, bytes: &[u8], out: &mut [u8]) -> Shown
     ensures out_after { out.new ≡ leaves d (Hear bytes.now) clock out.old }
 {
     let reading = reader::read(bytes);
-    let own = message::number_of(reading.verdict);
-    let q = refusal(d, clock, out.len(), own);
-    if q == 0 {
-        heard_message(Display { clock, ..d }, reading.message, out)
-    } else {
-        refused(q, d)
+    match asked(d, clock, out.len(), reading.verdict) {
+        Ok(()) => heard_message(Display { clock, ..d }, reading.message, out),
+        Err(refusal) => refused(refusal, d),
     }
 }
 
@@ -350,10 +353,8 @@ pub fn step(d: Display, clock: u64, out: &mut [u8]) -> Shown
     ensures value { result ≡ gives d Step clock out.old }
     ensures out_after { out.new ≡ leaves d Step clock out.old }
 {
-    let q = refusal(d, clock, out.len(), 0);
-    if q == 0 {
-        stepped(Display { clock, ..d }, out)
-    } else {
-        refused(q, d)
+    match asked(d, clock, out.len(), Verdict::Accepted) {
+        Ok(()) => stepped(Display { clock, ..d }, out),
+        Err(refusal) => refused(refusal, d),
     }
 }

@@ -24,6 +24,7 @@ pub struct Noted {
 }
 
 // What is kept of a record between two of its pieces: the lines, and the next line so far, the first `len` bytes of its buffer.
+// Kept: (a) a buffer with its length, for the same reason.
 #[derive(Clone, Copy)]
 pub struct Kept {
     pub noted: Noted,

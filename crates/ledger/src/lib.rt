@@ -15,6 +15,7 @@ use message::{CueNumber, Host};
 use record::{Line, Said};
 
 // The judgement of a record: it is allowed, or the number of the first line that is not permitted, or the record is refused.
+// Kept: (d) an enum of its own, since these are three answers and not the two of an Option or Result; a refusal's number is the page's, 16 or 17.
 #[derive(Clone, Copy, PartialEq, Eq, Debug)]
 pub enum Judgement {
     Allowed,

@@ -9,111 +9,61 @@ use std::io;
 use std::io::Read;
 
 // What is printed for a record: the first `len` bytes.
-#[derive(Clone, Copy)]
+#[derive(Clone, Copy, PartialEq, Eq)]
 struct Printed {
     out: [u8; 32],
     len: usize,
 }
 
-// So many bytes further, or at the end where there are fewer.
-fn further(at: usize, n: usize, end: usize) -> usize
-    requires { at ≤ end }
-    ensures lower_bound { at ≤ result }
-    ensures upper_bound { result ≤ end }
-{
-    if n <= end - at { at + n } else { end }
-}
-
-// Where the line ends that starts at `from`: after its line feed, or at the end of the bytes.
-fn line_end(text: &[u8], from: usize) -> usize
-    requires { from < length text.now }
-    ensures lower_bound { from < result }
+// How many bytes the first line has: up to its line feed, or all.
+fn line_end(text: &[u8]) -> usize
+    requires { 0 < length text.now }
+    ensures lower_bound { 0 < result }
     ensures upper_bound { result ≤ length text.now }
 {
-    let mut at = from;
-    while at + 1 < text.len() {
-        if text[at] == b'\n' {
-            break;
-        }
-        at += 1;
-    }
-    at + 1
+    text.iter()
+        .position(|b| *b == b'\n')
+        .map_or(text.len(), |i| i + 1)
 }
 
-// Whether the bytes from a place on start with `next`.
-fn is_next(text: &[u8], at: usize) -> bool
-    requires { at < length text.now }
+// How many bytes the record has that comes first: up to the next line that starts with `next`, or all.
+fn record_end(text: &[u8]) -> usize
+    ensures { result ≤ length text.now }
 {
-    if text.len() - at < 4 {
-        return false;
-    }
-    (text[at] == b'n') & (text[at + 1] == b'e') & (text[at + 2] == b'x') & (text[at + 3] == b't')
-}
-
-// Where the record ends that starts at `from`: before the next line that starts with `next`, or at the end of the bytes.
-fn record_end(text: &[u8], from: usize) -> usize
-    requires { from ≤ length text.now }
-    ensures lower_bound { from ≤ result }
-    ensures upper_bound { result ≤ length text.now }
-{
-    let mut at = from;
     let mut starts = true;
-    while at < text.len() {
-        if starts & is_next(text, at) {
-            break;
+    for at in 0..text.len() {
+        if starts && text[at..].starts_with(b"next") {
+            return at;
         }
         starts = text[at] == b'\n';
-        at += 1;
     }
-    at
+    text.len()
 }
 
 // Judges a record in pieces of so many bytes.
-fn judge_in(bytes: &[u8], size: usize) -> Printed {
+fn judge_in(bytes: &[u8], size: usize) -> Printed
+    requires { 0 < size }
+{
     let mut kept = judgement::opened();
-    let mut at: usize = 0;
-    let mut turns = bytes.len();
-    while 0 < turns {
-        turns -= 1;
-        let until = further(at, size, bytes.len());
-        kept = judgement::feed(kept, &bytes[at..until]);
-        at = until;
+    for piece in bytes.chunks(size) {
+        kept = judgement::feed(kept, piece);
     }
     let mut out = [0u8; 32];
     let len = judgement::finish(kept, &mut out);
     Printed { out, len }
 }
 
-// Whether the same was printed.
-fn same(one: Printed, other: Printed) -> bool {
-    let a = one.out;
-    let b = other.out;
-    let mut ok = one.len == other.len;
-    let mut i: usize = 0;
-    while i < 32 {
-        ok = ok & (a[i] == b[i]);
-        i += 1;
-    }
-    ok
-}
-
 fn show(rt: &impl Print, printed: Printed) -> io::Result<()> {
-    let out = printed.out;
-    let len = printed.len;
-    if len <= 32 {
-        rt.write_all(&out[..len])?;
+    match printed.out.get(..printed.len) {
+        Some(text) => rt.write_all(text),
+        None => Ok(()),
     }
-    Ok(())
 }
 
 // Judges one record in pieces of every size.
 fn judge_record(rt: &impl Print, bytes: &[u8]) -> io::Result<()> {
-    let single = judge_in(bytes, 1);
-    let seven = judge_in(bytes, 7);
     let whole = judge_in(bytes, 65536);
-    let first = same(single, whole);
-    let second = same(seven, whole);
-    if first & second {
+    if judge_in(bytes, 1) == whole && judge_in(bytes, 7) == whole {
         show(rt, whole)
     } else {
         rt.write_all(b"pieces differ\n")
@@ -122,13 +72,13 @@ fn judge_record(rt: &impl Print, bytes: &[u8]) -> io::Result<()> {
 
 // Judges each record after the line before it.
 fn judge_all(rt: &impl Print, text: &[u8]) -> io::Result<()> {
-    let mut at: usize = 0;
-    while at < text.len() {
-        let first = line_end(text, at);
-        let last = record_end(text, first);
-        rt.write_all(&text[at..first])?;
-        judge_record(rt, &text[first..last])?;
-        at = last;
+    let mut rest = text;
+    while !rest.is_empty() {
+        let (line, after) = rest.split_at(line_end(rest));
+        let (record, next) = after.split_at(record_end(after));
+        rt.write_all(line)?;
+        judge_record(rt, record)?;
+        rest = next;
     }
     Ok(())
 }

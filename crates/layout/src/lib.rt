@@ -90,7 +90,13 @@ impl Entry for Echo {
 }
 
 // A section: its count, and the first n entries of an array.
-fn put_section<T: Entry, const N: usize>(out: &mut [u8], at: usize, w: usize, n: usize, entries: [T; N])
+fn put_section<T: Entry, const N: usize>(
+    out: &mut [u8],
+    at: usize,
+    w: usize,
+    n: usize,
+    entries: [T; N],
+)
     requires w_le_widest_number { w ≤ widest_number }
     requires n_le_places { n ≤ N }
     requires n_is_byte { n < 256 }

@@ -59,6 +59,8 @@ pub struct Counts {
 
 // A message. Of the names, reports and echoes the first places are used, as many as the counts say; `cue` is the one place for
 // a cue.
+// Kept: (a) arrays with their counts beside them, since the product has no heap; and the kind as a number, since the clause `value` of
+// writer::write promises the answer 9 to a message of a kind that is none.
 #[derive(Clone, Copy, Debug, PartialEq, Eq)]
 pub struct Message {
     pub kind: u8,
@@ -84,6 +86,7 @@ pub enum Verdict {
 }
 
 // What the reader answers: the message, or a probe or a refusal beside a message of zeros.
+// Kept: (a) the zeros are promised by the clause `value` of reader::read.
 #[derive(Clone, Copy, Debug, PartialEq, Eq)]
 pub struct Reading {
     pub verdict: Verdict,
@@ -91,6 +94,7 @@ pub struct Reading {
 }
 
 // What the writer answers: the length of what it wrote, or a refusal beside 0.
+// Kept: (a) the 0 is promised by the clause `value` of writer::write.
 #[derive(Clone, Copy, Debug, PartialEq, Eq)]
 pub struct Written {
     pub verdict: Verdict,

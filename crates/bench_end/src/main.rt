@@ -3,12 +3,12 @@
 // times both. Outputs are cleared before each call. The last clock is printed, so that no call can be left out.
 #![tactic(auto)]
 
-ghost use Rattle.std.specs.Prelude.{◌≤◌, length};
-
 use end::{Draw, End, Params};
 use message::{CueNumber, Host, Name};
 use std::env::Env;
 use std::io;
+
+static DRAWS: [Draw; 64] = [0; 64];
 
 fn opened(host: u8) -> End {
     let params = Params {
@@ -20,79 +20,58 @@ fn opened(host: u8) -> End {
         d3: 8,
         express: 0,
     };
-    let o = link::open(Host(host), params);
-    o.end
+    link::open(Host(host), params).end
 }
 
 fn member(host: u8) -> End {
-    let e = opened(host);
-    let draws: [Draw; 64] = [0; 64];
-    let mut out: [u8; 128] = [0; 128];
-    let s = link::join(e, 0, &draws, &mut out);
-    let e1 = s.end;
-    let s1 = link::joined(e1, 0, &draws, &mut out);
-    s1.end
+    let mut out = [0u8; 128];
+    let joining = link::join(opened(host), 0, &DRAWS, &mut out).end;
+    link::joined(joining, 0, &DRAWS, &mut out).end
 }
 
 fn cycle(e: End, clock: u64) -> End {
-    let draws: [Draw; 64] = [0; 64];
-    let mut out: [u8; 128] = [0; 128];
-    let s = link::join(e, clock, &draws, &mut out);
-    let e1 = s.end;
-    let s1 = link::joined(e1, clock, &draws, &mut out);
-    let e2 = s1.end;
-    let s2 = link::leave(e2, clock, &draws, &mut out);
-    let e3 = s2.end;
-    let s3 = link::left(e3, clock, &draws, &mut out);
-    s3.end
+    let mut out = [0u8; 128];
+    let joining = link::join(e, clock, &DRAWS, &mut out).end;
+    let member = link::joined(joining, clock, &DRAWS, &mut out).end;
+    let leaving = link::leave(member, clock, &DRAWS, &mut out).end;
+    link::left(leaving, clock, &DRAWS, &mut out).end
 }
 
 // m: join, joined, leave and left, in turn.
 fn moves(n: u64) -> u64 {
     let mut e = opened(0);
-    let mut i: u64 = 0;
-    while i < n {
+    for i in 0..n {
         e = cycle(e, i);
-        i += 1;
     }
     e.clock
 }
 
 fn sent(e: End, clock: u64) -> End {
-    let draws: [Draw; 64] = [0; 64];
-    let cue: [u8; 24] = [0; 24];
-    let mut out: [u8; 128] = [0; 128];
-    let s = link::send(e, clock, &draws, cue, &mut out);
-    s.end
+    let mut out = [0u8; 128];
+    link::send(e, clock, &DRAWS, [0; 24], &mut out).end
 }
 
 // s: a member sends 64 cues; then another does.
 fn sends(n: u64) -> u64 {
     let mut e = member(0);
-    let mut i: u64 = 0;
-    while i < n {
+    for i in 0..n {
         if i % 64 == 0 {
             e = member(0);
         }
         e = sent(e, i);
-        i += 1;
     }
     e.clock
 }
 
-fn heard(e: End, clock: u64, bytes: &[u8], len: usize) -> End
-    requires { len ≤ length bytes.now }
-{
-    let draws: [Draw; 64] = [0; 64];
-    let mut out: [u8; 128] = [0; 128];
-    let s = link::arrival(e, clock, &draws, &bytes[..len], &mut out);
-    s.end
+fn heard(e: End, clock: u64, bytes: &[u8]) -> End {
+    let mut out = [0u8; 128];
+    link::arrival(e, clock, &DRAWS, bytes, &mut out).end
 }
 
 // A message of host 0, sent at clock 0: a session message that reports nothing, in the first 12 bytes, or its cue of this number, all
 // zeros.
 fn message(session: bool, number: u8) -> [u8; 40] {
-    let mut bytes: [u8; 40] = [0; 40];
+    let mut bytes = [0u8; 40];
     if session {
         bytes[0] = message::SESS;
     } else {
@@ -109,14 +88,12 @@ fn message(session: bool, number: u8) -> [u8; 40] {
 fn hears(n: u64, session: bool) -> u64 {
     let len: usize = if session { 12 } else { 40 };
     let mut e = member(1);
-    let mut i: u64 = 0;
-    while i < n {
+    for i in 0..n {
         if !session & (i % 64 == 0) {
             e = member(1);
         }
         let bytes = message(session, (i % 64) as u8);
-        e = heard(e, i, &bytes, len);
-        i += 1;
+        e = heard(e, i, &bytes[..len]);
     }
     e.clock
 }
@@ -124,74 +101,55 @@ fn hears(n: u64, session: bool) -> u64 {
 // f: Fire with nothing due. x: with 63 draws, refused as 2 before the state is looked at.
 fn fires(n: u64, draws: &[Draw]) -> u64 {
     let mut e = member(0);
-    let mut i: u64 = 0;
-    while i < n {
-        let mut out: [u8; 128] = [0; 128];
-        let s = link::fire(e, i, draws, &mut out);
-        e = s.end;
-        i += 1;
+    for i in 0..n {
+        let mut out = [0u8; 128];
+        e = link::fire(e, i, draws, &mut out).end;
     }
     e.clock
 }
 
 // r: Report.
 fn reports(n: u64) -> u64 {
-    let draws: [Draw; 64] = [0; 64];
     let mut e = member(0);
-    let mut i: u64 = 0;
-    while i < n {
-        let mut out: [u8; 128] = [0; 128];
-        let s = link::report(e, i, &draws, &mut out);
-        e = s.end;
-        i += 1;
+    for i in 0..n {
+        let mut out = [0u8; 128];
+        e = link::report(e, i, &DRAWS, &mut out).end;
     }
     e.clock
 }
 
 // a: Announce, of a member that has sent a cue.
 fn announces(n: u64) -> u64 {
-    let draws: [Draw; 64] = [0; 64];
     let mut e = sent(member(0), 0);
-    let mut i: u64 = 0;
-    while i < n {
-        let mut out: [u8; 128] = [0; 128];
-        let s = link::announce(e, i, &draws, &mut out);
-        e = s.end;
-        i += 1;
+    for i in 0..n {
+        let mut out = [0u8; 128];
+        e = link::announce(e, i, &DRAWS, &mut out).end;
     }
     e.clock
 }
 
 // t: Fetch of the number below the first original, with nobody to ask.
 fn fetches(n: u64) -> u64 {
-    let draws: [Draw; 64] = [0; 64];
     let first = message(false, 5);
-    let mut e = heard(member(1), 0, &first, 40);
-    let mut i: u64 = 0;
-    while i < n {
-        let mut out: [u8; 128] = [0; 128];
+    let mut e = heard(member(1), 0, &first);
+    for i in 0..n {
+        let mut out = [0u8; 128];
         let name = Name {
             source: Host(0),
             number: CueNumber(4),
         };
-        let s = link::fetch(e, i, &draws, name, &mut out);
-        e = s.end;
-        i += 1;
+        e = link::fetch(e, i, &DRAWS, name, &mut out).end;
     }
     e.clock
 }
 
 // c: Crash, of the same member each time.
 fn crashes(n: u64) -> u64 {
-    let draws: [Draw; 64] = [0; 64];
     let e = member(0);
     let mut last: u64 = 0;
-    let mut i: u64 = 0;
-    while i < n {
-        let mut out: [u8; 128] = [0; 128];
-        let s = link::crash(e, i, &draws, &mut out);
-        last = s.end.clock;
-        i += 1;
+    for i in 0..n {
+        let mut out = [0u8; 128];
+        last = link::crash(e, i, &DRAWS, &mut out).end.clock;
     }
     last
 }
@@ -199,30 +157,28 @@ fn crashes(n: u64) -> u64 {
 // 10^d, for a digit's byte.
 fn times(d: u8) -> u64 {
     match d {
-        49 => 10,
-        50 => 100,
-        51 => 1000,
-        52 => 10000,
-        53 => 100000,
-        54 => 1000000,
+        b'1' => 10,
+        b'2' => 100,
+        b'3' => 1000,
+        b'4' => 10000,
+        b'5' => 100000,
+        b'6' => 1000000,
         _ => 1,
     }
 }
 
 fn run(kind: u8, n: u64) -> u64 {
-    let all: [Draw; 64] = [0; 64];
-    let few: [Draw; 63] = [0; 63];
     match kind {
-        109 => moves(n),
-        115 => sends(n),
-        103 => hears(n, false),
-        104 => hears(n, true),
-        102 => fires(n, &all),
-        114 => reports(n),
-        97 => announces(n),
-        116 => fetches(n),
-        99 => crashes(n),
-        _ => fires(n, &few),
+        b'm' => moves(n),
+        b's' => sends(n),
+        b'g' => hears(n, false),
+        b'h' => hears(n, true),
+        b'f' => fires(n, &DRAWS),
+        b'r' => reports(n),
+        b'a' => announces(n),
+        b't' => fetches(n),
+        b'c' => crashes(n),
+        _ => fires(n, &DRAWS[..63]),
     }
 }
 

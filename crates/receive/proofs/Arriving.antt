@@ -1,7 +1,6 @@
 -- What holds where an arrival's reports have stepped their sources, and what its last step then gives.
 use mathlib.Core.Path.{◌≡◌, sym, ap, ◌∙◌}
 use Prim.Native.Nat.{ℕ, ◌≤◌, ◌<◌}
-use native.Mathlib.Omega.{arith}
 use mathlib.Core.Bool.{true, cond, ◌||◌}
 use mathlib.Core.List.{List}
 use lib.ListN.{take}

@@ -3,7 +3,7 @@
 use mathlib.Core.Path.{◌≡◌, refl, sym, ap, ◌∙◌}
 use Prim.Native.Nat.{ℕ}
 use mathlib.Core.Bool.{Bool, true, false, cond, not, ◌&&◌, ◌||◌}
-use mathlib.Core.Option.{Option, none, some}
+use mathlib.Core.Option.{some}
 use lib.Dec.{eqb}
 use borrow.Author.Tests.{eqb-true}
 use Rattle.message.specs.Message.{DATA, RQST, REPL, XPRS, FTCH, LATE, Meaning}
@@ -15,8 +15,6 @@ use Rattle.end.specs.Parts.{Span, Closed, Open}
 use Rattle.end.specs.declared.Word.{Word}
 use Rattle.end.specs.declared.Moment.{Moment}
 use Rattle.end.specs.declared.Source.{Source}
-use Rattle.end.specs.declared.Reason.{Reason}
-use Rattle.end.specs.declared.Decision.{Decision}
 use Rattle.end.specs.declared.End.{End}
 use Rattle.end.specs.State.{source_at, distance_to, moment_of}
 use Rattle.end.specs.Decide.{known, decide_data, reached, decide_request, decide_express, decide_repair, decide_as, decide}

@@ -1,13 +1,12 @@
 -- `fetch::fetch` meets its contract: the nearest host is chosen, asked, and marked as tried.
-use mathlib.Core.Path.{◌≡◌, refl, sym, ap, subst, ◌∙◌}
+use mathlib.Core.Path.{refl, sym, ap, subst, ◌∙◌}
 use native.Mathlib.Omega.{arith}
 use Rattle.message.specs.Message.{bytes_of}
 use Rattle.end.specs.declared.Moment.{Moment}
-use Rattle.end.specs.Parts.{Nearest}
-use Rattle.end.specs.State.{source_at, with_source}
+use Rattle.end.specs.State.{with_source}
 use Rattle.end.specs.Messages.{fetch_message}
 use Rattle.end.specs.Answer.{Out, answer_of, buffer_of}
-use Rattle.end.specs.Fetch.{fetch_of, may_fetch}
+use Rattle.end.specs.Fetch.{fetch_of}
 use Rattle.compose.proofs.PutLaws.{Answers}
 use Rattle.compose.proofs.GiveLaws.{leaves}
 use Rattle.fetch.proofs.FetchLaws.{Hosted, nearest_hosted, fetched-host, none-tried, one-tried}

@@ -1,5 +1,5 @@
 -- `fetch::hand_late` meets its contract: the test is the definition's.
-use mathlib.Core.Path.{refl, sym, ◌∙◌}
+use mathlib.Core.Path.{sym, ◌∙◌}
 use Rattle.numbers.proofs.SpliceLaws.{splice-start}
 use Rattle.end.specs.Answer.{answer_of, buffer_of}
 use Rattle.fetch.proofs.hand_late.Goals as goal

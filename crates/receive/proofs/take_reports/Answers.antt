@@ -4,8 +4,6 @@ use Prim.Native.Nat.{◌<◌}
 use native.Mathlib.Omega.{arith}
 use lib.ListN.{length, take, get_or}
 use lib.Seq.{take-length}
-use Rattle.message.specs.declared.Report.{Report}
-use Rattle.message.specs.Limit.{number_limit}
 use Rattle.message.specs.Entry.{blank_report}
 use Rattle.message.specs.Question.{report_in}
 use Rattle.end.specs.Session.{all_reported}

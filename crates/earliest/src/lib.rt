@@ -10,7 +10,7 @@ ghost use Rattle.end.specs.Ready.{SpanIn};
 ghost use Rattle.end.specs.Fire.{before, earlier, due_at, offered, earliest_name, earliest};
 ghost use Rattle.state.specs.Settled.{Settled};
 
-use end::{Earliest, End, Rank, Slot, Source, Wait};
+use end::{EXPRESS, Earliest, End, REPLY, REQUEST, Slot, Source, Wait};
 use message::{CueNumber, Host, Name};
 
 // A wait comes before another if it is due earlier, or at the same time and has the lower rank.
@@ -31,7 +31,7 @@ fn earlier_of(best: Earliest, w: Wait) -> Earliest
 }
 
 // A wait joins the comparison once it is due.
-fn if_due(name: Name, clock: u64, rank: Rank, due: u64, best: Earliest) -> Earliest
+fn if_due(name: Name, clock: u64, rank: u8, due: u64, best: Earliest) -> Earliest
     ensures { result ≡ due_at name clock rank due best }
 {
     if due <= clock {
@@ -47,11 +47,11 @@ fn offer(name: Name, clock: u64, slot: Slot, best: Earliest) -> Earliest
 {
     match slot {
         Slot::Empty | Slot::Held(None) => best,
-        Slot::Held(Some((due, _))) => if_due(name, clock, Rank::Repl, due, best),
-        Slot::Waiting(q, None) => if_due(name, clock, Rank::Rqst, q.due, best),
+        Slot::Held(Some((due, _))) => if_due(name, clock, REPLY, due, best),
+        Slot::Waiting(q, None) => if_due(name, clock, REQUEST, q.due, best),
         Slot::Waiting(q, Some(due)) => {
-            let soon = if_due(name, clock, Rank::Xprs, due, best);
-            if_due(name, clock, Rank::Rqst, q.due, soon)
+            let soon = if_due(name, clock, EXPRESS, due, best);
+            if_due(name, clock, REQUEST, q.due, soon)
         }
     }
 }

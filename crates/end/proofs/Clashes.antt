@@ -25,7 +25,7 @@ use Rattle.end.specs.Answer.{Effect, Out, Got, Done, Ignored, Nothing, Clash, La
 use Rattle.end.specs.Decide.{same_cue, decide, known, apply, effect_of, step_by, step_at}
 use Rattle.end.specs.Session.{session_of}
 use Rattle.end.specs.Arrival.{message_name, word_of, word_step, message_step, arrival_of}
-use Rattle.end.specs.Fire.{express_rank, number_of, fire_at, fired, earliest}
+use Rattle.end.specs.Fire.{express_rank, fire_at, fired, earliest}
 use Rattle.end.specs.Fetch.{may_fetch, nearest, try_of, fetch_of, may_answer, fetched_of, may_hand, late_of}
 use Rattle.end.specs.Event.{Other, Fire, Report, Announce, Fetch, announced, Action, Moves, Send, Arrival, Else, moves, move_of, other_of, if_member, act_of, step_of}
 use Rattle.end.specs.Clashes.{SameCueIsSameBytes, named_record, Clashing}
@@ -80,7 +80,7 @@ fire-calm us rank name e (Held (Due due k)) = refl
 fired-calm : (us : List ℕ) (e : End) (x : Earliest) → is_clash (fired us e x).effect ≡ false
 unfolding fired
 fired-calm us e NoWait = refl
-fired-calm us e (First w) = fire-calm us (number_of w.rank) w.name e _
+fired-calm us e (First w) = fire-calm us w.rank w.name e _
 
 try_calm : (name : Name) (e : End) (x : Nearest) → is_clash (try_of name e x).effect ≡ false
 unfolding try_of

@@ -25,7 +25,7 @@ use Rattle.end.specs.Decide.{decide, known, effect_of, step_at}
 use Rattle.end.specs.Session.{session_of}
 use Rattle.end.specs.Fetch.{may_fetch, nearest, try_of, fetch_of, may_answer, fetched_of, may_hand, hands_late, late_of}
 use Rattle.end.specs.Arrival.{message_name, message_cue, word_of, word_step, message_step, arrival_of}
-use Rattle.end.specs.Fire.{express_rank, number_of, fire_at, fired, earliest}
+use Rattle.end.specs.Fire.{express_rank, fire_at, fired, earliest}
 use Rattle.end.specs.Event.{Other, Fire, Report, Announce, Fetch, announced, Action, Moves, Send, Arrival, Else, moves, move_of, other_of, if_member, act_of, step_of}
 use Rattle.end.proofs.Tools.{by_cond, clash}
 
@@ -58,7 +58,7 @@ fire-plain us rank name e (Held (Due due k)) = refl
 fired-plain : (us : List ℕ) (e : End) (x : Earliest) → Plain (fired us e x)
 unfolding fired
 fired-plain us e NoWait = refl
-fired-plain us e (First w) = fire-plain us (number_of w.rank) w.name e _
+fired-plain us e (First w) = fire-plain us w.rank w.name e _
 
 try_plain : (name : Name) (e : End) (x : Nearest) → Plain (try_of name e x)
 unfolding try_of

@@ -38,7 +38,7 @@ use Rattle.end.specs.Decide.{number, known, decide, effect_of, step_at}
 use Rattle.end.specs.Reasons.{name_reasons, reasons, first_that, reason_of}
 use Rattle.end.specs.Session.{session_of}
 use Rattle.end.specs.Arrival.{word_of, named_in, message_step, arrival_of}
-use Rattle.end.specs.Fire.{express_rank, number_of, fire_at, fired, earliest}
+use Rattle.end.specs.Fire.{express_rank, fire_at, fired, earliest}
 use Rattle.end.specs.Fetch.{may_fetch, nearest, try_of, fetch_of, may_answer, fetched_of, may_hand, late_of}
 use Rattle.end.specs.Event.{Other, Fire, Report, Announce, Fetch, announced, Action, Moves, Send, Arrival, Else, moves, move_of, other_of, hearing_of, act_of, step_of, question_of, event_of}
 use Rattle.end.specs.Why.{wrong_status, is_own, own_message, named_of, named_by, holds_of, no_fetch_in, no_fetch_of, no_fetch_for, no_fetch, reason_holds, refused_as, because, why_of, reason_number, is_ignored, ReasonIsFirst, NoneHolds, NumberExactly, ReasonExactly, NoneExactly}
@@ -233,9 +233,9 @@ unfolding fired fire_at
 fire-at us e NoWait = refl
 fire-at us e (First w) = go (record_at (source_at e w.name.source) w.name.number.0).slot
   where
-    go : (slot : Slot) → is_ignored (fire_at us (number_of w.rank) w.name e slot).effect ≡ false
+    go : (slot : Slot) → is_ignored (fire_at us w.rank w.name e slot).effect ≡ false
     go Empty = refl
-    go (Waiting q x) = by_cond (λ (r : Step). is_ignored r.effect ≡ false) (eqb (number_of w.rank) express_rank) (λ _. refl) (λ _. refl)
+    go (Waiting q x) = by_cond (λ (r : Step). is_ignored r.effect ≡ false) (eqb w.rank express_rank) (λ _. refl) (λ _. refl)
     go (Held No) = refl
     go (Held (Due due requester)) = refl
 

@@ -13,8 +13,6 @@ use Rattle.end.specs.Parts.{Express, Unset, Soon, Pair, NoPair, Kept, No, Due, E
 use Rattle.end.specs.declared.Source.{Source}
 use Rattle.end.specs.declared.End.{End}
 use Rattle.end.specs.declared.Wait.{Wait}
-use Rattle.end.specs.declared.Rank.{Rank}
-use Rattle.end.specs.declared.Rank.TheVariants.{Xprs, Rqst, Repl}
 use Rattle.end.specs.State.{no_source, source_at, distance_to, moment_of, on_source}
 use Rattle.end.specs.Records.{start, width, record_at}
 use Rattle.end.specs.Round.{next_round}
@@ -37,15 +35,9 @@ request_rank = 1
 abbrev pub reply_rank : ℕ
 reply_rank = 2
 
--- the rank's number
-abbrev pub number_of : Rank → ℕ
-number_of Xprs = express_rank
-number_of Rqst = request_rank
-number_of Repl = reply_rank
-
 -- a wait comes before another if it is due earlier, or at the same time and has the lower rank
 abbrev pub before : Wait → Wait → Bool
-before w v = ltb w.due v.due || (eqb w.due v.due && ltb (number_of w.rank) (number_of v.rank))
+before w v = ltb w.due v.due || (eqb w.due v.due && ltb w.rank v.rank)
 
 -- the earlier of the earliest so far and a wait. The names are gone through by rising source and number, so of two waits that do
 -- not come before each other the one met first, of the lower source and number, stays
@@ -54,19 +46,19 @@ earlier NoWait w = First w
 earlier (First v) w = cond (before w v) (First w) (First v)
 
 -- a wait of a name counts once it is due
-abbrev pub due_at : Name → ℕ → Rank → ℕ → Earliest → Earliest
+abbrev pub due_at : Name → ℕ → ℕ → ℕ → Earliest → Earliest
 due_at name clock rank due best = cond (leb due clock) (earlier best (record { due = due; rank = rank; name = name })) best
 
 abbrev pub express_at : Name → ℕ → Express → Earliest → Earliest
 express_at name clock Unset best = best
-express_at name clock (Soon due) best = due_at name clock Xprs due best
+express_at name clock (Soon due) best = due_at name clock express_rank due best
 
 -- what a record has waiting: its request, beside it perhaps an express wait, or the reply of a held cue
 abbrev pub offered : Name → ℕ → Slot → Earliest → Earliest
 offered name clock Empty best = best
-offered name clock (Waiting q x) best = due_at name clock Rqst q.due (express_at name clock x best)
+offered name clock (Waiting q x) best = due_at name clock request_rank q.due (express_at name clock x best)
 offered name clock (Held No) best = best
-offered name clock (Held (Due due requester)) best = due_at name clock Repl due best
+offered name clock (Held (Due due requester)) best = due_at name clock reply_rank due best
 
 -- of the first k of a source's numbers first..last
 abbrev pub earliest_name : Host → ℕ → Source → Earliest → ℕ → Earliest
@@ -96,7 +88,7 @@ fire_at us rank name e (Held (Due due requester)) =
 
 unfoldable pub fired : List ℕ → End → Earliest → Step
 fired us e NoWait = give Nothing e
-fired us e (First w) = fire_at us (number_of w.rank) w.name e (record_at (source_at e w.name.source) w.name.number.0).slot
+fired us e (First w) = fire_at us w.rank w.name e (record_at (source_at e w.name.source) w.name.number.0).slot
 
 abbrev pub fire_of : List ℕ → End → Step
 fire_of us e = fired us e (earliest e 8)

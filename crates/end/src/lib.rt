@@ -235,21 +235,20 @@ pub enum Answer {
     Exhausted,
 }
 
-// What goes out when a wait is over, in the order of waits that are due at one time: an express request, a request, a reply.
-#[derive(Clone, Copy, Debug, PartialEq, Eq, PartialOrd, Ord)]
-pub enum Rank {
-    Xprs,
-    Rqst,
-    Repl,
-}
-
-// A wait that is due, as Fire compares it: its rank among waits due at one time, and for which name.
+// Kept: (a) the theorems on what Fire chooses (guarantees: Waits.antt `sooner` and `level`, Fires.antt `kind_for`) take a rank as a number.
+// A wait that is due, as Fire compares it: its rank among waits due at one time (express, request, reply), and for which name.
 #[derive(Clone, Copy)]
 pub struct Wait {
     pub due: u64,
-    pub rank: Rank,
+    pub rank: u8,
     pub name: Name,
 }
+
+pub const EXPRESS: u8 = 0;
+
+pub const REQUEST: u8 = 1;
+
+pub const REPLY: u8 = 2;
 
 // The earliest wait found so far.
 pub type Earliest = Option<Wait>;

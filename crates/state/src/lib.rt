@@ -5,7 +5,7 @@
 ghost use Rattle.std.specs.Prelude.{◌≡◌, ◌+◌, ◌≤◌, ◌<◌};
 ghost use Rattle.message.specs.Limit.{number_limit};
 ghost use Rattle.end.specs.State.{no_attempt, moment_of, is_member, is_crashed};
-ghost use Rattle.end.specs.State.{with_span, with_heard, with_distance, with_clock, with_status};
+ghost use Rattle.end.specs.State.{with_heard, with_distance, with_clock, with_status};
 ghost use Rattle.end.specs.Records.{start, width, place, is_held, reply_in, with_reply, express_in, with_express};
 ghost use Rattle.end.specs.Records.{within, is_below, is_above, fetchable, attempt_at, with_attempt};
 ghost use Rattle.end.specs.Ready.{SpanIn};
@@ -196,12 +196,6 @@ pub fn moment_of(e: End) -> Moment
         params: e.params,
         clock: e.clock,
     }
-}
-
-pub fn with_span(s: Source, span: Span) -> Source
-    ensures { result ≡ with_span s span }
-{
-    Source { span, ..s }
 }
 
 // A host was heard, and the distance to it measured.

@@ -11,7 +11,7 @@ ghost use Rattle.end.specs.Fire.{kept_sender, fired, fire_of};
 ghost use Rattle.end.specs.Event.{Report, announce_of, other_of};
 ghost use Rattle.transmit.specs.Given.{Firing, FiringOf, Reporting};
 
-use end::{Answer, Draw, End, Pair, Rank, Slot, Wait};
+use end::{Answer, Draw, EXPRESS, End, Pair, Slot, Wait};
 use message::{Host, REPL, RQST, XPRS};
 
 // ---- Fire
@@ -37,16 +37,16 @@ fn fire_wait(e: &mut End, draws: &[Draw], w: Wait, out: &mut [u8]) -> Answer
     let r = records::record_at(s, n);
     match r.slot {
         Slot::Empty => Answer::Nothing,
-        Slot::Waiting(q, _) => match w.rank {
-            Rank::Xprs => {
+        Slot::Waiting(q, _) => {
+            let rank = w.rank;
+            if rank == EXPRESS {
                 e.sources[at] = records::drop_express(s, n);
                 compose::put_name(XPRS, t, w.name, kept_sender(s.pair), None, out)
-            }
-            Rank::Rqst | Rank::Repl => {
+            } else {
                 e.sources[at] = records::set_round(s, t, draws, n, timing::next_round(q.round));
                 compose::put_name(RQST, t, w.name, t.me, None, out)
             }
-        },
+        }
         Slot::Held(reply) => {
             let Some((_, requester)) = reply else {
                 return Answer::Nothing;

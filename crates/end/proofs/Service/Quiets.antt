@@ -36,7 +36,7 @@ use Rattle.end.specs.Messages.{about_name, request_message, repair_message, expr
 use Rattle.end.specs.Session.{reported_source, all_reported, heard_from, session_of}
 use Rattle.end.specs.Fetch.{may_fetch, nearest, try_of, fetch_of, may_answer, fetched_of, may_hand, late_of}
 use Rattle.end.specs.Arrival.{message_name, message_host, message_cue}
-use Rattle.end.specs.Fire.{express_rank, number_of, kept_sender, fire_at, fired, earliest}
+use Rattle.end.specs.Fire.{express_rank, kept_sender, fire_at, fired, earliest}
 use Rattle.end.specs.Event.{Other, Fire, Report, Announce, Fetch, announced, other_of}
 use Rattle.end.specs.Book.{read_as, source, number, is_about_name, reported_to, brought_to, not_below, is_got}
 use Rattle.end.proofs.Tools.{by_cond, by_test, clash, clash', and_right, set_elim}
@@ -173,7 +173,7 @@ module _ (us : List ℕ) (e : End) (f : Facts e) (name : Name) where
 fired-quiet : (us : List ℕ) (e : End) → Facts e → (x : Earliest) → Quiet e (fired us e x)
 unfolding fired
 fired-quiet us e f NoWait = nothing-quiet e
-fired-quiet us e f (First w) = fire-quiet us e f w.name (number_of w.rank) _ refl
+fired-quiet us e f (First w) = fire-quiet us e f w.name w.rank _ refl
 
 -- ---- Fetch, and the kinds 22 and 23: what was done to fetch a number is none of the service's business
 

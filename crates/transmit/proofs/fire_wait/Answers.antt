@@ -21,8 +21,8 @@ returns-in-Empty c =
     rw (empty-fired c.args.draws.now c.args.e.now c.args.w (sym (ap (λ (r : Record). r.slot) c.record_at-r.ensures) ∙ c.in-Empty.is))
     (record { value = refl; out_after = refl })
 
-pub returns-in-Xprs : goal.returns-in-Xprs
-returns-in-Xprs c =
+pub returns-then-rank-eq-EXPRESS : goal.returns-then-rank-eq-EXPRESS
+returns-then-rank-eq-EXPRESS c =
     let e = c.args.e.now in
     let w = c.args.w in
     let out = c.args.out.now in
@@ -32,7 +32,7 @@ returns-in-Xprs c =
     let said = subst (λ (t : Moment). Answers (Out (bytes_of (express_message t w.name c.kept_sender.result))) r out last) c.moment_of-t.ensures
     (c.put_name.ensures.value, c.put_name.ensures.out_after) in
     let it = leaves r (with_source e w.name.source c.drop_express.result) out last
-    (express-fired c.args.draws.now e w _ _ slot c.in-Xprs.is)
+    (express-fired c.args.draws.now e w _ _ slot c.if-rank-eq-EXPRESS.true)
     (subst (λ (h : Host). Answers (Out (bytes_of (express_message (moment_of e) w.name h))) r out last) c.kept_sender.ensures said)
     (ap (with_source e w.name.source) c.drop_express.ensures) in
     record { value = it.0; out_after = it.1 }
@@ -41,19 +41,19 @@ pub set_round-requires-clause-ranges : goal.set_round-requires-clause-ranges
 set_round-requires-clause-ranges c =
     rw c.moment_of-t.ensures (ranges c.args.e.now c.requires.firing.settled.ready c.args.w.name.source c.requires.source)
 
-pub returns-in-Rqst : goal.returns-in-Rqst
-returns-in-Rqst c =
+pub returns-else-rank-eq-EXPRESS : goal.returns-else-rank-eq-EXPRESS
+returns-else-rank-eq-EXPRESS c =
     let e = c.args.e.now in
     let w = c.args.w in
     let us = c.args.draws.now in
     let out = c.args.out.now in
-    let r = c.put_name-in-Rqst.result in
-    let last = c.put_name-in-Rqst.new.out in
+    let r = c.put_name-else-rank-eq-EXPRESS.result in
+    let last = c.put_name-else-rank-eq-EXPRESS.new.out in
     let slot = sym (ap (λ (x : Record). x.slot) c.record_at-r.ensures) ∙ c.in-Waiting.is in
     let it = leaves r (with_source e w.name.source c.set_round.result) out last
-    (request-fired us e w _ _ slot c.in-Rqst.is)
+    (request-fired us e w _ _ slot c.if-rank-eq-EXPRESS.false)
     (subst (λ (t : Moment). Answers (Out (bytes_of (request_message t w.name))) r out last) c.moment_of-t.ensures
-    (c.put_name-in-Rqst.ensures.value, c.put_name-in-Rqst.ensures.out_after))
+    (c.put_name-else-rank-eq-EXPRESS.ensures.value, c.put_name-else-rank-eq-EXPRESS.ensures.out_after))
     (ap (with_source e w.name.source)
     (c.set_round.ensures ∙ λ i. set_round (c.moment_of-t.ensures i) us w.name.number.0 (c.next_round.ensures i) (source_at e w.name.source))) in
     record { value = it.0; out_after = it.1 }

@@ -3,170 +3,89 @@
 // is printed must be the same. The input, and what one script prints, has at most 16384 bytes. What the scripts of the stored run are for is in SCRIPTS.md.
 #![tactic(auto)]
 
-ghost use Rattle.std.specs.Prelude.{◌≡◌, ◌≤◌, ◌<◌, length, IfOk};
+ghost use Rattle.std.specs.Prelude.{◌+◌, ◌≡◌, ◌≤◌, ◌<◌, length, IfOk};
 
-use interpreter::Playing;
 use std::io;
 use std::io::Read;
 
-// Where a script stands after a piece: how much of it is taken, and how much is printed.
+// What a script printed.
+// Kept: a buffer with a length beside it, since no script's output may be lost for want of memory: the two have a place from the start.
 #[derive(Clone, Copy)]
-struct Reached {
-    playing: Playing,
-    at: usize,
-    used: usize,
+struct Printed {
+    bytes: [u8; 16384],
+    len: usize,
 }
 
-// So many bytes further, or at the end where there are fewer.
-fn further(at: usize, n: usize, end: usize) -> usize
-    requires { at ≤ end }
-    ensures lower_bound { at ≤ result }
-    ensures upper_bound { result ≤ end }
-{
-    if n <= end - at { at + n } else { end }
-}
-
-// Where the line ends that starts at `from`: after its line feed, or at the end of the bytes.
-fn line_end(text: &[u8], from: usize) -> usize
-    requires { from < length text.now }
-    ensures lower_bound { from < result }
-    ensures upper_bound { result ≤ length text.now }
-{
-    let mut at = from;
-    while at + 1 < text.len() {
-        if text[at] == b'\n' {
-            break;
+impl Printed {
+    fn new() -> Self {
+        Printed {
+            bytes: [0; 16384],
+            len: 0,
         }
-        at += 1;
     }
-    at + 1
-}
 
-// Whether the bytes from a place on start with `next`.
-fn is_next(text: &[u8], at: usize) -> bool
-    requires { at < length text.now }
-{
-    if text.len() - at < 4 {
-        return false;
+    fn as_slice(&self) -> &[u8] {
+        &self.bytes[..self.len.min(16384)]
     }
-    (text[at] == b'n') & (text[at + 1] == b'e') & (text[at + 2] == b'x') & (text[at + 3] == b't')
-}
 
-// Where the script ends that starts at `from`: before the next line that starts with `next`, or at the end of the bytes.
-fn script_end(text: &[u8], from: usize) -> usize
-    requires { from ≤ length text.now }
-    ensures lower_bound { from ≤ result }
-    ensures upper_bound { result ≤ length text.now }
-{
-    let mut at = from;
-    let mut starts = true;
-    while at < text.len() {
-        if starts & is_next(text, at) {
-            break;
+    // Adds bytes where there is room for them.
+    fn add(&mut self, more: &[u8]) {
+        let from = self.len.min(16384);
+        if more.len() <= 16384 - from {
+            self.bytes[from..from + more.len()].copy_from_slice(more);
+            self.len = from + more.len();
         }
-        starts = text[at] == b'\n';
-        at += 1;
-    }
-    at
-}
-
-// Plays the next piece of a script, and adds what it prints to what is printed so far.
-fn step(
-    from: Playing,
-    script: &[u8],
-    at: usize,
-    size: usize,
-    printed: &mut [u8],
-    used: usize,
-) -> Reached
-    requires at_in_bounds { at ≤ length script.now }
-    requires used_in_bounds { used ≤ length printed.old }
-    ensures at_in_bounds_2 { result.at ≤ length script.now }
-    ensures used_in_bounds_2 { result.used ≤ length printed.old }
-    ensures printed_len_unchanged { length printed.new ≡ length printed.old }
-{
-    let until = further(at, size, script.len());
-    let mut out = [0u8; 4096];
-    let fed = interpreter::feed(from, &script[at..until], &mut out);
-    let playing = fed.playing;
-    let n = fed.used;
-    let next = further(at, fed.taken, script.len());
-    if printed.len() - used < n {
-        return Reached {
-            playing,
-            at: next,
-            used,
-        };
-    }
-    numbers::put_bytes(printed, used, &out[..n]);
-    Reached {
-        playing,
-        at: next,
-        used: used + n,
     }
 }
 
-// Plays a script in pieces of so many bytes, and answers how many bytes it printed. A call takes at least a byte of what is left.
-fn play_in(script: &[u8], size: usize, printed: &mut [u8]) -> usize
-    ensures { result ≤ length printed.old }
+// The first line, with its line feed where it has one, and what comes after it.
+fn split_line(text: &[u8]) -> (&[u8], &[u8])
+    requires { 0 < length text.now }
+    ensures { length result.1.now < length text.now }
 {
+    let end = text
+        .iter()
+        .position(|b| *b == b'\n')
+        .map_or(text.len(), |i| i + 1);
+    text.split_at(end)
+}
+
+// The script that the text starts with, which ends before the next line that starts with `next`, and what comes after it.
+fn split_script(text: &[u8]) -> (&[u8], &[u8])
+    ensures { length result.1.now ≤ length text.now }
+{
+    let mut rest = text;
+    while !rest.is_empty() && !rest.starts_with(b"next") {
+        rest = split_line(rest).1;
+    }
+    text.split_at(text.len() - rest.len())
+}
+
+// Plays a script in pieces of so many bytes. A call takes at least a byte of what is left.
+fn play_in(script: &[u8], size: usize) -> Printed {
+    let mut printed = Printed::new();
     let mut playing = interpreter::opened();
-    let mut at: usize = 0;
-    let mut used: usize = 0;
-    let mut turns = script.len();
-    while 0 < turns {
-        turns -= 1;
-        let stepped = step(playing, script, at, size, printed, used);
-        at = stepped.at;
-        used = stepped.used;
-        playing = stepped.playing;
+    let mut rest = script;
+    for _ in script {
+        let mut out = [0u8; 4096];
+        let fed = interpreter::feed(playing, &rest[..size.min(rest.len())], &mut out);
+        printed.add(&out[..fed.used]);
+        rest = &rest[fed.taken..];
+        playing = fed.playing;
     }
     let mut last = [0u8; 4];
     let n = interpreter::finish(playing, &mut last);
-    if printed.len() - used < n {
-        return used;
-    }
-    numbers::put_bytes(printed, used, &last[..n]);
-    used + n
-}
-
-// Whether the first bytes of two buffers are the same.
-fn same(a: &[u8], b: &[u8], n: usize) -> bool {
-    if a.len() < n {
-        return false;
-    }
-    if b.len() < n {
-        return false;
-    }
-    let mut i: usize = 0;
-    while i < n {
-        if a[i] != b[i] {
-            return false;
-        }
-        i += 1;
-    }
-    true
-}
-
-fn show(rt: &impl Print, bytes: &[u8], n: usize) -> io::Result<()> {
-    if n <= bytes.len() {
-        rt.write_all(&bytes[..n])?;
-    }
-    Ok(())
+    printed.add(&last[..n]);
+    printed
 }
 
 // Plays one script, and prints what it gives in pieces of every size.
 fn play_script(rt: &impl Print, script: &[u8]) -> io::Result<()> {
-    let mut single = [0u8; 16384];
-    let mut seven = [0u8; 16384];
-    let mut whole = [0u8; 16384];
-    let a = play_in(script, 1, &mut single);
-    let b = play_in(script, 7, &mut seven);
-    let c = play_in(script, 16384, &mut whole);
-    let first = same(&single, &whole, c);
-    let second = same(&seven, &whole, c);
-    if (a == c) & (b == c) & first & second {
-        show(rt, &whole, c)
+    let whole = play_in(script, 16384);
+    let single = play_in(script, 1);
+    let seven = play_in(script, 7);
+    if single.as_slice() == whole.as_slice() && seven.as_slice() == whole.as_slice() {
+        rt.write_all(whole.as_slice())
     } else {
         rt.write_all(b"pieces differ\n")
     }
@@ -174,13 +93,13 @@ fn play_script(rt: &impl Print, script: &[u8]) -> io::Result<()> {
 
 // Plays each script after the line before it.
 fn play_all(rt: &impl Print, text: &[u8]) -> io::Result<()> {
-    let mut at: usize = 0;
-    while at < text.len() {
-        let first = line_end(text, at);
-        let last = script_end(text, first);
-        rt.write_all(&text[at..first])?;
-        play_script(rt, &text[first..last])?;
-        at = last;
+    let mut rest = text;
+    while !rest.is_empty() {
+        let (line, after) = split_line(rest);
+        let (script, next) = split_script(after);
+        rt.write_all(line)?;
+        play_script(rt, script)?;
+        rest = next;
     }
     Ok(())
 }

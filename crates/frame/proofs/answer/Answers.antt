@@ -1,17 +1,14 @@
 -- `frame::answer` meets its contract: refused, crashed, taken or not.
 use mathlib.Core.Path.{◌≡◌, sym, ap, subst, ◌∙◌}
-use mathlib.Core.Bool.{Bool, true, false}
-use mathlib.Core.List.{List}
-use Prim.Native.Nat.{ℕ}
+use mathlib.Core.Bool.{true}
 use lib.ListN.{length}
 use Rattle.message.specs.declared.Reading.{Reading}
 use Rattle.message.specs.Message.{meaning_of}
 use Rattle.end.specs.declared.Event.{Event}
 use Rattle.end.specs.State.{with_clock}
 use Rattle.end.specs.Answer.{Step, Did, done, called_of, buffer_of}
-use Rattle.end.specs.Event.{action_of, question_of}
 use Rattle.questions.specs.Read.{ReadAs}
-use Rattle.taking.specs.Taking.{reading_for, is_probe, taken_as, takes}
+use Rattle.taking.specs.Taking.{is_probe, taken_as, takes}
 use Rattle.taking.proofs.ReadingLaws.{read_verdict, counts_as}
 use Rattle.acting.specs.Acting.{acted, Acting}
 use Rattle.frame.proofs.CallLaws.{refused, crashed, rested, given, taken}

@@ -1,6 +1,7 @@
 // The calls of a panel's software in C: the reader's verdict, the writer for DATA and the cue test, as plain numbers and byte buffers.
 // The crate panel_c exports them; the C header is panel/panel.h at the repository's root. A buffer comes from C as a pointer and a length.
 // What they promise is in specs/Answers.antt. They ask nothing of their caller but buffers of the lengths that it says.
+// Kept: (a) the answers are numbers, 0 or a refusal, as the header panel.h has them (panel_verdict, panel_cue_test, panel_write_data).
 #![tactic(auto)]
 
 ghost use Rattle.std.specs.Prelude.{◌≡◌, length};

@@ -10,8 +10,6 @@ use borrow.Author.Tests.{ltb-true, ltb-false, leb-true, leb-false, le-leb, lt-le
 use Rattle.message.specs.declared.Host.{Host}
 use Rattle.message.specs.declared.Name.{Name}
 use Rattle.message.specs.Entry.{as_host, as_number}
-use Rattle.end.specs.declared.Rank.{Rank}
-use Rattle.end.specs.declared.Rank.TheVariants.{Xprs, Rqst, Repl}
 use Rattle.end.specs.declared.Slot.{Slot}
 use Rattle.end.specs.declared.Slot.TheVariants.{Empty, Held, Waiting}
 use Rattle.end.specs.Parts.{Express, Unset, Soon, No, Due, Earliest, NoWait, First}
@@ -23,7 +21,7 @@ use Rattle.end.specs.declared.Wait.{Wait}
 use Rattle.end.specs.State.{no_source, with_clock, is_member, is_crashed}
 use Rattle.end.specs.Records.{start, width, record_at}
 use Rattle.end.specs.Answer.{Nothing, Ignored, give, done}
-use Rattle.end.specs.Fire.{fold_up, before, earlier, due_at, express_at, offered, earliest_name, earliest, fired, fire_of}
+use Rattle.end.specs.Fire.{fold_up, before, earlier, due_at, express_at, offered, earliest_name, earliest, fired, fire_of, request_rank, express_rank, reply_rank}
 use Rattle.end.specs.Event.{Else, Fire, act_of, step_of, question_of, event_of}
 use Rattle.end_due.specs.Due.{never, least, express_due, slot_due, names_due, sources_due, next_due}
 
@@ -49,26 +47,26 @@ found : (y : Earliest) (w : Wait) → is_first (earlier y w) ≡ true
 found NoWait w = refl
 found (First v) w = either (before w v) w v
 
-due-case : (name : Name) (clock : ℕ) (rank : Rank) (due m : ℕ) (y : Earliest) (t : Bool) → leb due clock ≡ t → is_first y ≡ leb m clock
+due-case : (name : Name) (clock rank due m : ℕ) (y : Earliest) (t : Bool) → leb due clock ≡ t → is_first y ≡ leb m clock
     → is_first (cond t (earlier y (record { due = due; rank = rank; name = name })) y) ≡ leb (least due m) clock
 due-case name clock rank due m y true e h =
     found y (record { due = due; rank = rank; name = name }) ∙ sym (low due m clock (ltb due m) refl (leb-true due clock e))
 due-case name clock rank due m y false e h = h ∙ sym (high due m clock (ltb due m) refl (leb-false due clock e))
 
-due-step : (name : Name) (clock : ℕ) (rank : Rank) (due m : ℕ) (y : Earliest) → is_first y ≡ leb m clock → is_first (due_at name clock rank due y) ≡ leb (least due m) clock
+due-step : (name : Name) (clock rank due m : ℕ) (y : Earliest) → is_first y ≡ leb m clock → is_first (due_at name clock rank due y) ≡ leb (least due m) clock
 due-step name clock rank due m y h = due-case name clock rank due m y (leb due clock) refl h
 
 express-step : (name : Name) (clock m : ℕ) (x : Express) (y : Earliest) → is_first y ≡ leb m clock
     → is_first (express_at name clock x y) ≡ leb (express_due x m) clock
 express-step name clock m Unset y h = h
-express-step name clock m (Soon due) y h = due-step name clock Xprs due m y h
+express-step name clock m (Soon due) y h = due-step name clock express_rank due m y h
 
 slot_step : (name : Name) (clock m : ℕ) (s : Slot) (y : Earliest) → is_first y ≡ leb m clock → is_first (offered name clock s y) ≡ leb (slot_due s m) clock
 slot_step name clock m Empty y h = h
 slot_step name clock m (Waiting q x) y h =
-    due-step name clock Rqst q.due (express_due x m) (express_at name clock x y) (express-step name clock m x y h)
+    due-step name clock request_rank q.due (express_due x m) (express_at name clock x y) (express-step name clock m x y h)
 slot_step name clock m (Held No) y h = h
-slot_step name clock m (Held (Due due requester)) y h = due-step name clock Repl due m y h
+slot_step name clock m (Held (Due due requester)) y h = due-step name clock reply_rank due m y h
 
 names-step : (h : Host) (clock : ℕ) (s : Source) (m : ℕ) (y : Earliest) (k : ℕ) → is_first y ≡ leb m clock
     → is_first (earliest_name h clock s y k) ≡ leb (names_due s m k) clock

@@ -59,13 +59,13 @@ pub fn named(kind: u64, n: Name) -> u64
 pub fn narrow8(n: u64) -> u8
     ensures { result ≡ min n 255 }
 {
-    if n < 255 { n as u8 } else { 255 }
+    n.min(255) as u8
 }
 
 pub fn narrow16(n: u64) -> u16
     ensures { result ≡ min n 65535 }
 {
-    if n < 65535 { n as u16 } else { 65535 }
+    n.min(65535) as u16
 }
 
 pub fn host_of(n: u64) -> Host
@@ -99,15 +99,5 @@ pub fn number_of(a: Answer) -> u64
 pub fn is_refused(a: Answer) -> bool
     ensures { result ≡ is_refused a }
 {
-    match a {
-        Answer::Refused(_) => true,
-        Answer::Out(_) => false,
-        Answer::Got(_) => false,
-        Answer::Done => false,
-        Answer::Ignored => false,
-        Answer::Nothing => false,
-        Answer::Clash(_) => false,
-        Answer::Late(_) => false,
-        Answer::Exhausted => false,
-    }
+    matches!(a, Answer::Refused(_))
 }

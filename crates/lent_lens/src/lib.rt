@@ -21,22 +21,20 @@ const LONGEST: usize = 32;
 fn date_of(year: u64, month: u64, day: u64) -> Date
     ensures { result ≡ date_of year month day }
 {
-    let y = narrow16(year);
-    let m = narrow8(month);
-    let d = narrow8(day);
     Date {
-        year: y,
-        month: m,
-        day: d,
+        year: narrow16(year),
+        month: narrow8(month),
+        day: narrow8(day),
     }
 }
 
 fn moment_of(year: u64, month: u64, day: u64, minute: u64) -> Moment
     ensures { result ≡ moment_of year month day minute }
 {
-    let date = date_of(year, month, day);
-    let k = narrow16(minute);
-    Moment { date, minute: k }
+    Moment {
+        date: date_of(year, month, day),
+        minute: narrow16(minute),
+    }
 }
 
 // The window of the eight numbers from a place on: first year, month, day; last year, month, day; start; end.
@@ -44,15 +42,11 @@ fn window_at(s: &[u64], at: usize) -> Window
     requires { at + window_numbers ≤ length s.now }
     ensures { result ≡ window_of (drop at s.now) }
 {
-    let first = date_of(s[at], s[at + 1], s[at + 2]);
-    let last = date_of(s[at + 3], s[at + 4], s[at + 5]);
-    let start = narrow16(s[at + 6]);
-    let end = narrow16(s[at + 7]);
     Window {
-        first,
-        last,
-        start,
-        end,
+        first: date_of(s[at], s[at + 1], s[at + 2]),
+        last: date_of(s[at + 3], s[at + 4], s[at + 5]),
+        start: narrow16(s[at + 6]),
+        end: narrow16(s[at + 7]),
     }
 }
 
@@ -70,10 +64,8 @@ fn windows_in(s: &[u64], n: usize) -> [Window; 33]
         end: 0,
     };
     let mut all = [blank; 33];
-    let mut i: usize = 0;
-    while i < n {
+    for i in 0..n {
         all[i] = window_at(s, i * NUMBERS);
-        i += 1;
     }
     all
 }

@@ -5,4 +5,4 @@ use Rattle.lent_lens.proofs.window_at.Goals as goal
 pub returns : goal.returns
 returns c =
     let a = c.args in
-    window-there a.s.now a.at _ _ _ _ c.date_of-first.ensures c.date_of-last.ensures c.narrow16-start.ensures c.narrow16-end.ensures
+    window-there a.s.now a.at _ _ _ _ c.date_of.ensures c.date_of-2.ensures c.narrow16.ensures c.narrow16-2.ensures

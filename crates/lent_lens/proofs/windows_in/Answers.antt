@@ -6,23 +6,8 @@ use Rattle.lent_lens.proofs.windows_in.Goals as goal
 pub loop-i-init : goal.loop-i-init
 loop-i-init c = fill_start (omega arith) (omega arith)
 
-pub overflow_mul-i : goal.overflow_mul-i
-overflow_mul-i c = omega (arith, entry-there c.loop-i.invariant (omega arith))
-
 pub window_at-requires : goal.window_at-requires
 window_at-requires c = omega (arith, entry-there c.loop-i.invariant (omega arith))
-
-pub offset_bounds-all-i : goal.offset_bounds-all-i
-offset_bounds-all-i c = omega arith
-
-pub bounds-all-i : goal.bounds-all-i
-bounds-all-i c = omega arith
-
-pub overflow_add-i : goal.overflow_add-i
-overflow_add-i c = omega arith
-
-pub loop-i-smaller : goal.loop-i-smaller
-loop-i-smaller c = omega arith
 
 pub loop-i-preserved : goal.loop-i-preserved
 loop-i-preserved c = fill_more c.loop-i.invariant (omega arith) (rw zero-add c.window_at.ensures)

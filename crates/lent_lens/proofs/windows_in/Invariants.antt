@@ -1,4 +1,3 @@
-use Prim.Native.Nat.{◌-◌}
 use Rattle.reader.proofs.LoadLaws.{FilledSoFar}
 use Rattle.lent_lens.specs.Lens.{window_of, blank}
 use Rattle.lent_lens.proofs.windows_in.Given as goal
@@ -6,6 +5,3 @@ use Rattle.lent_lens.proofs.windows_in.Given as goal
 -- `lent_lens::windows_in` meets its contract: after i turns the first i places are filled.
 abbrev pub invariant-loop-i : goal.invariant-loop-i
 invariant-loop-i l = FilledSoFar window_of 8 33 blank l.s 0 l.n l.all l.i
-
-abbrev pub decreases-loop-i : goal.decreases-loop-i
-decreases-loop-i l = l.n - l.i

@@ -18,7 +18,8 @@ use Rattle.display_window.specs.Parts.{Seen, Unstarted, Started}
 use Rattle.display.specs.declared.Display.{Display}
 use Rattle.lent_fields.specs.Fields.{number, Two, Below, four}
 use Rattle.lent_fields.proofs.ByteLaws.{all-over}
-use Rattle.lent_fields.proofs.Codec.{Codec, number_codec, both_codec, beside, struct_codec, enum_codec, refit}
+use Rattle.lent_fields.specs.Form.{Codec}
+use Rattle.lent_fields.proofs.Codec.{number_codec, both_codec, beside, struct_codec, enum_codec, refit}
 use Rattle.lent_fields.proofs.Options.{no_option, three-zero}
 use Rattle.lent_display.specs.Bytes.{Four, four_bytes, window_to, window_of, is_window, window_from, window_test, window_bytes, WindowFits}
 use Rattle.lent_display.specs.Bytes.{mark, head_bytes, HeadFits, display_bytes, DisplayFits, display_from, is_display, Holds}

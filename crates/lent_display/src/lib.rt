@@ -8,7 +8,7 @@ ghost use Rattle.std.specs.Prelude.{◌≡◌, true, ◌∷◌, ◌++◌, ◌≤
 ghost use Rattle.layout.specs.Puts.{Puts};
 ghost use Rattle.lent_fields.specs.Fields.{four};
 ghost use Rattle.display.specs.Call.{Hear, Step};
-ghost use Rattle.lent_display.specs.Bytes.{four_bytes, FourFit, window_of, window_from, window_test, window_bytes, WindowFits};
+ghost use Rattle.lent_display.specs.Bytes.{four_bytes, FourFit, window_from, window_test, window_bytes, WindowFits};
 ghost use Rattle.lent_display.specs.Bytes.{head_bytes, HeadFits, display_width, display_from, is_display, Holds};
 ghost use Rattle.lent_display.specs.Call.{lost_places, lost_numbers, Called, call_lost, CallIs, HearIs, hear_lost, OpenIs, look, trail_of, lead_of};
 
@@ -16,7 +16,7 @@ use display::Display;
 use display_window::{Lost, Window};
 use end::Answer;
 use lent_answer::NONE;
-use lent_fields::{is_option, put1, put2, put8, read1, read2, read8};
+use lent_fields::{is_option, option_of, put1, put2, put8, read1, read2, read8};
 use message::{CueNumber, Host, ROOM_NEEDED};
 
 const WIDTH: usize = 25;
@@ -29,39 +29,24 @@ const LOST_PLACES: usize = 4;
 
 // ---- the window
 
-fn window_of(tag: u8, trail: u16, lead: u16, set: u64) -> Option<Window>
-    ensures { result ≡ window_of tag trail lead set }
-{
-    if tag == 0 {
-        return None;
-    }
-    Some(Window {
-        trail: CueNumber(trail),
-        lead: CueNumber(lead),
-        set,
-    })
-}
-
 fn get_window(s: &[u8]) -> Option<Window>
     requires { length s.now ≡ display_width }
     ensures { result ≡ window_from s.now 12 }
 {
-    let tag = read1(s, 12);
-    let trail = read2(s, 13);
-    let lead = read2(s, 15);
-    let set = read8(s, 17);
-    window_of(tag, trail, lead, set)
+    let window = Window {
+        trail: CueNumber(read2(s, 13)),
+        lead: CueNumber(read2(s, 15)),
+        set: read8(s, 17),
+    };
+    option_of(read1(s, 12), window)
 }
 
 fn is_window(s: &[u8]) -> bool
     requires { length s.now ≡ display_width }
     ensures { result ≡ window_test s.now 12 }
 {
-    let tag = read1(s, 12);
-    let trail = read2(s, 13);
-    let lead = read2(s, 15);
-    let set = read8(s, 17);
-    is_option(tag, (trail == 0) & (lead == 0) & (set == 0))
+    let none = (read2(s, 13) == 0) & (read2(s, 15) == 0) & (read8(s, 17) == 0);
+    is_option(read1(s, 12), none)
 }
 
 fn put_four(s: &mut [u8], tag: u8, trail: u16, lead: u16, set: u64)

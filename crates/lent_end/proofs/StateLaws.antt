@@ -1,6 +1,6 @@
 -- Both laws of an end's bytes, from those of its parts.
 use mathlib.Core.Path.{◌≡◌, refl, sym, ap, ◌∙◌}
-use Prim.Native.Nat.{ℕ, zero, suc, ◌+◌, ◌<◌}
+use Prim.Native.Nat.{ℕ, zero, suc, ◌+◌, ◌≤◌, ◌<◌}
 use native.Mathlib.Omega.{arith}
 use mathlib.Core.Bool.{Bool, true, false, ◌&&◌, and-true}
 use mathlib.Core.List.{List, [], ◌∷◌, ◌++◌, append-nil}
@@ -21,9 +21,10 @@ use Rattle.end.specs.declared.Source.{Source}
 use Rattle.end.specs.declared.End.{End}
 use Rattle.lent_fields.specs.Fields.{number, many, all_pass, Two, Below, free}
 use Rattle.lent_fields.proofs.ByteLaws.{all-over}
-use Rattle.lent_fields.proofs.Codec.{Codec, number_codec, both_codec, beside, retest, struct_codec, enum_codec, refit, array_codec}
+use Rattle.lent_fields.specs.Form.{Codec}
+use Rattle.lent_fields.proofs.Codec.{number_codec, both_codec, beside, retest, struct_codec, enum_codec, refit, array_codec}
 use Rattle.lent_source.specs.Source.{source_from, source_test, source_bytes}
-use Rattle.lent_source.proofs.SourceLaws.{source_codec}
+use Rattle.lent_source.specs.SourceLaws.{source_codec}
 use Rattle.lent_end.specs.State.{params_bytes, params_from, ParamsFit, status_of, status_number, SourcesFit, mark, head_bytes, HeadFits, end_bytes, EndFits, end_from, is_state, Holds}
 
 -- ---- the parameters
@@ -79,6 +80,15 @@ status_forth (suc (suc zero)) h = refl
 status_forth (suc (suc (suc zero))) h = refl
 status_forth (suc (suc (suc (suc zero)))) h = refl
 status_forth (suc (suc (suc (suc (suc n))))) h = absurd (omega (arith, leb-true (suc (suc (suc (suc (suc n))))) 4 h))
+
+-- from 4 on it is crashed
+pub last-status : (n : ℕ) → 4 ≤ n → Crashed ≡ status_of n
+last-status n h =
+    let zero-not : n ≡ 0 → ⊥ = λ e. absurd (omega arith) in
+    let one-not : n ≡ 1 → ⊥ = λ e. absurd (omega arith) in
+    let two-not : n ≡ 2 → ⊥ = λ e. absurd (omega arith) in
+    let three-not : n ≡ 3 → ⊥ = λ e. absurd (omega arith) in
+    rw (ne_eqb n 0 zero-not, ne_eqb n 1 one-not, ne_eqb n 2 two-not, ne_eqb n 3 three-not)
 
 status_codec : Codec 1 (λ x. digits 1 (status_number x)) (λ s k. status_of (number 1 s k)) (λ s k. leb (number 1 s k) 4) (λ x. Below 1 (status_number x))
 status_codec = enum_codec (number_codec 1) status_number status_of (λ (n : ℕ). leb n 4) status_back status-tested status_forth
@@ -146,20 +156,6 @@ end_codec =
     ((((((m, f.host-fits), f.params_fit), f.clock-fits), f.status-fits), f.next_fits), h.sources_fit))
 
 -- ---- what the calls need
--- the eight sources, each at its place
-pub eight : (s : List ℕ) (k : ℕ) (x0 x1 x2 x3 x4 x5 x6 x7 : Source) → x0 ≡ source_from s k → x1 ≡ source_from s (k + 3883) → x2 ≡ source_from s (k + 7766)
-    → x3 ≡ source_from s (k + 11649) → x4 ≡ source_from s (k + 15532) → x5 ≡ source_from s (k + 19415) → x6 ≡ source_from s (k + 23298) → x7 ≡ source_from s (k + 27181)
-    → (x0 ∷ x1 ∷ x2 ∷ x3 ∷ x4 ∷ x5 ∷ x6 ∷ x7 ∷ []) ≡ many source_from 3883 8 s k
-unfolding many
-eight s k x0 x1 x2 x3 x4 x5 x6 x7 e0 e1 e2 e3 e4 e5 e6 e7 =
-    let p2 : k + 7766 ≡ k + 3883 + 3883 = omega arith in
-    let p3 : k + 11649 ≡ k + 3883 + 3883 + 3883 = omega arith in
-    let p4 : k + 15532 ≡ k + 3883 + 3883 + 3883 + 3883 = omega arith in
-    let p5 : k + 19415 ≡ k + 3883 + 3883 + 3883 + 3883 + 3883 = omega arith in
-    let p6 : k + 23298 ≡ k + 3883 + 3883 + 3883 + 3883 + 3883 + 3883 = omega arith in
-    let p7 : k + 27181 ≡ k + 3883 + 3883 + 3883 + 3883 + 3883 + 3883 + 3883 = omega arith in
-    λ i. e0 i ∷ e1 i ∷ (e2 ∙ ap (source_from s) p2) i ∷ (e3 ∙ ap (source_from s) p3) i ∷ (e4 ∙ ap (source_from s) p4) i ∷ (e5 ∙ ap (source_from s) p5) i ∷ (e6 ∙ ap (source_from s) p6) i ∷ (e7 ∙ ap (source_from s) p7) i ∷ []
-
 pub not-long : (s : List ℕ) → (length s ≡ 31136 → ⊥) → false ≡ is_state s
 unfolding is_state
 not-long s h = rw (ne_eqb (length s) 31136 h)

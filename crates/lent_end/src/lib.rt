@@ -2,16 +2,15 @@
 // pass the test are written as they were, is proofs/StateLaws.antt.
 #![tactic(auto)]
 
-ghost use Rattle.std.specs.Prelude.{◌≡◌, ◌+◌, ◌*◌, ◌≤◌, length};
+ghost use Rattle.std.specs.Prelude.{◌≡◌, ◌+◌, ◌≤◌, length};
 ghost use Rattle.layout.specs.Puts.{Puts};
-ghost use Rattle.message.specs.Section.{flat};
-ghost use Rattle.lent_fields.specs.Fields.{many, all_pass};
-ghost use Rattle.lent_source.specs.Source.{source_width, source_from, source_test, source_bytes};
-ghost use Rattle.lent_end.specs.State.{params_from, params_bytes, ParamsFit, status_of, status_number, SourcesFit, head_bytes, HeadFits, state_width, end_from, is_state, end_bytes, Holds};
+ghost use Rattle.lent_end.specs.State.{params_from, params_bytes, ParamsFit, status_of, status_number, head_bytes, HeadFits, state_width, end_from, is_state, end_bytes, Holds};
 
-use end::{End, Params, Source, Status};
-use lent_fields::{put1, put2, put4, put8, read1, read2, read4, read8};
-use lent_source::{get_source, is_source, put_source};
+use end::{End, Params, Status};
+use lent_fields::{
+    put_all, put1, put2, put4, put8, read_all, read1, read2, read4, read8, test_all,
+};
+use lent_source::SourceForm;
 use message::Host;
 
 pub const STATE: usize = 31136;
@@ -23,21 +22,14 @@ fn get_params(s: &[u8], at: usize) -> Params
     requires { at + 56 ≤ length s.now }
     ensures { result ≡ params_from s.now at }
 {
-    let c1 = read8(s, at);
-    let c2 = read8(s, at + 8);
-    let c3 = read8(s, at + 16);
-    let d1 = read8(s, at + 24);
-    let d2 = read8(s, at + 32);
-    let d3 = read8(s, at + 40);
-    let express = read8(s, at + 48);
     Params {
-        c1,
-        c2,
-        c3,
-        d1,
-        d2,
-        d3,
-        express,
+        c1: read8(s, at),
+        c2: read8(s, at + 8),
+        c3: read8(s, at + 16),
+        d1: read8(s, at + 24),
+        d2: read8(s, at + 32),
+        d3: read8(s, at + 40),
+        express: read8(s, at + 48),
     }
 }
 
@@ -58,19 +50,13 @@ fn put_params(s: &mut [u8], at: usize, p: Params)
 fn status_of(tag: u8) -> Status
     ensures { result ≡ status_of tag }
 {
-    if tag == 0 {
-        return Status::Idle;
+    match tag {
+        0 => Status::Idle,
+        1 => Status::Joining,
+        2 => Status::Member,
+        3 => Status::Leaving,
+        _ => Status::Crashed,
     }
-    if tag == 1 {
-        return Status::Joining;
-    }
-    if tag == 2 {
-        return Status::Member;
-    }
-    if tag == 3 {
-        return Status::Leaving;
-    }
-    Status::Crashed
 }
 
 pub fn status_number(status: Status) -> u8
@@ -85,47 +71,6 @@ pub fn status_number(status: Status) -> u8
     }
 }
 
-fn get_sources(s: &[u8], from: usize) -> [Source; 8]
-    requires { from + 31064 ≤ length s.now }
-    ensures { result ≡ many source_from source_width 8 s.now from }
-{
-    let x0 = get_source(s, from);
-    let x1 = get_source(s, from + 3883);
-    let x2 = get_source(s, from + 7766);
-    let x3 = get_source(s, from + 11649);
-    let x4 = get_source(s, from + 15532);
-    let x5 = get_source(s, from + 19415);
-    let x6 = get_source(s, from + 23298);
-    let x7 = get_source(s, from + 27181);
-    [x0, x1, x2, x3, x4, x5, x6, x7]
-}
-
-fn are_sources(s: &[u8], from: usize) -> bool
-    requires { from + 31064 ≤ length s.now }
-    ensures { result ≡ all_pass source_test source_width 8 s.now from }
-{
-    let mut ok = true;
-    let mut h: usize = 0;
-    while h < 8 {
-        ok = ok & is_source(s, from + h * 3883);
-        h += 1;
-    }
-    ok
-}
-
-fn put_sources(s: &mut [u8], from: usize, all: [Source; 8])
-    requires { from + 31064 ≤ length s.old }
-    ensures puts { Puts from 31064 (flat source_bytes all) s.old s.new }
-    ensures sources_fit { SourcesFit all }
-{
-    let mut h: usize = 0;
-    while h < 8 {
-        let x = all[h];
-        put_source(s, from + h * 3883, x);
-        h += 1;
-    }
-}
-
 // Whether the bytes are those of an end.
 pub fn is_state(s: &[u8]) -> bool
     ensures { result ≡ is_state s.now }
@@ -133,29 +78,21 @@ pub fn is_state(s: &[u8]) -> bool
     if s.len() != STATE {
         return false;
     }
-    let mark = read2(s, 0);
-    let status = read1(s, 67);
-    (mark == MARK) & (status <= 4) & are_sources(s, 72)
+    let sources = test_all::<SourceForm, 8>(s, 72);
+    (read2(s, 0) == MARK) & (read1(s, 67) <= 4) & sources
 }
 
 pub fn get_end(s: &[u8]) -> End
     requires { length s.now ≡ state_width }
     ensures { result ≡ end_from s.now }
 {
-    let host = read1(s, 2);
-    let params = get_params(s, 3);
-    let clock = read8(s, 59);
-    let tag = read1(s, 67);
-    let status = status_of(tag);
-    let next = read4(s, 68);
-    let sources = get_sources(s, 72);
     End {
-        host: Host(host),
-        params,
-        clock,
-        status,
-        next,
-        sources,
+        host: Host(read1(s, 2)),
+        params: get_params(s, 3),
+        clock: read8(s, 59),
+        status: status_of(read1(s, 67)),
+        next: read4(s, 68),
+        sources: read_all::<SourceForm, 8>(s, 72),
     }
 }
 
@@ -176,10 +113,13 @@ pub fn put_end(s: &mut [u8], e: End)
     requires { length s.old ≡ state_width }
     ensures { Holds s.new e }
 {
-    let params = e.params;
-    let status = e.status;
-    let sources = e.sources;
-    let tag = status_number(status);
-    put_head(s, e.host.0, params, e.clock, tag, e.next);
-    put_sources(s, 72, sources);
+    put_head(
+        s,
+        e.host.0,
+        e.params,
+        e.clock,
+        status_number(e.status),
+        e.next,
+    );
+    put_all::<SourceForm, 8>(s, 72, e.sources);
 }

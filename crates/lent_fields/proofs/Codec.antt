@@ -13,13 +13,7 @@ use Rattle.message.specs.Section.{flat}
 use Rattle.message.proofs.QuestionLaws.{and_both}
 use Rattle.message.proofs.SectionLaws.{All, none, some}
 use Rattle.lent_fields.specs.Fields.{number, part, many, all_pass, Two, Below, Long, free}
-
--- values of w bytes: g writes one, f reads one from place k, t is the test of its bytes, and P is what its type says of it
-pub record Codec {A : Type 0} (w : ℕ) (g : A → List ℕ) (f : List ℕ → ℕ → A) (t : List ℕ → ℕ → Bool) (P : A → Type 0) : Type 0 where
-  pub long : (a : A) → P a → length (g a) ≡ w
-  pub back : (a : A) (s rest : List ℕ) (k : ℕ) → P a → drop k s ≡ g a ++ rest → f s k ≡ a
-  pub tested : (a : A) (s rest : List ℕ) (k : ℕ) → P a → drop k s ≡ g a ++ rest → t s k ≡ true
-  pub forth : (s : List ℕ) (k : ℕ) → Bytes s → k + w ≤ length s → t s k ≡ true → g (f s k) ≡ take w (drop k s)
+use Rattle.lent_fields.specs.Form.{Codec}
 
 -- a number of w bytes
 pub number_codec : (w : ℕ) → Codec w (digits w) (number w) free (Below w)

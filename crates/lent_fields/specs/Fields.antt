@@ -1,5 +1,7 @@
 -- Numbers at places of a buffer.
 use Rattle.std.specs.Prelude.{◌≡◌, ℕ, zero, suc, ◌+◌, ◌^◌, ◌<◌, Bool, true, cond, ◌&&◌, List, [], ◌∷◌, ◌++◌, length, take, drop, eqb}
+use Rattle.std.specs.declared.option.Option.{Option}
+use Rattle.std.specs.declared.option.Option.TheVariants.{None, Some}
 use Rattle.numbers.specs.Number.{value, digits}
 use Rattle.layout.specs.Puts.{Puts}
 
@@ -69,3 +71,6 @@ four_at v w x y s k = four (number v s k) (number w s (k + v)) (number x s (k + 
 -- ---- what is there or not: tag 1, or tag 0 and else zeros (`none`: whether all its other numbers are 0)
 abbrev pub is_option : ℕ → Bool → Bool
 is_option tag none = cond (eqb tag 0) none (eqb tag 1)
+
+abbrev pub option_of : {A : Type 0} → ℕ → A → Option A
+option_of tag x = cond (eqb tag 0) None (Some x)

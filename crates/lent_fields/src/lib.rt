@@ -1,8 +1,14 @@
 // Numbers of 1, 2, 4 and 8 bytes, the highest byte first. Whoever writes one promises also that it fits, which its type says.
 #![tactic(auto)]
 
-ghost use Rattle.std.specs.Prelude.{◌≡◌, ◌+◌, ◌≤◌, length};
-ghost use Rattle.lent_fields.specs.Fields.{number, PutsNumber, is_option};
+ghost use Rattle.std.specs.Prelude.{◌≡◌, ℕ, ◌+◌, ◌*◌, ◌≤◌, Bool, List, length};
+ghost use Rattle.layout.specs.Puts.{Puts};
+ghost use Rattle.message.specs.Section.{flat};
+ghost use Rattle.message.proofs.SectionLaws.{All};
+ghost use Rattle.lent_fields.specs.Fields.{number, PutsNumber, is_option, option_of, many, all_pass};
+ghost use Rattle.lent_fields.specs.Form.{Codec};
+
+use std::array;
 
 pub fn read1(s: &[u8], at: usize) -> u8
     requires { at + 1 ≤ length s.now }
@@ -70,4 +76,81 @@ pub fn is_option(tag: u8, none: bool) -> bool
         return none;
     }
     tag == 1
+}
+
+// A thing that is there unless its tag is 0.
+pub fn option_of<T: Copy>(tag: u8, value: T) -> Option<T>
+    ensures { result ≡ option_of tag value }
+{
+    if tag == 0 {
+        return None;
+    }
+    Some(value)
+}
+
+// A form in bytes: how many they are, and how a value is read, tested and written. What is written reads back as it was and passes the test, and
+// bytes that pass it are written as they were.
+pub trait Form {
+    type Value: Copy;
+
+    const WIDTH: usize;
+
+    ghost WIDTH: { ℕ };
+
+    ghost bytes: { Self.Value → List ℕ };
+
+    ghost from: { List ℕ → ℕ → Self.Value };
+
+    ghost passes: { List ℕ → ℕ → Bool };
+
+    // What the type of a value says of it.
+    ghost Fits: { Self.Value → Type 0 };
+
+    fn read(s: &[u8], at: usize) -> Self::Value
+        requires { at + WIDTH ≤ length s.now }
+        ensures { result ≡ from s.now at };
+
+    fn test(s: &[u8], at: usize) -> bool
+        requires { at + WIDTH ≤ length s.now }
+        ensures { result ≡ passes s.now at };
+
+    fn put(s: &mut [u8], at: usize, x: Self::Value)
+        requires { at + WIDTH ≤ length s.old }
+        ensures puts { Puts at WIDTH (bytes x) s.old s.new }
+        ensures fits { Fits x };
+
+    ghost both_ways: { Codec WIDTH bytes from passes Fits };
+}
+
+// N values, one after the other.
+pub fn read_all<F: Form, const N: usize>(s: &[u8], from: usize) -> [F::Value; N]
+    requires { from + N * F.WIDTH ≤ length s.now }
+    ensures { result ≡ many F.from F.WIDTH N s.now from }
+{
+    array::from_fn(
+        |n: usize| -> F::Value
+            requires { from + n * F.WIDTH + F.WIDTH ≤ length s.now }
+        { F::read(s, from + n * F::WIDTH) },
+    )
+}
+
+pub fn test_all<F: Form, const N: usize>(s: &[u8], from: usize) -> bool
+    requires { from + N * F.WIDTH ≤ length s.now }
+    ensures { result ≡ all_pass F.passes F.WIDTH N s.now from }
+{
+    (0..N).all(
+        |n: usize| -> bool
+            requires { from + n * F.WIDTH + F.WIDTH ≤ length s.now }
+        { F::test(s, from + n * F::WIDTH) },
+    )
+}
+
+pub fn put_all<F: Form, const N: usize>(s: &mut [u8], from: usize, all: [F::Value; N])
+    requires { from + N * F.WIDTH ≤ length s.old }
+    ensures puts { Puts from (N * F.WIDTH) (flat F.bytes all) s.old s.new }
+    ensures fit { (length all ≡ N) × All F.Fits all }
+{
+    for n in 0..N {
+        F::put(s, from + n * F::WIDTH, all[n]);
+    }
 }

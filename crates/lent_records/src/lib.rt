@@ -1,19 +1,30 @@
-// A name's record as 58 bytes, and a source's 64 of them: written, read and tested. The layout is in specs/Bytes.antt; that each record has one
-// form, and that what passes the test is written as it was, is proofs/RecordLaws.antt. A slot's three enums are taken for five numbers first.
+// A name's record as 58 bytes: written, read and tested. The layout is in specs/Bytes.antt; that each record has one form, and that what passes the
+// test is written as it was, is specs/RecordLaws.antt. A slot's three enums are taken for five numbers first.
 #![tactic(auto)]
 
-ghost use Rattle.std.specs.Prelude.{◌≡◌, ◌+◌, ◌*◌, ◌≤◌, length};
+ghost use Rattle.std.specs.Prelude.{◌≡◌, ◌+◌, ◌≤◌, length};
 ghost use Rattle.layout.specs.Puts.{Puts};
-ghost use Rattle.message.specs.Section.{flat};
-ghost use Rattle.lent_fields.specs.Fields.{part, many, all_pass, Long};
-ghost use Rattle.lent_records.specs.Bytes.{five, five_held, five_waiting, five_of, request_of, slot_of, is_slot, five_bytes, five_from, FiveFit};
-ghost use Rattle.lent_records.specs.Bytes.{record_width, part_bytes, PartsFit, record_bytes, record_from, record_test, RecordFits, RecordsFit};
+ghost use Rattle.lent_fields.specs.Fields.{part, Long};
+ghost use Rattle.lent_records.specs.Bytes.{five_of, request_of, slot_of, is_slot, five_bytes, five_from, FiveFit};
+ghost use Rattle.lent_records.specs.Bytes.{record_width, part_bytes, PartsFit, record_bytes, record_from, record_test, RecordFits};
+ghost use Rattle.lent_records.specs.RecordLaws.{record_codec};
 
-use end::{Express, Record, Reply, Request, Slot};
-use lent_fields::{put1, put8, read1, read8};
+use end::{Record, Request, Slot};
+use lent_fields::{Form, put1, put8, read1, read8};
 use message::Host;
 
 pub const RECORD: usize = 58;
+
+// The tags.
+const EMPTY: u8 = 0;
+
+const HELD: u8 = 1;
+
+const REPLY: u8 = 2;
+
+const REQUEST: u8 = 3;
+
+const EXPRESS: u8 = 4;
 
 #[derive(Clone, Copy)]
 pub struct Five {
@@ -24,89 +35,80 @@ pub struct Five {
     pub c: u64,
 }
 
-fn make(tag: u8, small: u8, a: u64, b: u64, c: u64) -> Five
-    ensures { result ≡ five tag small a b c }
-{
-    Five {
-        tag,
-        small,
-        a,
-        b,
-        c,
+const ZEROS: Five = Five {
+    tag: EMPTY,
+    small: 0,
+    a: 0,
+    b: 0,
+    c: 0,
+};
+
+impl From<Slot> for Five {
+    ghost from_gives = { λ slot f. f ≡ five_of slot };
+
+    fn from(slot: Slot) -> Five {
+        match slot {
+            Slot::Empty => ZEROS,
+            Slot::Held(None) => Five { tag: HELD, ..ZEROS },
+            Slot::Held(Some((due, Host(who)))) => Five {
+                tag: REPLY,
+                small: who,
+                a: due,
+                ..ZEROS
+            },
+            Slot::Waiting(q, None) => Five {
+                tag: REQUEST,
+                small: q.round,
+                a: q.due,
+                b: q.quiet,
+                c: 0,
+            },
+            Slot::Waiting(q, Some(due)) => Five {
+                tag: EXPRESS,
+                small: q.round,
+                a: q.due,
+                b: q.quiet,
+                c: due,
+            },
+        }
     }
 }
 
-fn five_held(reply: Reply) -> Five
-    ensures { result ≡ five_held reply }
-{
-    match reply {
-        None => make(1, 0, 0, 0, 0),
-        Some((due, who)) => make(2, who.0, due, 0, 0),
+impl Five {
+    fn request(self) -> Request
+        ensures { result ≡ request_of self }
+    {
+        Request {
+            round: self.small,
+            due: self.a,
+            quiet: self.b,
+        }
     }
-}
 
-fn five_waiting(q: Request, x: Express) -> Five
-    ensures { result ≡ five_waiting q x }
-{
-    match x {
-        None => make(3, q.round, q.due, q.quiet, 0),
-        Some(due) => make(4, q.round, q.due, q.quiet, due),
+    fn slot(self) -> Slot
+        ensures { result ≡ slot_of self }
+    {
+        match self.tag {
+            EMPTY => Slot::Empty,
+            HELD => Slot::Held(None),
+            REPLY => Slot::Held(Some((self.a, Host(self.small)))),
+            REQUEST => Slot::Waiting(self.request(), None),
+            _ => Slot::Waiting(self.request(), Some(self.c)),
+        }
     }
-}
 
-fn five_of(slot: Slot) -> Five
-    ensures { result ≡ five_of slot }
-{
-    match slot {
-        Slot::Empty => make(0, 0, 0, 0, 0),
-        Slot::Held(reply) => five_held(reply),
-        Slot::Waiting(q, x) => five_waiting(q, x),
+    // Whether the five numbers are those of a slot.
+    fn is_slot(self) -> bool
+        ensures { result ≡ is_slot self }
+    {
+        match self.tag {
+            EMPTY | HELD => (self.small == 0) & (self.a == 0) & (self.b == 0) & (self.c == 0),
+            REPLY => (self.b == 0) & (self.c == 0),
+            REQUEST => self.c == 0,
+            EXPRESS => true,
+            _ => false,
+        }
     }
-}
-
-fn request_of(f: Five) -> Request
-    ensures { result ≡ request_of f }
-{
-    Request {
-        round: f.small,
-        due: f.a,
-        quiet: f.b,
-    }
-}
-
-fn slot_of(f: Five) -> Slot
-    ensures { result ≡ slot_of f }
-{
-    if f.tag == 0 {
-        return Slot::Empty;
-    }
-    if f.tag == 1 {
-        return Slot::Held(None);
-    }
-    if f.tag == 2 {
-        return Slot::Held(Some((f.a, Host(f.small))));
-    }
-    let q = request_of(f);
-    if f.tag == 3 {
-        return Slot::Waiting(q, None);
-    }
-    Slot::Waiting(q, Some(f.c))
-}
-
-// Whether the five numbers are those of a slot.
-fn is_slot(f: Five) -> bool
-    ensures { result ≡ is_slot f }
-{
-    if f.tag <= 1 {
-        return (f.small == 0) & (f.a == 0) & (f.b == 0) & (f.c == 0);
-    }
-    if f.tag == 2 {
-        return (f.b == 0) & (f.c == 0);
-    }
-    if f.tag == 3 {
-        return f.c == 0;
-    }
-    f.tag == 4
 }
 
 fn get_five(s: &[u8], at: usize) -> Five
@@ -127,23 +129,8 @@ fn get_cue(s: &[u8], at: usize) -> [u8; 24]
     ensures { result ≡ part 24 s.now at }
 {
     let mut cue = [0u8; 24];
-    let e = at + 24;
-    numbers::put_bytes(&mut cue, 0, &s[at..e]);
+    cue.copy_from_slice(&s[at..at + 24]);
     cue
-}
-
-fn get_record(s: &[u8], at: usize) -> Record
-    requires { at + record_width ≤ length s.now }
-    ensures { result ≡ record_from s.now at }
-{
-    let f = get_five(s, at);
-    let slot = slot_of(f);
-    let cue = get_cue(s, at + 26);
-    Record {
-        slot,
-        cue,
-        hush: read8(s, at + 50),
-    }
 }
 
 fn put_five(s: &mut [u8], at: usize, f: Five)
@@ -176,61 +163,38 @@ fn put_parts(s: &mut [u8], at: usize, f: Five, cue: [u8; 24], hush: u64)
     put8(s, at + 50, hush);
 }
 
-fn put_record(s: &mut [u8], at: usize, r: Record)
-    requires { at + record_width ≤ length s.old }
-    ensures puts { Puts at record_width (record_bytes r) s.old s.new }
-    ensures record_fits { RecordFits r }
-{
-    let slot = r.slot;
-    let cue = r.cue;
-    let f = five_of(slot);
-    put_parts(s, at, f, cue, r.hush);
-}
+pub struct RecordForm;
 
-// Whether 64 records stand from `from` on, each with the tags and zeros of a slot.
-pub fn are_records(s: &[u8], from: usize) -> bool
-    requires { from + 64 * record_width ≤ length s.now }
-    ensures { result ≡ all_pass record_test record_width 64 s.now from }
-{
-    let mut ok = true;
-    let mut n: usize = 0;
-    while n < 64 {
-        let f = get_five(s, from + n * RECORD);
-        ok = ok & is_slot(f);
-        n += 1;
+impl Form for RecordForm {
+    type Value = Record;
+
+    const WIDTH: usize = RECORD;
+
+    ghost WIDTH = { record_width };
+
+    ghost bytes = { record_bytes };
+
+    ghost from = { record_from };
+
+    ghost passes = { record_test };
+
+    ghost Fits = { RecordFits };
+
+    fn read(s: &[u8], at: usize) -> Record {
+        Record {
+            slot: get_five(s, at).slot(),
+            cue: get_cue(s, at + 26),
+            hush: read8(s, at + 50),
+        }
     }
-    ok
-}
 
-const BLANK: Record = Record {
-    slot: Slot::Empty,
-    cue: [0; 24],
-    hush: 0,
-};
-
-pub fn get_records(s: &[u8], from: usize) -> [Record; 64]
-    requires { from + 64 * record_width ≤ length s.now }
-    ensures { result ≡ many record_from record_width 64 s.now from }
-{
-    let mut all = [BLANK; 64];
-    let mut n: usize = 0;
-    while n < 64 {
-        let x = get_record(s, from + n * RECORD);
-        all[n] = x;
-        n += 1;
+    fn test(s: &[u8], at: usize) -> bool {
+        get_five(s, at).is_slot()
     }
-    all
-}
 
-pub fn put_records(s: &mut [u8], from: usize, all: [Record; 64])
-    requires { from + 64 * record_width ≤ length s.old }
-    ensures puts { Puts from (64 * record_width) (flat record_bytes all) s.old s.new }
-    ensures records_fit { RecordsFit all }
-{
-    let mut n: usize = 0;
-    while n < 64 {
-        let r = all[n];
-        put_record(s, from + n * RECORD, r);
-        n += 1;
+    fn put(s: &mut [u8], at: usize, r: Record) {
+        put_parts(s, at, Five::from(r.slot), r.cue, r.hush);
     }
+
+    ghost both_ways = { record_codec };
 }

@@ -4,5 +4,4 @@ use Rattle.lent_display.proofs.is_window.Goals as goal
 
 -- `lent_display::is_window` meets its contract.
 pub returns : goal.returns
-returns c =
-    c.is_option.ensures ∙ (λ i. is_window (c.read1-tag.ensures i) (c.read2-trail.ensures i) (c.read2-lead.ensures i) (c.read8-set.ensures i))
+returns c = c.is_option.ensures ∙ (λ i. is_window (c.read1.ensures i) (c.read2.ensures i) (c.read2-2.ensures i) (c.read8.ensures i))

@@ -7,15 +7,11 @@ use Rattle.lent_end.proofs.get_end.Goals as goal
 pub returns : goal.returns
 unfolding end_from
 returns c =
-    let next = c.before in
-    let status = next.before in
-    let clock = status.before in
-    let params = clock.before in
     λ i. record {
-      host = as_host (params.read1-host.ensures i);
-      params = params.get_params-params.ensures i;
-      clock = clock.read8-clock.ensures i;
-      status = (status.status_of-status.ensures ∙ ap status_of status.read1-tag.ensures) i;
-      next = next.read4-next.ensures i;
-      sources = c.get_sources-sources.ensures i;
+      host = as_host (c.read1.ensures i);
+      params = c.get_params.ensures i;
+      clock = c.read8.ensures i;
+      status = (c.status_of.ensures ∙ ap status_of c.read1-2.ensures) i;
+      next = c.read4.ensures i;
+      sources = c.read_all.ensures i;
     }

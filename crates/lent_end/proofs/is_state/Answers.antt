@@ -8,4 +8,4 @@ returns-then-s-ne-STATE c = not-long c.args.s.now c.if-s-ne-STATE.true
 
 pub returns : goal.returns
 returns c =
-    state-tested c.args.s.now _ _ _ (omega arith) c.read2-mark.ensures c.read1-status.ensures c.are_sources.ensures
+    state-tested c.args.s.now _ _ _ (omega arith) c.read2.ensures c.read1.ensures c.test_all-sources.ensures

@@ -5,4 +5,4 @@ use Rattle.lent_end.proofs.put_end.Goals as goal
 -- `lent_end::put_end` meets its contract.
 pub returns : goal.returns
 returns c =
-    written _ _ _ _ _ c.status_number-tag.ensures (omega arith) c.put_head.ensures.puts c.put_head.ensures.head_fits c.put_sources.ensures.puts c.put_sources.ensures.sources_fit
+    written _ _ _ _ _ c.status_number.ensures (omega arith) c.put_head.ensures.puts c.put_head.ensures.head_fits c.put_all.ensures.puts c.put_all.ensures.fit

@@ -1,18 +1,19 @@
-use borrow.Author.Tests.{eq-eqb, ne_eqb}
+use native.Mathlib.Omega.{arith}
+use Rattle.lent_end.proofs.StateLaws.{last-status}
 use Rattle.lent_end.proofs.status_of.Goals as goal
 
--- `lent_end::status_of` meets its contract.
-pub returns-then-tag-eq0 : goal.returns-then-tag-eq0
-returns-then-tag-eq0 c = rw (eq-eqb _ _ c.if-tag-eq0.true)
+-- `lent_end::status_of` meets its contract, number by number.
+pub returns-in-0 : goal.returns-in-0
+returns-in-0 c = rw c.in-0.is
 
-pub returns-then-tag-eq1 : goal.returns-then-tag-eq1
-returns-then-tag-eq1 c = rw (ne_eqb _ _ c.if-tag-eq0.false, eq-eqb _ _ c.if-tag-eq1.true)
+pub returns-in-1 : goal.returns-in-1
+returns-in-1 c = rw c.in-1.is
 
-pub returns-then-tag-eq2 : goal.returns-then-tag-eq2
-returns-then-tag-eq2 c = rw (ne_eqb _ _ c.if-tag-eq0.false, ne_eqb _ _ c.if-tag-eq1.false, eq-eqb _ _ c.if-tag-eq2.true)
+pub returns-in-2 : goal.returns-in-2
+returns-in-2 c = rw c.in-2.is
 
-pub returns-then-tag-eq3 : goal.returns-then-tag-eq3
-returns-then-tag-eq3 c = rw (ne_eqb _ _ c.if-tag-eq0.false, ne_eqb _ _ c.if-tag-eq1.false, ne_eqb _ _ c.if-tag-eq2.false, eq-eqb _ _ c.if-tag-eq3.true)
+pub returns-in-3 : goal.returns-in-3
+returns-in-3 c = rw c.in-3.is
 
-pub returns : goal.returns
-returns c = rw (ne_eqb _ _ c.if-tag-eq0.false, ne_eqb _ _ c.if-tag-eq1.false, ne_eqb _ _ c.if-tag-eq2.false, ne_eqb _ _ c.if-tag-eq3.false)
+pub returns-in_default : goal.returns-in_default
+returns-in_default c = last-status c.args.tag (omega arith)

@@ -7,7 +7,7 @@ use Rattle.lent_source.proofs.put_front.Goals as goal
 pub returns : goal.returns
 unfolding front_bytes
 returns c =
-    let span = c.put_span.ensures in
+    let span = c.put.ensures in
     let missed = c.put4.ensures in
-    let pair = c.put_pair.ensures in
-    let distance = c.put8.ensures in record { puts = puts-next (puts-next (puts-next span.puts missed.puts refl) pair.puts refl) distance.puts refl; front_fits = record { span_fits = span.span_fits; missed-fits = missed.fits; pair_fits = pair.pair_fits; distance-fits = distance.fits } }
+    let pair = c.put-2.ensures in
+    let distance = c.put8.ensures in record { puts = puts-next (puts-next (puts-next span.puts missed.puts refl) pair.puts refl) distance.puts refl; front_fits = record { span_fits = span.fits; missed-fits = missed.fits; pair_fits = pair.fits; distance-fits = distance.fits } }

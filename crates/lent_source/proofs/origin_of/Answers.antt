@@ -1,9 +1,0 @@
-use borrow.Author.Tests.{eq-eqb, ne_eqb}
-use Rattle.lent_source.proofs.origin_of.Goals as goal
-
--- `lent_source::origin_of` meets its contract.
-pub returns-then-tag-eq0 : goal.returns-then-tag-eq0
-returns-then-tag-eq0 c = rw (eq-eqb _ _ c.if-tag-eq0.true)
-
-pub returns : goal.returns
-returns c = rw (ne_eqb _ _ c.if-tag-eq0.false)

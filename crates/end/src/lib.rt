@@ -22,7 +22,7 @@ pub const TIME_LIMIT: u64 = 281479271677952;
 
 // C1, C2, C3 time a request and its quiet time, D1, D2, D3 a reply and its quiet time; each in quarters, 0..32. E, `express`, is how many
 // ticks an express wait waits, 0..1000.
-#[derive(Clone, Copy, Debug, PartialEq, Eq)]
+#[derive(Clone, Copy)]
 pub struct Params {
     pub c1: u64,
     pub c2: u64,
@@ -33,7 +33,7 @@ pub struct Params {
     pub express: u64,
 }
 
-#[derive(Clone, Copy, Debug, PartialEq, Eq)]
+#[derive(Clone, Copy, PartialEq, Eq)]
 pub enum Status {
     Idle,
     Joining,
@@ -43,7 +43,7 @@ pub enum Status {
 }
 
 // A waiting request: its round 1..16, when it is due, and its quiet-until time, up to which a heard request changes nothing.
-#[derive(Clone, Copy, Debug, PartialEq, Eq)]
+#[derive(Clone, Copy)]
 pub struct Request {
     pub round: u8,
     pub due: u64,
@@ -92,7 +92,7 @@ pub type Origin = Option<CueNumber>;
 // Kept: (d) `late` is a mark of its own, and says nothing of whether `tried` counts.
 // What an end has done to fetch one of the 64 numbers below a source's first original: the hosts that it tried, and whether the cue was handed
 // out as Late.
-#[derive(Clone, Copy, Debug, PartialEq, Eq)]
+#[derive(Clone, Copy)]
 pub struct Attempt {
     pub tried: Hosts,
     pub late: bool,
@@ -125,7 +125,7 @@ pub struct End {
 }
 
 // The moves of an end's membership.
-#[derive(Clone, Copy, Debug, PartialEq, Eq)]
+#[derive(Clone, Copy)]
 pub enum Move {
     Join,
     Joined,
@@ -155,7 +155,7 @@ pub struct Moment {
 }
 
 // The kinds of a message about a name that a decision is made on. (FTCH and LATE have rules of their own.)
-#[derive(Clone, Copy, Debug, PartialEq, Eq)]
+#[derive(Clone, Copy)]
 pub enum Says {
     Data,
     Rqst,
@@ -178,7 +178,7 @@ pub struct Word {
 
 // Why an event is Ignored: document 02, P3, in its order, and P9's last reason. A decision on a message has one of those from NotOpen to
 // RequestQuiet, which lie in the name's source.
-#[derive(Clone, Copy, Debug, PartialEq, Eq)]
+#[derive(Clone, Copy)]
 pub enum Reason {
     Crashed,
     WrongStatus,

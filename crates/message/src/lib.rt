@@ -12,36 +12,36 @@ ghost use Rattle.message.specs.Kind.{row_of, row, is_old, kind_of, number_width,
 ghost use Rattle.message.specs.Question.{kind_has_counts, name_in, report_in, echo_in, in_range, rule_holds, host_fits, not_from, report_source, echo_host, window_fits, hosts_fit, meaning_questions, first_no, outcome, refusal_of, same_host, blank_message};
 
 // A controller on the network, 0..7.
-#[derive(Clone, Copy, Debug, Default, PartialEq, Eq)]
+#[derive(Clone, Copy, Default, PartialEq, Eq)]
 pub struct Host(pub u8);
 
 // The number of a cue among those of its source, 0..65535.
-#[derive(Clone, Copy, Debug, Default, PartialEq, Eq)]
+#[derive(Clone, Copy, Default, PartialEq, Eq)]
 pub struct CueNumber(pub u16);
 
 // A name: a source with a cue number.
-#[derive(Clone, Copy, Debug, Default, PartialEq, Eq)]
+#[derive(Clone, Copy, Default, PartialEq, Eq)]
 pub struct Name {
     pub source: Host,
     pub number: CueNumber,
 }
 
 // A name as a message has it, with a host beside it: who that is goes by the message's kind.
-#[derive(Clone, Copy, Debug, Default, PartialEq, Eq)]
+#[derive(Clone, Copy, Default)]
 pub struct NameEntry {
     pub name: Name,
     pub host: Host,
 }
 
 // A session report: the last cue number that the sender knows of a source.
-#[derive(Clone, Copy, Debug, Default, PartialEq, Eq)]
+#[derive(Clone, Copy, Default)]
 pub struct Report {
     pub source: Host,
     pub last: CueNumber,
 }
 
 // A stamp that the sender heard from a host, and for how many ticks it has held it.
-#[derive(Clone, Copy, Debug, Default, PartialEq, Eq)]
+#[derive(Clone, Copy, Default)]
 pub struct Echo {
     pub host: Host,
     pub stamp: u64,
@@ -49,7 +49,7 @@ pub struct Echo {
 }
 
 // How many names, cues, reports and echoes a message has.
-#[derive(Clone, Copy, Debug, Default, PartialEq, Eq)]
+#[derive(Clone, Copy, Default)]
 pub struct Counts {
     pub names: usize,
     pub cues: usize,
@@ -61,7 +61,7 @@ pub struct Counts {
 // a cue.
 // Kept: (a) arrays with their counts beside them, since the product has no heap; and the kind as a number, since the clause `value` of
 // writer::write promises the answer 9 to a message of a kind that is none.
-#[derive(Clone, Copy, Debug, PartialEq, Eq)]
+#[derive(Clone, Copy)]
 pub struct Message {
     pub kind: u8,
     pub sender: Host,
@@ -74,11 +74,11 @@ pub struct Message {
 }
 
 // Document 01's number of the question that was answered no.
-#[derive(Clone, Copy, Debug, PartialEq, Eq)]
+#[derive(Clone, Copy)]
 pub struct Refusal(pub u8);
 
 // Whether a call was refused, with document 01's number of the question that was answered no. Probe is the reader's alone: no bytes.
-#[derive(Clone, Copy, Debug, PartialEq, Eq)]
+#[derive(Clone, Copy)]
 pub enum Verdict {
     Accepted,
     Probe,
@@ -87,7 +87,7 @@ pub enum Verdict {
 
 // What the reader answers: the message, or a probe or a refusal beside a message of zeros.
 // Kept: (a) the zeros are promised by the clause `value` of reader::read.
-#[derive(Clone, Copy, Debug, PartialEq, Eq)]
+#[derive(Clone, Copy)]
 pub struct Reading {
     pub verdict: Verdict,
     pub message: Message,
@@ -95,14 +95,14 @@ pub struct Reading {
 
 // What the writer answers: the length of what it wrote, or a refusal beside 0.
 // Kept: (a) the 0 is promised by the clause `value` of writer::write.
-#[derive(Clone, Copy, Debug, PartialEq, Eq)]
+#[derive(Clone, Copy)]
 pub struct Written {
     pub verdict: Verdict,
     pub len: usize,
 }
 
 // The fields of a cue: four offsets in motor steps, and the lamp's power.
-#[derive(Clone, Copy, Debug, PartialEq, Eq)]
+#[derive(Clone, Copy)]
 pub struct CueFields {
     pub focus: i16,
     pub zoom: i16,
@@ -112,7 +112,7 @@ pub struct CueFields {
 }
 
 // Who the host beside a name is.
-#[derive(Clone, Copy, Debug, PartialEq, Eq)]
+#[derive(Clone, Copy)]
 pub enum HostRule {
     SourceAndSender,
     SenderNotSource,
@@ -123,7 +123,7 @@ pub enum HostRule {
 
 // A row of the table of kinds: how many names and cues a kind's messages have, how many reports and echoes at most, and the rule of the
 // host beside a name.
-#[derive(Clone, Copy, Debug, PartialEq, Eq)]
+#[derive(Clone, Copy)]
 pub struct Row {
     pub names: usize,
     pub cues: usize,

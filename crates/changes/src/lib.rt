@@ -1,269 +1,135 @@
-// `END set ..`: an end with a field changed, sound or not. Reading goes on at `at`, as the crate trace has it. These are tools of tests: their
-// contracts say no more than that they are safe and end.
+// `END set ..`: an end with a field changed, sound or not. These are tools of tests: their contracts say no more than that they are safe and end.
 #![tactic(auto)]
 
-use end::{
-    Attempt, End, Express, Heard, Hosts, Origin, Pair, Params, Record, Reply, Request, Slot,
-    Source, Span, Status,
-};
-use message::Host;
-use trace::words;
+use end::{Attempt, End, Params, Record, Request, Slot, Source, Status};
+use trace::Cursor;
 
-pub fn source(e: End, h: usize) -> Source {
-    let all = e.sources;
-    if h < 8 { all[h] } else { all[0] }
+// The parameters in quarters; E is 0.
+pub fn quarters(line: &mut Cursor<'_>) -> Option<Params> {
+    Some(Params {
+        c1: line.small(255)?,
+        c2: line.small(255)?,
+        c3: line.small(255)?,
+        d1: line.small(255)?,
+        d2: line.small(255)?,
+        d3: line.small(255)?,
+        express: 0,
+    })
 }
 
-pub fn record(s: Source, n: usize) -> Record {
-    let names = s.names;
-    if n < 64 { names[n] } else { names[0] }
+// All parameters.
+pub fn params(line: &mut Cursor<'_>) -> Option<Params> {
+    let quarters = quarters(line)?;
+    let express = line.small(65535)?;
+    Some(Params {
+        express,
+        ..quarters
+    })
 }
 
-pub fn attempt(s: Source, n: usize) -> Attempt {
-    let all = s.attempts;
-    if n < 64 { all[n] } else { all[0] }
-}
-
-fn params(line: &[u8; 1000], end: usize, at: &mut usize) -> Params {
-    Params {
-        c1: trace::small(line, end, at, 255),
-        c2: trace::small(line, end, at, 255),
-        c3: trace::small(line, end, at, 255),
-        d1: trace::small(line, end, at, 255),
-        d2: trace::small(line, end, at, 255),
-        d3: trace::small(line, end, at, 255),
-        express: trace::small(line, end, at, 65535),
-    }
-}
-
-fn status(line: &[u8; 1000], end: usize, at: &mut usize) -> Status {
-    let k = trace::key(line, end, at);
-    match k {
-        words::IDLE => Status::Idle,
-        words::JOINING => Status::Joining,
-        words::MEMBER => Status::Member,
-        words::LEAVING => Status::Leaving,
-        words::CRASHED => Status::Crashed,
-        _ => {
-            trace::spoil(at);
-            Status::Crashed
-        }
-    }
-}
-
-// The fields that are not a source's.
-fn set_top(e: End, field: u64, line: &[u8; 1000], end: usize, at: &mut usize) -> End {
-    let mut t = e;
-    match field {
-        words::HOST => {
-            let host = Host(trace::byte(line, end, at));
-            t.host = host;
-        }
-        words::CLOCK => t.clock = trace::number(line, end, at),
-        words::NEXT => t.next = trace::count(line, end, at),
-        words::PARAMS => {
-            let p = params(line, end, at);
-            t.params = p;
-        }
-        _ => trace::spoil(at),
-    }
-    t
-}
-
-fn span(old: Span, field: u64, line: &[u8; 1000], end: usize, at: &mut usize) -> Span {
-    match field {
-        words::SPAN => {
-            let first = trace::cue_number(line, end, at);
-            let last = trace::cue_number(line, end, at);
-            Some((first, last))
-        }
-        words::CLOSED => None,
-        _ => old,
-    }
-}
-
-fn pair(old: Pair, field: u64, line: &[u8; 1000], end: usize, at: &mut usize) -> Pair {
-    match field {
-        words::PAIR => {
-            let requester = trace::byte(line, end, at);
-            let sender = trace::byte(line, end, at);
-            let number = trace::cue_number(line, end, at);
-            Some((Host(requester), Host(sender), number))
-        }
-        words::NOPAIR => None,
-        _ => old,
+fn status(word: &[u8]) -> Option<Status> {
+    match word {
+        b"idle" => Some(Status::Idle),
+        b"joining" => Some(Status::Joining),
+        b"member" => Some(Status::Member),
+        b"leaving" => Some(Status::Leaving),
+        b"crashed" => Some(Status::Crashed),
+        _ => None,
     }
 }
 
 // The sources that were reported, where there is a third number; otherwise none.
-fn reported(line: &[u8; 1000], end: usize, at: &mut usize) -> Hosts {
-    if trace::whole(end, *at) {
-        return 0;
+fn reported(line: &mut Cursor<'_>) -> Option<u8> {
+    if line.is_whole() {
+        return Some(0);
     }
-    trace::byte(line, end, at)
+    line.byte()
 }
 
-fn heard(old: Heard, field: u64, line: &[u8; 1000], end: usize, at: &mut usize) -> Heard {
+fn heard(line: &mut Cursor<'_>) -> Option<(u64, u64, u8)> {
+    let stamp = line.number()?;
+    let when = line.number()?;
+    Some((stamp, when, reported(line)?))
+}
+
+fn request(line: &mut Cursor<'_>) -> Option<Request> {
+    Some(Request {
+        round: line.byte()?,
+        due: line.number()?,
+        quiet: line.number()?,
+    })
+}
+
+// A waiting request, and perhaps `express DUE` behind it.
+fn waiting(line: &mut Cursor<'_>) -> Option<Slot> {
+    let q = request(line)?;
+    let mut express = None;
+    if line.follows(b"express") {
+        express = Some(line.number()?);
+    }
+    Some(Slot::Waiting(q, express))
+}
+
+fn set_record(r: &mut Record, field: &[u8], line: &mut Cursor<'_>) -> Option<()> {
     match field {
-        words::HEARD => {
-            let stamp = trace::number(line, end, at);
-            let when = trace::number(line, end, at);
-            Some((stamp, when, reported(line, end, at)))
-        }
-        words::UNHEARD => None,
-        _ => old,
+        b"empty" => r.slot = Slot::Empty,
+        b"held" => r.slot = Slot::Held(None),
+        b"waits" => r.slot = waiting(line)?,
+        b"reply" => r.slot = Slot::Held(Some((line.number()?, line.host()?))),
+        b"cue" => r.cue = line.cue()?,
+        b"hush" => r.hush = line.number()?,
+        _ => return None,
     }
-}
-
-fn origin(old: Origin, field: u64, line: &[u8; 1000], end: usize, at: &mut usize) -> Origin {
-    match field {
-        words::ORIGIN => Some(trace::cue_number(line, end, at)),
-        words::NOORIGIN => None,
-        _ => old,
-    }
-}
-
-fn with_source(e: End, h: usize, s: Source) -> End {
-    let mut t = e;
-    if h < 8 {
-        t.sources[h] = s;
-    }
-    t
-}
-
-// The fields of a source that are not a record's.
-fn set_source(e: End, field: u64, line: &[u8; 1000], end: usize, at: &mut usize) -> End {
-    let h = trace::place(line, end, at, 7);
-    let s = source(e, h);
-    let old_span = s.span;
-    let old_pair = s.pair;
-    let old_heard = s.heard;
-    let old_origin = s.origin;
-    let names = s.names;
-    let attempts = s.attempts;
-    let span = span(old_span, field, line, end, at);
-    let pair = pair(old_pair, field, line, end, at);
-    let heard = heard(old_heard, field, line, end, at);
-    let origin = origin(old_origin, field, line, end, at);
-    let mut missed = s.missed;
-    if field == words::MISSED {
-        missed = trace::count(line, end, at);
-    }
-    let mut distance = s.distance;
-    if field == words::DISTANCE {
-        distance = trace::number(line, end, at);
-    }
-    let changed = Source {
-        span,
-        missed,
-        pair,
-        distance,
-        heard,
-        names,
-        origin,
-        attempts,
-    };
-    with_source(e, h, changed)
-}
-
-fn request(line: &[u8; 1000], end: usize, at: &mut usize) -> Request {
-    Request {
-        round: trace::byte(line, end, at),
-        due: trace::number(line, end, at),
-        quiet: trace::number(line, end, at),
-    }
-}
-
-fn reply(line: &[u8; 1000], end: usize, at: &mut usize) -> Reply {
-    let due = trace::number(line, end, at);
-    let requester = trace::byte(line, end, at);
-    Some((due, Host(requester)))
-}
-
-// `express DUE` behind a request, or nothing.
-fn express(line: &[u8; 1000], end: usize, at: &mut usize) -> Express {
-    if trace::peek(line, end, *at) == words::EXPRESS {
-        trace::key(line, end, at);
-        return Some(trace::number(line, end, at));
-    }
-    None
-}
-
-fn waiting(line: &[u8; 1000], end: usize, at: &mut usize) -> Slot {
-    let q = request(line, end, at);
-    let x = express(line, end, at);
-    Slot::Waiting(q, x)
-}
-
-fn slot(old: Slot, field: u64, line: &[u8; 1000], end: usize, at: &mut usize) -> Slot {
-    match field {
-        words::EMPTY => Slot::Empty,
-        words::HELD => Slot::Held(None),
-        words::WAITS => waiting(line, end, at),
-        words::REPLY => Slot::Held(reply(line, end, at)),
-        _ => old,
-    }
-}
-
-// A record with its slot, its cue bytes or its reply-quiet changed.
-fn changed(r: Record, field: u64, line: &[u8; 1000], end: usize, at: &mut usize) -> Record {
-    let old = r.slot;
-    let slot = slot(old, field, line, end, at);
-    let mut cue = r.cue;
-    if field == words::CUE {
-        cue = trace::cue(line, end, at);
-    }
-    let mut hush = r.hush;
-    if field == words::HUSH {
-        hush = trace::number(line, end, at);
-    }
-    Record { slot, cue, hush }
-}
-
-// The fields of a record.
-fn set_record(e: End, field: u64, line: &[u8; 1000], end: usize, at: &mut usize) -> End {
-    let h = trace::place(line, end, at, 7);
-    let n = trace::place(line, end, at, 63);
-    let mut s = source(e, h);
-    let r = changed(record(s, n), field, line, end, at);
-    if n < 64 {
-        s.names[n] = r;
-    }
-    with_source(e, h, s)
+    Some(())
 }
 
 // What was done to fetch the number of a place.
-fn set_attempt(e: End, line: &[u8; 1000], end: usize, at: &mut usize) -> End {
-    let h = trace::place(line, end, at, 7);
-    let n = trace::place(line, end, at, 63);
-    let tried = trace::byte(line, end, at);
-    let late = trace::small(line, end, at, 1) == 1;
-    let mut s = source(e, h);
-    if n < 64 {
-        s.attempts[n] = Attempt { tried, late };
-    }
-    with_source(e, h, s)
+fn attempt(line: &mut Cursor<'_>) -> Option<Attempt> {
+    let tried = line.byte()?;
+    let late = line.small(1)? == 1;
+    Some(Attempt { tried, late })
 }
 
-// The end with what the next words set.
-pub fn set(e: End, line: &[u8; 1000], end: usize, at: &mut usize) -> End {
-    let field = trace::key(line, end, at);
+// The fields that have a place.
+fn set_place(s: &mut Source, field: &[u8], line: &mut Cursor<'_>) -> Option<()> {
+    let place = line.place(63)?;
     match field {
-        words::STATUS => state::with_status(e, status(line, end, at)),
-        words::SPAN
-        | words::CLOSED
-        | words::MISSED
-        | words::PAIR
-        | words::NOPAIR
-        | words::DISTANCE
-        | words::HEARD
-        | words::UNHEARD
-        | words::ORIGIN
-        | words::NOORIGIN => set_source(e, field, line, end, at),
-        words::EMPTY | words::HELD | words::WAITS | words::REPLY | words::CUE | words::HUSH => {
-            set_record(e, field, line, end, at)
-        }
-        words::ATTEMPT => set_attempt(e, line, end, at),
-        _ => set_top(e, field, line, end, at),
+        b"attempt" => s.attempts[place] = attempt(line)?,
+        _ => set_record(&mut s.names[place], field, line)?,
     }
+    Some(())
+}
+
+fn set_source(s: &mut Source, field: &[u8], line: &mut Cursor<'_>) -> Option<()> {
+    match field {
+        b"span" => s.span = Some((line.cue_number()?, line.cue_number()?)),
+        b"closed" => s.span = None,
+        b"missed" => s.missed = line.count()?,
+        b"pair" => s.pair = Some((line.host()?, line.host()?, line.cue_number()?)),
+        b"nopair" => s.pair = None,
+        b"distance" => s.distance = line.number()?,
+        b"heard" => s.heard = Some(heard(line)?),
+        b"unheard" => s.heard = None,
+        b"origin" => s.origin = Some(line.cue_number()?),
+        b"noorigin" => s.origin = None,
+        _ => return set_place(s, field, line),
+    }
+    Some(())
+}
+
+// Sets what the next words say, or nothing of it or a part where they are malformed.
+pub fn set(e: &mut End, line: &mut Cursor<'_>) -> Option<()> {
+    let field = line.word()?;
+    match field {
+        b"host" => e.host = line.host()?,
+        b"clock" => e.clock = line.number()?,
+        b"status" => e.status = status(line.word()?)?,
+        b"next" => e.next = line.count()?,
+        b"params" => e.params = params(line)?,
+        _ => {
+            let source = line.place(7)?;
+            return set_source(&mut e.sources[source], field, line);
+        }
+    }
+    Some(())
 }

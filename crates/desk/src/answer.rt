@@ -1,98 +1,95 @@
-// The answers of the calls in words.
+// What is told of a line: the answers of the calls in words.
+use crate::{Desk, Mode};
 use end::Answer;
-use message::{CueNumber, Host, Message, Name};
-use picture::{letter, text};
-use trace::words;
+use message::{Message, Name};
+use picture::letter;
+use picture::text::Text;
 
-// `refused N`.
-pub fn refused(out: &mut [u8; 65536], n: &mut [usize; 20], question: u8) {
-    text::row(out, n, words::REFUSED, [question as u64, 0, 0, 0, 0, 0], 1);
-}
-
-// Two numbers of a message: its name, or for a `sess` how many reports and echoes it has.
-fn about(m: Message) -> Name {
-    let names = m.names;
-    let first = names[0];
-    if m.kind == message::SESS {
-        return Name {
-            source: Host((m.counts.reports % 256) as u8),
-            number: CueNumber((m.counts.echoes % 256) as u16),
-        };
-    }
-    first.name
-}
-
-// The number of a message's second name.
-fn lead_of(m: Message) -> u64 {
-    let names = m.names;
-    let second = names[1];
-    second.name.number.0 as u64
+// Of the line in play: where in the text it starts, where its answer starts, and where that ends, once there is one; whether it stands with a mark
+// such as CHANGED; and whether the state of its end is shown behind it.
+#[derive(Clone, Copy, Default)]
+pub struct Told {
+    pub start: usize,
+    pub from: usize,
+    pub to: Option<usize>,
+    pub marked: bool,
+    pub shows: bool,
 }
 
 // `out LENGTH`, and the message: its kind, and what it is about; an `annc` has a second number.
-fn put_out(out: &mut [u8; 65536], n: &mut [usize; 20], len: usize, m: Message) {
-    let name = about(m);
-    let source = name.source.0 as u64;
-    let number = name.number.0 as u64;
-    text::row(out, n, words::OUT, [len as u64, 0, 0, 0, 0, 0], 1);
-    text::then_row(
-        out,
-        n,
-        letter::kind_word(m.kind),
-        [source, number, 0, 0, 0, 0],
-        2,
-    );
-    if m.kind == message::ANNC {
-        text::then(out, n, lead_of(m));
+fn put_out(text: &mut Text, len: usize, m: &Message) {
+    let kind = letter::kind_word(m.kind);
+    let first = m.names[0].name;
+    let second = m.names[1].name;
+    write!(text, "out {len} {kind}");
+    match m.kind {
+        message::SESS => write!(text, " {} {}", m.counts.reports, m.counts.echoes),
+        message::ANNC => write!(
+            text,
+            " {} {} {}",
+            first.source.0, first.number.0, second.number.0
+        ),
+        _ => write!(text, " {} {}", first.source.0, first.number.0),
     }
 }
 
-// The message in the first bytes of an output.
-pub fn message_in(bytes: &[u8], len: usize) -> Message {
-    if len <= bytes.len() {
-        let reading = reader::read(&bytes[0..len]);
-        reading.message
-    } else {
-        message::blank()
-    }
+fn with_name(text: &mut Text, word: &str, name: Name) {
+    write!(text, "{word} {} {}", name.source.0, name.number.0);
 }
 
-// `got SOURCE NUMBER`, `clash SOURCE NUMBER`, `late SOURCE NUMBER`.
-fn with_name(out: &mut [u8; 65536], n: &mut [usize; 20], word: u64, name: Name) {
-    let source = name.source.0 as u64;
-    let number = name.number.0 as u64;
-    text::row(out, n, word, [source, number, 0, 0, 0, 0], 2);
-}
-
-fn exhausted(out: &mut [u8; 65536], n: &mut [usize; 20]) {
-    text::word(out, n, words::EXHAUSTE);
-    text::put(out, n, b'd');
-}
-
-// The answer of an event, whose output is given.
-pub fn event(out: &mut [u8; 65536], n: &mut [usize; 20], a: Answer, bytes: &[u8; 200]) {
+// The answer of an event, which accounts for these bytes.
+pub fn put(text: &mut Text, a: Answer, bytes: &[u8]) {
     match a {
-        Answer::Refused(question) => refused(out, n, question),
-        Answer::Out(len) => put_out(out, n, len, message_in(bytes, len)),
-        Answer::Got(name) => with_name(out, n, words::GOT, name),
-        Answer::Done => text::word(out, n, words::DONE),
-        Answer::Ignored => text::word(out, n, words::IGNORED),
-        Answer::Nothing => text::word(out, n, words::NOTHING),
-        Answer::Clash(name) => with_name(out, n, words::CLASH, name),
-        Answer::Late(name) => with_name(out, n, words::LATE, name),
-        Answer::Exhausted => exhausted(out, n),
+        Answer::Refused(question) => write!(text, "refused {question}"),
+        Answer::Out(len) => put_out(text, len, &reader::read(bytes).message),
+        Answer::Got(name) => with_name(text, "got", name),
+        Answer::Done => write!(text, "done"),
+        Answer::Ignored => write!(text, "ignored"),
+        Answer::Nothing => write!(text, "nothing"),
+        Answer::Clash(name) => with_name(text, "clash", name),
+        Answer::Late(name) => with_name(text, "late", name),
+        Answer::Exhausted => write!(text, "exhausted"),
     }
 }
 
-// The answer is whole: what follows is not compared with what is expected.
-pub fn end(n: &mut [usize; 20]) {
-    n[crate::TO] = n[text::USED];
+// How many bytes of the output an answer accounts for.
+pub fn accounted(a: Answer) -> usize {
+    match a {
+        Answer::Out(len) => len,
+        Answer::Got(_) | Answer::Late(_) => 24,
+        _ => 0,
+    }
 }
 
-// ` CHANGED`, where it is so: then no expectation is met.
-pub fn mark_changed(out: &mut [u8; 65536], n: &mut [usize; 20], changed: bool) {
-    if changed {
-        text::then_word(out, n, words::CHANGED);
-        n[crate::MARKED] = 1;
+impl Desk {
+    // Before a line is played: its number, unless a record is printed.
+    pub fn begin_line(&mut self) {
+        let start = self.text.len();
+        if self.mode != Mode::Record {
+            write!(self.text, "{} ", self.counts.lines);
+        }
+        let from = self.text.len();
+        self.told = Told {
+            start,
+            from,
+            ..Told::default()
+        };
+    }
+
+    // A bad line stops the trace.
+    pub fn bad(&mut self) {
+        self.text.truncate(self.told.start);
+        writeln!(self.text, "{} bad", self.counts.lines);
+    }
+
+    // The answer is whole: what follows is not compared with what is expected.
+    pub(crate) fn end_answer(&mut self) {
+        self.told.to = Some(self.text.len());
+    }
+
+    // A mark behind the answer: then no expectation is met.
+    pub(crate) fn mark(&mut self, mark: &str) {
+        write!(self.text, " {mark}");
+        self.told.marked = true;
     }
 }

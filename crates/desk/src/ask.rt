@@ -1,84 +1,47 @@
 // `END ask ..`: what an end is asked.
-use crate::answer;
-use end::End;
-use picture::{flat, same, shown, text};
-use trace::words;
+use crate::Desk;
+use end::{End, Source};
+use picture::text::Text;
+use picture::{flat, same, shown};
+use trace::Cursor;
 
 // The fields of a source and its records.
-fn ask_source(
-    e: End,
-    field: u64,
-    line: &[u8; 1000],
-    end: usize,
-    at: &mut usize,
-    n: &mut [usize; 20],
-    text: &mut [u8; 65536],
-) {
-    let h = trace::place(line, end, at, 7);
-    let s = changes::source(e, h);
-    let head = flat::head_of(s);
+fn put_source(text: &mut Text, s: &Source, field: &[u8], line: &mut Cursor<'_>) -> Option<()> {
     match field {
-        words::MISSED => text::number(text, n, head.missed),
-        words::PAIR => shown::pair(text, n, head),
-        words::DISTANCE => text::number(text, n, head.distance),
-        words::SPAN => shown::span(text, n, head),
-        words::HEARD => shown::heard(text, n, head),
-        words::ORIGIN => shown::origin(text, n, head),
-        words::ATTEMPT => {
-            let place = trace::place(line, end, at, 63);
-            shown::attempt(text, n, changes::attempt(s, place));
-        }
-        words::RECORD => {
-            let place = trace::place(line, end, at, 63);
-            shown::record(text, n, changes::record(s, place));
-        }
-        _ => trace::spoil(at),
+        b"missed" => write!(text, "{}", s.missed),
+        b"pair" => shown::perhaps(text, flat::pair(s), "none"),
+        b"distance" => write!(text, "{}", s.distance),
+        b"span" => shown::perhaps(text, flat::span(s), "closed"),
+        b"heard" => shown::perhaps(text, flat::heard(s), "unheard"),
+        b"origin" => shown::perhaps(text, flat::origin(s), "none"),
+        b"attempt" => write!(text, "{}", flat::attempt(s.attempts[line.place(63)?])),
+        b"record" => shown::record(text, &s.names[line.place(63)?]),
+        _ => return None,
     }
+    Some(())
 }
 
-// `same OTHER`, of which both ends are given.
-fn ask_same(e: End, other: End, n: &mut [usize; 20], text: &mut [u8; 65536]) {
-    if same::ends(e, other) {
-        text::word(text, n, words::SAME);
-    } else {
-        text::word(text, n, words::DIFFEREN);
-        text::put(text, n, b't');
-    }
-}
-
-// The fields that are not a source's.
-fn ask_top(e: End, field: u64, n: &mut [usize; 20], text: &mut [u8; 65536]) {
-    let status = e.status;
-    let params = e.params;
-    match field {
-        words::CLOCK => text::number(text, n, e.clock),
-        words::NEXT => text::number(text, n, e.next as u64),
-        words::HOST => text::number(text, n, e.host.0 as u64),
-        words::STATUS => shown::status(text, n, status),
-        _ => shown::params(text, n, params),
-    }
-}
-
-// What the next words ask of an end.
-pub fn ask(
-    e: End,
-    other: End,
-    line: &[u8; 1000],
-    end: usize,
-    at: &mut usize,
-    n: &mut [usize; 20],
-    text: &mut [u8; 65536],
-) {
-    let field = trace::key(line, end, at);
-    match field {
-        words::CLOCK | words::NEXT | words::HOST | words::STATUS | words::PARAMS => {
-            ask_top(e, field, n, text)
+impl Desk {
+    // What the next words ask of an end, which may ask of the others too.
+    pub fn ask(&mut self, e: &End, ends: &[End; 10], line: &mut Cursor<'_>) -> Option<()> {
+        let field = line.word()?;
+        match field {
+            b"clock" => write!(self.text, "{}", e.clock),
+            b"next" => write!(self.text, "{}", e.next),
+            b"host" => write!(self.text, "{}", e.host.0),
+            b"status" => write!(self.text, "{}", shown::status_word(e.status)),
+            b"params" => write!(self.text, "{}", flat::params(e.params)),
+            b"same" => {
+                let is_same = same::ends(e, &ends[line.place(9)?]);
+                let word = if is_same { "same" } else { "different" };
+                write!(self.text, "{word}");
+            }
+            _ => {
+                let s = &e.sources[line.place(7)?];
+                put_source(&mut self.text, s, field, line)?;
+            }
         }
-        words::SAME => {
-            trace::place(line, end, at, 9);
-            ask_same(e, other, n, text);
-        }
-        _ => ask_source(e, field, line, end, at, n, text),
+        self.end_answer();
+        Some(())
     }
-    answer::end(n);
 }

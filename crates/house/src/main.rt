@@ -2,13 +2,13 @@
 // behind the program's name it prints the record of the run instead (document 02, P13): a script is a trace, and is played as one.
 #![tactic(auto)]
 
+use desk::Mode;
 use std::io;
-use trace::words;
 
 fn main(rt: HostRuntime) -> io::Result<()> {
-    let word = arguments::first(&rt);
-    match word {
-        words::RECORD => playback::run(&rt, desk::RECORD),
+    let mut buffer = [0u8; 4096];
+    match arguments::first(&rt, &mut buffer) {
+        Some(b"record") => playback::run(&rt, Mode::Record),
         _ => console::play(&rt, interpreter::opened()),
     }
 }

@@ -1,96 +1,120 @@
-// Standard input as lines, for the programs that play long lines. Whoever reads keeps the state of reading among its numbers, at FROM and
-// BEFORE; the other numbers are not touched here. No contract can say what is read: these say that reading is safe and ends, and what a read that
-// failed leaves.
+// Standard input as lines, for the programs that play long lines. No contract can say what is read: these say that reading is safe and ends.
 #![tactic(auto)]
 
-ghost use Rattle.std.specs.Prelude.{◌≡◌, ◌≢◌, ℕ, OnErr, slice_index};
+ghost use Rattle.std.specs.Prelude.{◌≤◌};
 
 use std::io;
 use std::io::Read;
 
-// The bytes of the buffer that are still to be taken: from..before.
-pub const FROM: usize = 18;
+// How many bytes a line has at most, its line feed not counted.
+pub const LONGEST: usize = 1000;
 
-pub const BEFORE: usize = 19;
+// How many bytes are read at once.
+const ROOM: usize = 65536;
 
-// What the input holds instead of a line of at most 1,000 bytes: one that is longer or has no line feed, or its end.
-pub const MALFORMED: usize = 1001;
+// What is no line: one that is longer than the longest, or has no line feed.
+#[derive(Clone, Copy, Debug, PartialEq, Eq)]
+pub struct Malformed;
 
-pub const END: usize = 1002;
-
-// One byte more of a line of `len` bytes; a line that is too long stays so.
-fn feed(line: &mut [u8; 1000], len: usize, b: u8) -> usize {
-    if len < 1000 {
-        line[len] = b;
-        return len + 1;
-    }
-    MALFORMED
-}
-
-// Where taking stopped, the length of the line so far, and whether its line feed came.
-#[derive(Clone, Copy)]
-struct Taken {
-    at: usize,
-    len: usize,
-    found: bool,
-}
-
-// Takes the bytes from..have of the buffer into the line, up to its line feed.
-fn take(
-    buffer: &[u8; 65536],
+// The bytes that were read: those from..before are still to be taken.
+#[derive(Drop)]
+struct Buffer {
+    bytes: [u8; 65536],
     from: usize,
-    have: usize,
-    line: &mut [u8; 1000],
-    had: usize,
-) -> Taken {
-    let mut at = from;
-    let mut len = had;
-    let mut found = false;
-    while at < have {
-        if 65536 <= at {
-            break;
-        }
-        let b = buffer[at];
-        at += 1;
-        if b == b'\n' {
-            found = true;
-            break;
-        }
-        len = feed(line, len, b);
-    }
-    Taken { at, len, found }
+    before: usize,
+    ghost in_order: { from ≤ before },
+    ghost inside: { before ≤ 65536 },
 }
 
-// Reads on, and answers how many bytes came: 0 at the end of the input.
-fn refill(input: &mut impl Read, buffer: &mut [u8; 65536]) -> io::Result<usize> {
-    input.read(buffer)
+// A line so far: how many bytes it has, and the first of them.
+// Kept: a length beside the bytes, in fixed memory (no heap): a program that asked for memory might not get it, and print something else.
+#[derive(Drop)]
+struct Line {
+    bytes: [u8; 1000],
+    len: usize,
 }
 
-// The next line: its length, or MALFORMED, or END. A proved loop has to end, and nothing says that the input does, so the turns are
-// counted, up to a number that no run uses up. A read that failed is given back, and may be tried again: the bytes that were read before
-// are kept, but for those of the line that it cut off.
-pub fn next(
-    input: &mut impl Read,
-    buffer: &mut [u8; 65536],
-    n: &mut [usize; 20],
-    line: &mut [u8; 1000],
-) -> io::Result<usize>
-    ensures others_stay { OnErr result ((k : ℕ) → k ≢ 18 → k ≢ 19 → slice_index n.new k ≡ slice_index n.old k) }
-{
-    let mut len: usize = 0;
-    for _ in 0..u64::MAX {
-        let t = take(buffer, n[FROM], n[BEFORE], line, len);
-        n[FROM] = t.at;
-        len = t.len;
-        if t.found {
-            return Ok(len);
-        }
-        let got = refill(input, buffer)?;
-        n[FROM] = 0;
-        n[BEFORE] = got;
-        if got == 0 {
-            return Ok(if len == 0 { END } else { MALFORMED });
+impl Line {
+    fn extend(&mut self, more: &[u8]) {
+        for b in more {
+            if let Some(place) = self.bytes.get_mut(self.len) {
+                *place = *b;
+            }
+            self.len = self.len.saturating_add(1);
         }
     }
-    Ok(END)
+
+    fn bytes(&self) -> Result<&[u8], Malformed> {
+        self.bytes.get(..self.len).ok_or(Malformed)
+    }
+}
+
+impl Buffer {
+    // Takes bytes into the line, up to its line feed, and answers whether that came.
+    fn take(&mut self, line: &mut Line) -> bool {
+        let left = &self.bytes[self.from..self.before];
+        match left.iter().position(|b| *b == b'\n') {
+            Some(len) => {
+                line.extend(&left[..len]);
+                self.from += len + 1;
+                true
+            }
+            None => {
+                line.extend(left);
+                self.from = self.before;
+                false
+            }
+        }
+    }
+
+    // Reads on, once all is taken, and answers whether bytes came: none come at the end of the input.
+    fn refill(&mut self, input: &mut impl Read) -> io::Result<bool> {
+        self.before = self.from;
+        let got = input.read(&mut self.bytes)?;
+        self.from = 0;
+        self.before = got;
+        Ok(got != 0)
+    }
+}
+
+// An input, taken line by line.
+#[derive(Drop)]
+pub struct Lines<R> {
+    input: R,
+    buffer: Buffer,
+    line: Line,
+}
+
+impl<R: Read> Lines<R> {
+    pub fn new(input: R) -> Self {
+        Lines {
+            input,
+            buffer: Buffer {
+                bytes: [0; ROOM],
+                from: 0,
+                before: 0,
+            },
+            line: Line {
+                bytes: [0; LONGEST],
+                len: 0,
+            },
+        }
+    }
+
+    // The next line, or nothing at the end of the input. A proved loop has to end, and nothing says that the input does, so the turns are counted, up
+    // to a number that no run uses up. A read that failed is given back, and may be tried again: the bytes that were read before are kept, but for
+    // those of the line that it cut off.
+    pub fn next(&mut self) -> io::Result<Option<Result<&[u8], Malformed>>> {
+        self.line.len = 0;
+        for _ in 0..u64::MAX {
+            if self.buffer.take(&mut self.line) {
+                return Ok(Some(self.line.bytes()));
+            }
+            if !self.buffer.refill(&mut self.input)? {
+                let cut_off = self.line.len != 0;
+                return Ok(cut_off.then_some(Err(Malformed)));
+            }
+        }
+        Ok(None)
+    }
 }

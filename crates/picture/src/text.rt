@@ -1,156 +1,118 @@
-// The text that is to be printed, in a buffer of which the first bytes are used: how many stands in the numbers of whoever prints, at
-// USED. The other numbers are not touched here.
+// The text that is to be printed.
 ghost use Rattle.std.specs.Prelude.{◌≡◌, ◌≤◌, OnErr};
 
-use std::io;
+use std::fmt::{Display, Formatter};
+use std::{fmt, io};
 
-pub const USED: usize = 0;
-
-// How many bytes the buffer has, and with how many it is written out.
+// How many bytes the text has room for, and with how many it is written out.
 const ROOM: usize = 65536;
 
 const MUCH: usize = 32768;
 
-// One byte more; there is always room, since the buffer is written out in time.
-pub fn put(text: &mut [u8; 65536], n: &mut [usize; 20], b: u8) {
-    let at = n[USED];
-    if at < ROOM {
-        text[at] = b;
-        n[USED] = at + 1;
-    }
+// A text so far. There is always room for a line, since it is written out in time; what has no room is left out.
+// Kept: a length beside the bytes, in fixed memory (no heap): a program that asked for memory might not get it, and print something else.
+#[derive(Drop)]
+pub struct Text {
+    bytes: [u8; 65536],
+    len: usize,
+    ghost inside: { len ≤ 65536 },
 }
 
-// A word, which is given as a number: trace::words.
-pub fn word(text: &mut [u8; 65536], n: &mut [usize; 20], key: u64) {
-    let mut left = key;
-    let mut i: usize = 0;
-    while i < 8 {
-        let b = ((left >> 56) % 256) as u8;
-        if b != 0 {
-            put(text, n, b);
+impl Text {
+    pub fn new() -> Self {
+        Text {
+            bytes: [0; ROOM],
+            len: 0,
         }
-        left = left << 8;
-        i += 1;
     }
-}
 
-pub fn number(text: &mut [u8; 65536], n: &mut [usize; 20], v: u64) {
-    let to = decimal::put_u64(text, n[USED], v);
-    n[USED] = to;
-}
-
-// The same behind a space.
-pub fn then_word(text: &mut [u8; 65536], n: &mut [usize; 20], key: u64) {
-    put(text, n, b' ');
-    word(text, n, key);
-}
-
-pub fn then(text: &mut [u8; 65536], n: &mut [usize; 20], v: u64) {
-    put(text, n, b' ');
-    number(text, n, v);
-}
-
-// An offset behind a space.
-fn then_offset(text: &mut [u8; 65536], n: &mut [usize; 20], z: i16) {
-    put(text, n, b' ');
-    let to = decimal::put_i16(text, n[USED], z);
-    n[USED] = to;
-}
-
-// Four offsets, each behind a space.
-pub fn offsets(text: &mut [u8; 65536], n: &mut [usize; 20], all: [i16; 4]) {
-    let mut i: usize = 0;
-    while i < 4 {
-        then_offset(text, n, all[i]);
-        i += 1;
+    pub fn len(&self) -> usize {
+        self.len
     }
-}
 
-// A word and the first numbers behind it.
-pub fn row(text: &mut [u8; 65536], n: &mut [usize; 20], key: u64, all: [u64; 6], count: usize)
-    requires { count ≤ 6 }
-{
-    word(text, n, key);
-    let mut i: usize = 0;
-    while i < count {
-        then(text, n, all[i]);
-        i += 1;
+    // Takes back what stands from a place on.
+    pub fn truncate(&mut self, len: usize) {
+        self.len = len.min(self.len);
     }
-}
 
-// The same behind a space.
-pub fn then_row(text: &mut [u8; 65536], n: &mut [usize; 20], key: u64, all: [u64; 6], count: usize)
-    requires { count ≤ 6 }
-{
-    put(text, n, b' ');
-    row(text, n, key, all, count);
-}
-
-fn digit(d: u8) -> u8 {
-    if d < 10 { b'0' + d } else { b'A' + d % 16 - 10 }
-}
-
-// A byte as two hexadecimal digits.
-fn hex(text: &mut [u8; 65536], n: &mut [usize; 20], b: u8) {
-    put(text, n, digit(b / 16));
-    put(text, n, digit(b % 16));
-}
-
-// The first of some bytes in hexadecimal digits, or `none`.
-pub fn bytes(text: &mut [u8; 65536], n: &mut [usize; 20], s: &[u8], count: usize) {
-    if count == 0 {
-        word(text, n, trace::words::NONE);
+    // What stands from one place on and before another.
+    pub fn between(&self, from: usize, to: usize) -> &[u8] {
+        self.bytes.get(from..to).unwrap_or(&[])
     }
-    let mut i: usize = 0;
-    while i < count {
-        if i < s.len() {
-            hex(text, n, s[i]);
+
+    pub fn push(&mut self, b: u8) {
+        if let Some(place) = self.bytes.get_mut(self.len) {
+            *place = b;
+            self.len += 1;
         }
-        i += 1;
+    }
+
+    pub fn extend(&mut self, bytes: &[u8]) {
+        for b in bytes {
+            self.push(*b);
+        }
+    }
+
+    // What `write!` calls.
+    pub fn write_fmt<D: Display + Drop>(&mut self, value: D) {
+        let _ = fmt::Write::write(self, value);
+    }
+
+    // Writes out what is there; where that failed, all of it is still there.
+    pub fn flush(&mut self, rt: &impl Print) -> io::Result<()>
+        ensures { OnErr result (self.new ≡ self.old) }
+    {
+        rt.write_all(&self.bytes[..self.len])?;
+        self.len = 0;
+        Ok(())
+    }
+
+    // Writes out what is there, once it is much; where that failed, all of it is still there.
+    pub fn flush_much(&mut self, rt: &impl Print) -> io::Result<()>
+        ensures { OnErr result (self.new ≡ self.old) }
+    {
+        if MUCH < self.len {
+            self.flush(rt)?;
+        }
+        Ok(())
     }
 }
 
-// A number of 64 bits as 16 hexadecimal digits.
-pub fn digits(text: &mut [u8; 65536], n: &mut [usize; 20], d: u64) {
-    let mut left = d;
-    let mut i: usize = 0;
-    while i < 8 {
-        hex(text, n, ((left >> 56) % 256) as u8);
-        left = left << 8;
-        i += 1;
+impl fmt::Write for Text {
+    fn write_str(&mut self, s: &str) -> fmt::Result {
+        self.extend(s.as_bytes());
+        Ok(())
     }
 }
 
-// A sign and a space.
-pub fn sign(text: &mut [u8; 65536], n: &mut [usize; 20], b: u8) {
-    put(text, n, b);
-    put(text, n, b' ');
-}
+// Bytes in hexadecimal digits, or `none`.
+#[derive(Clone, Copy)]
+pub struct Hex<'a>(pub &'a [u8]);
 
-fn write(rt: &impl Print, buffer: &[u8], used: usize) -> io::Result<()> {
-    if used <= buffer.len() {
-        rt.write_all(&buffer[..used])?;
+impl Display for Hex<'_> {
+    fn fmt<W: fmt::Write>(&self, f: &mut Formatter<W>) -> fmt::Result {
+        if self.0.is_empty() {
+            return f.write_str("none");
+        }
+        for b in self.0 {
+            write!(f, "{b:02X}")?;
+        }
+        Ok(())
     }
-    Ok(())
 }
 
-// Writes out what is there; where that failed, all of it is still there.
-pub fn flush(rt: &impl Print, text: &mut [u8; 65536], n: &mut [usize; 20]) -> io::Result<()>
-    ensures text_stays { OnErr result (text.new ≡ text.old) }
-    ensures numbers_stay { OnErr result (n.new ≡ n.old) }
-{
-    write(rt, text, n[USED])?;
-    n[USED] = 0;
-    Ok(())
-}
+// Numbers with a space between them.
+#[derive(Clone, Copy, PartialEq, Eq)]
+pub struct Numbers<const N: usize>(pub [u64; N]);
 
-// Writes out what is there, once it is much; where that failed, all of it is still there.
-pub fn flush_much(rt: &impl Print, text: &mut [u8; 65536], n: &mut [usize; 20]) -> io::Result<()>
-    ensures text_stays { OnErr result (text.new ≡ text.old) }
-    ensures numbers_stay { OnErr result (n.new ≡ n.old) }
-{
-    if MUCH < n[USED] {
-        flush(rt, text, n)?;
+impl<const N: usize> Display for Numbers<N> {
+    fn fmt<W: fmt::Write>(&self, f: &mut Formatter<W>) -> fmt::Result {
+        for (i, v) in self.0.iter().enumerate() {
+            if i != 0 {
+                f.write_str(" ")?;
+            }
+            write!(f, "{v}")?;
+        }
+        Ok(())
     }
-    Ok(())
 }

@@ -1,15 +1,16 @@
 // Plays a trace from standard input on the compiled product: docs/TRACES.md. Behind the program's name may stand `rows`, `words` or `record`.
 #![tactic(auto)]
 
+use desk::Mode;
 use std::io;
-use trace::words;
 
 fn main(rt: HostRuntime) -> io::Result<()> {
-    let word = arguments::first(&rt);
-    match word {
-        words::ROWS => playback::run(&rt, desk::ROWS),
-        words::WORDS => playback::run(&rt, desk::WORDS),
-        words::RECORD => playback::run(&rt, desk::RECORD),
-        _ => playback::run(&rt, desk::PLAIN),
-    }
+    let mut buffer = [0u8; 4096];
+    let mode = match arguments::first(&rt, &mut buffer) {
+        Some(b"rows") => Mode::Rows,
+        Some(b"words") => Mode::Words,
+        Some(b"record") => Mode::Record,
+        _ => Mode::Plain,
+    };
+    playback::run(&rt, mode)
 }

@@ -1,114 +1,77 @@
 // A line on an end.
-use crate::{answer, kept};
-use end::{Answer, Draw, End, Event, Move, Stepped};
-use picture::text;
-use trace::words;
+use crate::answer;
+use crate::kept::Kept;
+use end::{Answer, Draw, End, Event, Move};
+use picture::text::Text;
+use trace::{Bytes, Cursor};
 
-// What the line of an event says: its word and clock, and the focus of a `send`, which is 0 for the others.
+static DRAWS: [Draw; 64] = [0; 64];
+
+// What the line of an event says: the focus of a `send` and the message of a `hear`, which are 0 and none for the others.
 #[derive(Clone, Copy)]
 struct Said {
-    word: u64,
+    what: Event,
     clock: u64,
     focus: i16,
+    message: Bytes,
 }
 
-// The event of a word, of those that `is_event` has.
-fn event_for(word: u64) -> Event {
+fn event_of(word: &[u8]) -> Option<Event> {
     match word {
-        words::JOIN => Event::Moves(Move::Join),
-        words::JOINED => Event::Moves(Move::Joined),
-        words::LEAVE => Event::Moves(Move::Leave),
-        words::LEFT => Event::Moves(Move::Left),
-        words::CRASH => Event::Moves(Move::Crash),
-        words::SEND => Event::Send,
-        words::HEAR => Event::Arrival,
-        words::FIRE => Event::Fire,
-        words::REPORT => Event::Report,
-        _ => Event::Announce,
+        b"join" => Some(Event::Moves(Move::Join)),
+        b"joined" => Some(Event::Moves(Move::Joined)),
+        b"leave" => Some(Event::Moves(Move::Leave)),
+        b"left" => Some(Event::Moves(Move::Left)),
+        b"crash" => Some(Event::Moves(Move::Crash)),
+        b"send" => Some(Event::Send),
+        b"hear" => Some(Event::Arrival),
+        b"fire" => Some(Event::Fire),
+        b"report" => Some(Event::Report),
+        b"announce" => Some(Event::Announce),
+        _ => None,
     }
 }
 
-// Makes the call of an event, with 64 draws of 0; the first `len` bytes are those of the message that is heard.
-fn call(e: End, said: Said, bytes: &[u8], len: usize, out: &mut [u8]) -> Stepped {
-    let size = len.min(bytes.len());
-    let none: [Draw; 64] = [0; 64];
-    let what = event_for(said.word);
+fn read(mut line: Cursor, kept: &Kept) -> Option<Said> {
+    let what = event_of(line.word()?)?;
+    let clock = line.number()?;
+    let focus = match what {
+        Event::Send => line.offset()?,
+        _ => 0,
+    };
+    let message = match what {
+        Event::Arrival => kept.numbered(&mut line)?,
+        _ => Bytes::none(),
+    };
+    line.is_whole().then_some(Said {
+        what,
+        clock,
+        focus,
+        message,
+    })
+}
+
+// Plays a line on an end: makes the call, with 64 draws of 0, prints its answer, and keeps the message that it puts out.
+pub fn play(e: &mut End, line: Cursor, kept: &mut Kept, text: &mut Text) -> Option<()> {
+    let said = read(line, kept)?;
     let cue = message::cue_with(said.focus, 0, 0, 0, 0);
-    link::event(e, said.clock, &none, what, cue, &bytes[0..size], out)
-}
-
-fn is_event(word: u64) -> bool {
-    match word {
-        words::JOIN | words::JOINED | words::LEAVE | words::LEFT | words::CRASH => true,
-        words::SEND | words::HEAR | words::FIRE | words::REPORT | words::ANNOUNCE => true,
-        _ => false,
-    }
-}
-
-fn focus_for(word: u64, line: &[u8; 1000], end: usize, at: &mut usize) -> i16 {
-    if word == words::SEND {
-        trace::offset(line, end, at)
-    } else {
-        0
-    }
-}
-
-// The words of an event, but for the message that a `hear` brings.
-fn read(line: &[u8; 1000], end: usize, at: &mut usize) -> Said {
-    let word = trace::key(line, end, at);
-    if !is_event(word) {
-        trace::spoil(at);
-    }
-    let clock = trace::number(line, end, at);
-    let focus = focus_for(word, line, end, at);
-    Said { word, clock, focus }
-}
-
-// Makes the call, prints its answer, and keeps the message that it puts out.
-fn called(
-    e: End,
-    said: Said,
-    bytes: &[u8; 256],
-    len: usize,
-    n: &mut [usize; 20],
-    places: &mut [u8; 8192],
-    lengths: &mut [u8; 64],
-    text: &mut [u8; 65536],
-) -> End {
     let mut out = [0u8; 128];
     let host = e.host;
-    let clock = said.clock;
-    let s = call(e, said, bytes, len, &mut out);
-    let a = s.answer;
+    let stepped = link::event(
+        *e,
+        said.clock,
+        &DRAWS,
+        said.what,
+        cue,
+        said.message.as_slice(),
+        &mut out,
+    );
+    *e = stepped.end;
     let focus = numbers::read_i16(&out, 0);
-    answer::put(text, n, host, clock, a, focus);
-    text::put(text, n, b'\n');
-    if let Answer::Out(len) = a {
-        kept::keep(places, lengths, n, &out, len);
+    answer::put(text, host, said.clock, stepped.answer, kept.next(), focus);
+    text.extend(b"\n");
+    if let Answer::Out(len) = stepped.answer {
+        kept.keep(&out, len);
     }
-    s.end
-}
-
-// Plays a line on an end, and answers the end that it leaves.
-pub fn play(
-    e: End,
-    line: &[u8; 1000],
-    end: usize,
-    n: &mut [usize; 20],
-    places: &mut [u8; 8192],
-    lengths: &mut [u8; 64],
-    text: &mut [u8; 65536],
-) -> End {
-    let mut at: usize = 1;
-    let mut bytes = [0u8; 256];
-    let mut len: usize = 0;
-    let said = read(line, end, &mut at);
-    if said.word == words::HEAR {
-        len = kept::numbered(places, lengths, n, line, end, &mut at, &mut bytes);
-    }
-    if !trace::whole(end, at) {
-        answer::bad(text, n);
-        return e;
-    }
-    called(e, said, &bytes, len, n, places, lengths, text)
+    Some(())
 }

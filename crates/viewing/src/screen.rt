@@ -1,91 +1,30 @@
 // A line on the display.
-use crate::{FILLING, answer, kept, shown, words as more};
-use display::{Display, Shown};
+use crate::kept::Kept;
+use crate::{answer, shown};
+use display::Display;
 use display_window::Window;
 use end::Answer;
 use message::{Host, Verdict};
-use picture::text;
-use trace::words;
+use picture::text::Text;
+use trace::{Bytes, Cursor};
 
-// ---- opening
+// What the display's output is filled with before a call.
+pub const FILLING: u8 = 165;
 
-fn put_verdict(text: &mut [u8; 65536], n: &mut [usize; 20], v: Verdict) {
-    text::put(text, n, b'2');
-    match v {
-        Verdict::Refused(question) => {
-            text::then_row(text, n, words::REFUSED, [question as u64, 0, 0, 0, 0, 0], 1)
-        }
-        _ => text::then_word(text, n, words::OPENED),
-    }
-    text::put(text, n, b'\n');
-}
-
-// The output before a call.
-fn clear(n: &mut [usize; 20], out: &mut [u8; 200]) {
-    *out = [FILLING; 200];
-    n[crate::LAST] = 0;
-}
-
-// `2 open OWN SENDER`: answers its display, also beside a refusal.
-fn open(
-    d: Display,
-    line: &[u8; 1000],
-    end: usize,
-    from: usize,
-    n: &mut [usize; 20],
-    out: &mut [u8; 200],
-    text: &mut [u8; 65536],
-) -> Display {
-    let mut at = from;
-    let own = trace::byte(line, end, &mut at);
-    let sender = trace::byte(line, end, &mut at);
-    if !trace::whole(end, at) {
-        answer::bad(text, n);
-        return d;
-    }
-    let opened = display::open(Host(own), Host(sender));
-    let verdict = opened.verdict;
-    clear(n, out);
-    put_verdict(text, n, verdict);
-    opened.display
-}
-
-// ---- hear and step
-
-// The message that a `hear` brings: by its number, or in bytes.
-fn brought(
-    places: &[u8; 8192],
-    lengths: &[u8; 64],
-    n: &[usize; 20],
-    line: &[u8; 1000],
-    end: usize,
-    at: &mut usize,
-    bytes: &mut [u8; 256],
-) -> usize {
-    if trace::peek(line, end, *at) == words::BYTES {
-        trace::key(line, end, at);
-        return trace::bytes(line, end, at, bytes);
-    }
-    kept::numbered(places, lengths, n, line, end, at, bytes)
-}
-
-// Makes the call with the first bytes of the message and of the output.
-fn call(
-    d: Display,
-    word: u64,
-    clock: u64,
-    bytes: &[u8],
-    len: usize,
-    out: &mut [u8],
+// The display and its output: how many bytes a call may use, and for how many the last answer accounts.
+#[derive(Clone, Copy)]
+pub struct Screen {
+    display: Display,
+    out: [u8; 200],
     room: usize,
-) -> Shown {
-    let size = len.min(bytes.len());
-    let most = room.min(out.len());
-    if word == words::HEAR {
-        display::hear(d, clock, &bytes[0..size], &mut out[0..most])
-    } else {
-        display::step(d, clock, &mut out[0..most])
-    }
+    last: usize,
+}
+
+// What a call is: a message that is heard, or a step.
+#[derive(Clone, Copy)]
+enum Call {
+    Hear(Bytes),
+    Step,
 }
 
 // How many bytes of the output an answer accounts for.
@@ -97,160 +36,160 @@ fn accounted(a: Answer) -> usize {
     }
 }
 
-// Makes the call, prints its answer and losses, and keeps the message that it puts out.
-fn called(
-    d: Display,
-    word: u64,
-    clock: u64,
-    bytes: &[u8; 256],
-    len: usize,
-    n: &mut [usize; 20],
-    out: &mut [u8; 200],
-    places: &mut [u8; 8192],
-    lengths: &mut [u8; 64],
-    text: &mut [u8; 65536],
-) -> Display {
-    clear(n, out);
-    let s = call(d, word, clock, bytes, len, out, n[crate::ROOM]);
-    let a = s.answer;
-    let lost = s.lost;
-    let focus = numbers::read_i16(out, 0);
-    answer::put(text, n, Host(2), clock, a, focus);
-    shown::lost(text, n, lost);
-    text::put(text, n, b'\n');
-    n[crate::LAST] = accounted(a);
-    if let Answer::Out(len) = a {
-        kept::keep(places, lengths, n, out, len);
-    }
-    s.display
-}
-
-// `2 hear CLOCK MESSAGE` and `2 step CLOCK`.
-fn event(
-    d: Display,
-    word: u64,
-    line: &[u8; 1000],
-    end: usize,
-    from: usize,
-    n: &mut [usize; 20],
-    out: &mut [u8; 200],
-    places: &mut [u8; 8192],
-    lengths: &mut [u8; 64],
-    text: &mut [u8; 65536],
-) -> Display {
-    let mut at = from;
-    let mut bytes = [0u8; 256];
-    let mut len: usize = 0;
-    let clock = trace::number(line, end, &mut at);
-    if word == words::HEAR {
-        len = brought(places, lengths, n, line, end, &mut at, &mut bytes);
-    }
-    if !trace::whole(end, at) {
-        answer::bad(text, n);
-        return d;
-    }
-    called(d, word, clock, &bytes, len, n, out, places, lengths, text)
-}
-
-// ---- set
-
-// Whether the line ends in the word `unstarted`: it has a byte more than a word that is read as a number, so its last byte is read apart.
-fn is_unstarted(line: &[u8; 1000], end: usize, at: usize) -> bool {
-    if end == 0 {
-        return false;
-    }
-    let last = end - 1;
-    let mut ahead = at;
-    let word = trace::key(line, last, &mut ahead);
-    let ends = trace::byte_at(line, end, last) == b'd';
-    (word == more::UNSTARTE) & trace::whole(last, ahead) & ends
-}
-
-// `TRAIL LEAD SET`.
-fn window(line: &[u8; 1000], end: usize, at: &mut usize) -> Window {
-    let trail = trace::cue_number(line, end, at);
-    let lead = trace::cue_number(line, end, at);
-    let set = trace::number(line, end, at);
-    Window { trail, lead, set }
-}
-
-// The display with the field that the next words give.
-fn changed(d: Display, line: &[u8; 1000], end: usize, at: &mut usize) -> Display {
-    let mut t = d;
-    let field = trace::key(line, end, at);
-    match field {
-        words::OWN => {
-            let own = Host(trace::byte(line, end, at));
-            t.own = own;
-        }
-        more::SENDER => {
-            let sender = Host(trace::byte(line, end, at));
-            t.sender = sender;
-        }
-        words::CLOCK => t.clock = trace::number(line, end, at),
-        more::WINDOW => t.window = Some(window(line, end, at)),
-        _ => trace::spoil(at),
-    }
-    t
-}
-
-// `2 set ..`.
-fn set(
-    d: Display,
-    line: &[u8; 1000],
-    end: usize,
-    from: usize,
-    n: &mut [usize; 20],
-    text: &mut [u8; 65536],
-) -> Display {
-    if is_unstarted(line, end, from) {
-        return Display { window: None, ..d };
-    }
-    let mut at = from;
-    let left = changed(d, line, end, &mut at);
-    if !trace::whole(end, at) {
-        answer::bad(text, n);
-    }
-    left
-}
-
-// ---- all lines
-
-// `2 show`.
-fn show(d: Display, whole: bool, n: &mut [usize; 20], out: &[u8; 200], text: &mut [u8; 65536]) {
-    if whole {
-        shown::display(text, n, d);
-        shown::output(text, n, out);
-        text::put(text, n, b'\n');
+// The message that a `hear` brings: by its number, or in bytes.
+fn brought(line: &mut Cursor, kept: &Kept) -> Option<Bytes> {
+    if line.follows(b"bytes") {
+        line.bytes()
     } else {
-        answer::bad(text, n);
+        kept.numbered(line)
     }
 }
 
-// Plays a line on the display, and answers the display that it leaves.
-pub fn play(
-    d: Display,
-    line: &[u8; 1000],
-    end: usize,
-    n: &mut [usize; 20],
-    out: &mut [u8; 200],
-    places: &mut [u8; 8192],
-    lengths: &mut [u8; 64],
-    text: &mut [u8; 65536],
-) -> Display {
-    let mut at: usize = 1;
-    let word = trace::key(line, end, &mut at);
-    match word {
-        words::OPEN => open(d, line, end, at, n, out, text),
-        words::HEAR | more::STEP => { event(d, word, line, end, at, n, out, places, lengths, text) }
-        words::SET => set(d, line, end, at, n, text),
-        words::SHOW => {
-            show(d, trace::whole(end, at), n, out, text);
-            d
+// `unstarted`, or `window TRAIL LEAD SET`, or another field with its value: the display with it.
+fn changed(d: Display, line: &mut Cursor) -> Option<Display> {
+    let field = line.word()?;
+    match field {
+        b"unstarted" => Some(Display { window: None, ..d }),
+        b"own" => Some(Display {
+            own: line.host()?,
+            ..d
+        }),
+        b"sender" => Some(Display {
+            sender: line.host()?,
+            ..d
+        }),
+        b"clock" => Some(Display {
+            clock: line.number()?,
+            ..d
+        }),
+        b"window" => {
+            let trail = line.cue_number()?;
+            let lead = line.cue_number()?;
+            let set = line.number()?;
+            let window = Some(Window { trail, lead, set });
+            Some(Display { window, ..d })
         }
-        _ => {
-            answer::bad(text, n);
-            d
+        _ => None,
+    }
+}
+
+impl Screen {
+    pub fn new() -> Self {
+        Screen {
+            display: display::open(Host(2), Host(0)).display,
+            out: [FILLING; 200],
+            room: 128,
+            last: 0,
+        }
+    }
+
+    // `room BYTES`.
+    pub fn set_room(&mut self, line: &[u8]) -> Option<()> {
+        let (b"room", mut rest) = Cursor::first(line)? else {
+            return None;
+        };
+        let room = rest.place(200)?;
+        if !rest.is_whole() {
+            return None;
+        }
+        self.room = room;
+        Some(())
+    }
+
+    // The output before a call.
+    fn clear(&mut self) {
+        self.out.fill(FILLING);
+        self.last = 0;
+    }
+
+    // `2 open OWN SENDER`: leaves its display, also beside a refusal.
+    fn open(&mut self, mut line: Cursor, text: &mut Text) -> Option<()> {
+        let own = line.host()?;
+        let sender = line.host()?;
+        if !line.is_whole() {
+            return None;
+        }
+        self.clear();
+        let opened = display::open(own, sender);
+        self.display = opened.display;
+        match opened.verdict {
+            Verdict::Refused(question) => write!(text, "2 refused {question}\n"),
+            _ => text.extend(b"2 opened\n"),
+        }
+        Some(())
+    }
+
+    // Makes a call, prints its answer and losses, and keeps the message that it puts out.
+    fn call(&mut self, call: Call, clock: u64, kept: &mut Kept, text: &mut Text) {
+        self.clear();
+        let out = &mut self.out[..self.room.min(200)];
+        let shown = match call {
+            Call::Hear(message) => display::hear(self.display, clock, message.as_slice(), out),
+            Call::Step => display::step(self.display, clock, out),
+        };
+        self.display = shown.display;
+        self.last = accounted(shown.answer);
+        let focus = numbers::read_i16(&self.out, 0);
+        answer::put(text, Host(2), clock, shown.answer, kept.next(), focus);
+        shown::lost(text, &shown.lost);
+        text.extend(b"\n");
+        if let Answer::Out(len) = shown.answer {
+            kept.keep(&self.out, len);
+        }
+    }
+
+    // `2 hear CLOCK MESSAGE`.
+    fn hear(&mut self, mut line: Cursor, kept: &mut Kept, text: &mut Text) -> Option<()> {
+        let clock = line.number()?;
+        let message = brought(&mut line, kept)?;
+        if !line.is_whole() {
+            return None;
+        }
+        self.call(Call::Hear(message), clock, kept, text);
+        Some(())
+    }
+
+    // `2 step CLOCK`.
+    fn step(&mut self, mut line: Cursor, kept: &mut Kept, text: &mut Text) -> Option<()> {
+        let clock = line.number()?;
+        if !line.is_whole() {
+            return None;
+        }
+        self.call(Call::Step, clock, kept, text);
+        Some(())
+    }
+
+    // `2 set ..`.
+    fn set(&mut self, mut line: Cursor) -> Option<()> {
+        let changed = changed(self.display, &mut line)?;
+        if !line.is_whole() {
+            return None;
+        }
+        self.display = changed;
+        Some(())
+    }
+
+    // `2 show`.
+    fn show(&self, line: Cursor, text: &mut Text) -> Option<()> {
+        if !line.is_whole() {
+            return None;
+        }
+        shown::display(text, &self.display);
+        shown::output(text, &self.out, self.last);
+        text.extend(b"\n");
+        Some(())
+    }
+
+    // Plays a line on the display.
+    pub fn play(&mut self, mut line: Cursor, kept: &mut Kept, text: &mut Text) -> Option<()> {
+        let word = line.word()?;
+        match word {
+            b"open" => self.open(line, text),
+            b"hear" => self.hear(line, kept, text),
+            b"step" => self.step(line, kept, text),
+            b"set" => self.set(line),
+            b"show" => self.show(line, text),
+            _ => None,
         }
     }
 }

@@ -1,107 +1,43 @@
 // What is shown of a display: its losses, its state and its output.
-use crate::{FILLING, words as more};
+use crate::screen::FILLING;
 use display::Display;
-use display_window::{Lost, Span, Window};
-use picture::text;
-use trace::words;
+use display_window::Lost;
+use picture::text::{Hex, Text};
 
-// ---- losses
-
-// The numbers of a set, rising, each behind a space: place i of it stands for first + i.
-fn set(text: &mut [u8; 65536], n: &mut [usize; 20], first: u16, all: u64) {
-    let mut left = all;
-    let mut number = first as u64;
-    let mut i: usize = 0;
-    while i < 64 {
-        if left % 2 == 1 {
-            text::then(text, n, number);
-        }
-        left = left / 2;
-        number = next(number);
-        i += 1;
+// `; lost` and the numbers, where there are any: place i of the set stands for trail + i.
+pub fn lost(text: &mut Text, lost: &Lost) {
+    if lost.set == 0 && lost.above.is_none() {
+        return;
     }
-}
-
-// The next number, bounded so that the sum cannot overflow: no set reaches so far.
-fn next(number: u64) -> u64 {
-    if number < 1000000 { number + 1 } else { number }
-}
-
-// ` FROM..TO`.
-fn span(text: &mut [u8; 65536], n: &mut [usize; 20], s: Span) {
-    text::then(text, n, s.first.0 as u64);
-    text::put(text, n, b'.');
-    text::put(text, n, b'.');
-    text::number(text, n, s.last.0 as u64);
-}
-
-fn is_any(lost: Lost) -> bool {
-    lost.set != 0 || lost.above.is_some()
-}
-
-// `; lost` and the numbers, where there are any.
-pub fn lost(text: &mut [u8; 65536], n: &mut [usize; 20], lost: Lost) {
-    if is_any(lost) {
-        text::sign(text, n, b';');
-        text::word(text, n, more::LOST);
-        set(text, n, lost.trail.0, lost.set);
-        if let Some(s) = lost.above {
-            span(text, n, s);
+    text.extend(b"; lost");
+    for i in 0..64u64 {
+        if (lost.set >> i) % 2 == 1 {
+            write!(text, " {}", u64::from(lost.trail.0) + i);
         }
     }
-}
-
-// ---- the state
-
-// A word and a number, each behind a space.
-fn field(text: &mut [u8; 65536], n: &mut [usize; 20], word: u64, v: u64) {
-    text::then_word(text, n, word);
-    text::then(text, n, v);
-}
-
-fn window(text: &mut [u8; 65536], n: &mut [usize; 20], w: Option<Window>) {
-    match w {
-        None => {
-            text::then_word(text, n, more::UNSTARTE);
-            text::put(text, n, b'd');
-        }
-        Some(w) => {
-            field(text, n, more::TRAIL, w.trail.0 as u64);
-            field(text, n, more::LEAD, w.lead.0 as u64);
-            field(text, n, words::SET, w.set);
-        }
+    if let Some(span) = lost.above {
+        write!(text, " {}..{}", span.first.0, span.last.0);
     }
 }
 
 // The state of the display.
-pub fn display(text: &mut [u8; 65536], n: &mut [usize; 20], d: Display) {
-    let w = d.window;
-    text::put(text, n, b'2');
-    field(text, n, words::OWN, d.own.0 as u64);
-    field(text, n, more::SENDER, d.sender.0 as u64);
-    field(text, n, words::CLOCK, d.clock);
-    window(text, n, w);
-}
-
-// ---- the output
-
-// Whether all bytes from a place on are the filling.
-fn is_filled(out: &[u8; 200], from: usize) -> bool {
-    let mut ok = true;
-    let mut i: usize = 0;
-    while i < 200 {
-        ok = ok & ((i < from) | (out[i] == FILLING));
-        i += 1;
+pub fn display(text: &mut Text, d: &Display) {
+    write!(
+        text,
+        "2 own {} sender {} clock {}",
+        d.own.0, d.sender.0, d.clock
+    );
+    match d.window {
+        Some(w) => write!(text, " trail {} lead {} set {}", w.trail.0, w.lead.0, w.set),
+        None => text.extend(b" unstarted"),
     }
-    ok
 }
 
-// `; OUTPUT`, as far as the last answer accounts for it.
-pub fn output(text: &mut [u8; 65536], n: &mut [usize; 20], out: &[u8; 200]) {
-    let last = n[crate::LAST];
-    text::sign(text, n, b';');
-    text::bytes(text, n, out, last);
-    if !is_filled(out, last) {
-        text::then_word(text, n, words::CHANGED);
+// `; OUTPUT`, as far as the last answer accounts for it, and whether the rest was changed.
+pub fn output(text: &mut Text, out: &[u8; 200], last: usize) {
+    let (front, rest) = out.split_at(last.min(200));
+    write!(text, "; {}", Hex(front));
+    if rest.iter().any(|b| *b != FILLING) {
+        text.extend(b" CHANGED");
     }
 }

@@ -1,9 +1,0 @@
--- `picture::letter::echoes` meets its contract: the measure is the places that are left. Assumes nothing.
-use Rattle.std.proofs.Common.{◌-◌}
-use Rattle.picture.proofs.letter.echoes.Given as goal
-
-abbrev pub invariant-loop-i : goal.invariant-loop-i
-invariant-loop-i l = Unit
-
-abbrev pub decreases-loop-i : goal.decreases-loop-i
-decreases-loop-i l = 7 - l.i

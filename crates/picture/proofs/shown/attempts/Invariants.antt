@@ -1,9 +1,0 @@
--- `picture::shown::attempts` meets its contract: the measure is the places that are left. Assumes nothing.
-use Rattle.std.proofs.Common.{◌-◌}
-use Rattle.picture.proofs.shown.attempts.Given as goal
-
-abbrev pub invariant-loop-i : goal.invariant-loop-i
-invariant-loop-i g l = Unit
-
-abbrev pub decreases-loop-i : goal.decreases-loop-i
-decreases-loop-i g l = 64 - l.i

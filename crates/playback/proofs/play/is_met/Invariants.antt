@@ -1,9 +1,0 @@
--- `playback::play::is_met` meets its contract: the measure is the bytes that are left. Assumes nothing.
-use Rattle.std.proofs.Common.{◌-◌}
-use Rattle.playback.proofs.play.is_met.Given as goal
-
-abbrev pub invariant-loop-i : goal.invariant-loop-i
-invariant-loop-i l = Unit
-
-abbrev pub decreases-loop-i : goal.decreases-loop-i
-decreases-loop-i l = l.last - l.i

@@ -10,10 +10,11 @@ use lib.Dec.{ltb, leb}
 use lib.ListN.{length, drop, set, length-append, length-set}
 use lib.Seq.{drop-cons, get_or-set_same, drop-set-lt}
 use lib.IntN.{ℤ, pos, negsuc}
-use borrow.Author.Tests.{lt-ltb, le-ltb, le-leb, leb-true}
+use borrow.Author.Tests.{lt-ltb, le-ltb, le-leb, leb-true, ltb-true}
 use mir.Syntax.{w16}
 use mir.Val.{SFits}
-use Rattle.numbers.specs.Signed.{signed}
+use lib.Signed.{lt_z}
+use Rattle.std.specs.Prelude.{unsigned_abs}
 use Rattle.numbers.proofs.Cases.{by_order}
 use Rattle.decimal.specs.Decimal.{figures, decimal, signed_decimal, is_digit, all_digits, value_after}
 
@@ -129,15 +130,14 @@ digits_step s (suc j) n g p h =
     let k' : j < length (set s j (48 + n % 10)) = simp length-set (omega arith) in
     rw (sub-one, decimal-more n g, append_assoc, drop-cons (set s j (48 + n % 10)) j 0 k', get_or-set_same s j (48 + n % 10) 0 k, drop-set-lt (suc j) s j (48 + n % 10) (omega arith))
 
--- ---- 16 bits
+-- ---- signed numbers
 
--- bits below 32768, and from there on
-pub low_bits : (v : ℕ) → v < 32768 → decimal v ≡ signed_decimal (signed v)
+pub below_zero : (z : ℤ) → lt_z z (pos 0) ≡ true → 45 ∷ decimal (unsigned_abs z) ≡ signed_decimal z
 unfolding signed_decimal
-low_bits v l = rw (lt-ltb v 32768 l)
+below_zero (pos n) h = absurd (omega (arith, ltb-true n 0 h))
+below_zero (negsuc n) h = refl
 
-pub high_bits : (v : ℕ) → 32768 ≤ v → v < 65536 → 45 ∷ decimal (65536 - v) ≡ signed_decimal (signed v)
+pub from_zero : (z : ℤ) → lt_z z (pos 0) ≡ false → decimal (unsigned_abs z) ≡ signed_decimal z
 unfolding signed_decimal
-high_bits v g l =
-    let e : 65536 - v ≡ suc (65535 - v) = omega arith in
-    rw (le-ltb v 32768 g) (ap (λ (n : ℕ). 45 ∷ decimal n) e)
+from_zero (pos n) h = refl
+from_zero (negsuc n) h = absurd (let k : ◌≡◌ {A = ℕ} 0 1 = cc in omega arith)

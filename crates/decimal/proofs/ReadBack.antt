@@ -11,10 +11,8 @@ use lib.ListN.{get_or, drop}
 use borrow.Author.Tests.{lt-ltb, le-leb, ltb-true, leb-true, eqb-true, eqb-false, ne_eqb, not-true}
 use mir.Syntax.{w16}
 use mir.Val.{SFits}
+use Rattle.std.specs.Prelude.{None, Option, Some}
 use Rattle.numbers.proofs.Cases.{by_flag, by_order}
-use Rattle.decimal.specs.declared.Unsigned.{Unsigned}
-use Rattle.decimal.specs.declared.Unsigned.TheVariants.{Number, NoNumber}
-use Rattle.decimal.specs.declared.Signed.TheVariants.{Integer, NoInteger}
 use Rattle.decimal.specs.Decimal.{decimal, signed_decimal, is_digit, all_digits, well_written, value_after, unsigned_word, as_positive, as_negative, signed_word}
 use Rattle.decimal.proofs.DecimalLaws.{both, after_more, digit_range, figure_digit, all_more, decimal-one, decimal-more}
 use Rattle.decimal.proofs.WordLaws.{is_number}
@@ -64,8 +62,8 @@ written-decimal n =
     (λ l. ap well_written (decimal-one n l) ∙ figure_digit n l)
     (λ g. let p = printed-within n n (omega arith) (omega arith) in ap well_written p.2 ∙ written_cons p.0 p.1 p.3 p.4 p.5)
 
-pub printed-reads : (n : ℕ) → n < 2 ^ 64 → unsigned_word (decimal n) ≡ Number n
-printed-reads n h = sym (is_number (decimal n) (written-decimal n) (omega (arith, value-decimal n))) ∙ ap Number (value-decimal n)
+pub printed-reads : (n : ℕ) → n < 2 ^ 64 → unsigned_word (decimal n) ≡ Some n
+printed-reads n h = sym (is_number (decimal n) (written-decimal n) (omega (arith, value-decimal n))) ∙ ap Some (value-decimal n)
 
 -- ---- read, then printed
 
@@ -105,20 +103,20 @@ written_back (b ∷ c ∷ s) w =
     decimal-from b (c ∷ s) p.0 p.1
 
 -- a word that is a number is well written, and its digits stand for that number, below 2^64
-pub is_read : (s : List ℕ) (n : ℕ) → unsigned_word s ≡ Number n → (well_written s ≡ true) × (value_after 0 s ≡ n) × (n < 2 ^ 64)
+pub is_read : (s : List ℕ) (n : ℕ) → unsigned_word s ≡ Some n → (well_written s ≡ true) × (value_after 0 s ≡ n) × (n < 2 ^ 64)
 unfolding unsigned_word
 is_read s n h =
     by_flag (well_written s && ltb (value_after 0 s) (2 ^ 64))
     (λ t.
     let p = both (well_written s) (ltb (value_after 0 s) (2 ^ 64)) t in
-    let e : Number (value_after 0 s) ≡ Number n = rw t at h in
+    let e : Some (value_after 0 s) ≡ Some n = rw t at h in
     let v : value_after 0 s ≡ n = cc in
     (p.0, v, omega (arith, ltb-true (value_after 0 s) (2 ^ 64) p.1)))
     (λ f.
-    let e : NoNumber ≡ Number n = rw f at h in
+    let e : None ≡ Some n = rw f at h in
     absurd (let z : ◌≡◌ {A = ℕ} 0 1 = cc in omega arith))
 
-pub read_printed : (s : List ℕ) (n : ℕ) → unsigned_word s ≡ Number n → decimal n ≡ s
+pub read_printed : (s : List ℕ) (n : ℕ) → unsigned_word s ≡ Some n → decimal n ≡ s
 read_printed s n h =
     let r = is_read s n h in
     ap decimal (sym r.1) ∙ written_back s r.0
@@ -133,40 +131,40 @@ starts_with_digit n =
     (λ l. omega (arith, ap (λ (s : List ℕ). get_or s 0 0) (decimal-one n l)))
     (λ g. let p = printed-within n n (omega arith) (omega arith) in omega (arith, p.3, ap (λ (s : List ℕ). get_or s 0 0) p.2))
 
-pub signed_reads : (z : ℤ) → SFits w16 z → signed_word (signed_decimal z) ≡ Integer z
+pub signed_reads : (z : ℤ) → SFits w16 z → signed_word (signed_decimal z) ≡ Some z
 unfolding signed_word signed_decimal
 signed_reads (pos n) f =
     let k : n < 32768 = f.sfits in
     rw (ne_eqb (get_or (decimal n) 0 0) 45 (λ e. omega (arith, starts_with_digit n)), printed-reads n (omega arith), lt-ltb n 32768 k)
 signed_reads (negsuc n) f =
     let k : n < 32768 = f.sfits in
-    rw (printed-reads (suc n) (omega arith), lt-ltb 0 (suc n) (omega arith), le-leb (suc n) 32768 (omega arith)) (ap (λ (m : ℕ). Integer (negsuc m)) (omega arith))
+    rw (printed-reads (suc n) (omega arith), lt-ltb 0 (suc n) (omega arith), le-leb (suc n) 32768 (omega arith)) (ap (λ (m : ℕ). Some (negsuc m)) (omega arith))
 
 -- what the two signs make of an unsigned number
-positive_of : (u : Unsigned) (z : ℤ) → as_positive u ≡ Integer z → (n : ℕ) × (u ≡ Number n) × (z ≡ pos n) × (n < 32768)
-positive_of (Number n) z h =
+positive_of : (u : Option ℕ) (z : ℤ) → as_positive u ≡ Some z → (n : ℕ) × (u ≡ Some n) × (z ≡ pos n) × (n < 32768)
+positive_of (Some n) z h =
     by_flag (ltb n 32768)
-    (λ t. let e : Integer (pos n) ≡ Integer z = rw t at h in (n, refl, (cc), ltb-true n 32768 t))
-    (λ f. let e : NoInteger ≡ Integer z = rw f at h in absurd (let w : ◌≡◌ {A = ℕ} 0 1 = cc in omega arith))
-positive_of NoNumber z h = absurd (let w : ◌≡◌ {A = ℕ} 0 1 = cc in omega arith)
+    (λ t. let e : Some (pos n) ≡ Some z = rw t at h in (n, refl, (cc), ltb-true n 32768 t))
+    (λ f. let e : None ≡ Some z = rw f at h in absurd (let w : ◌≡◌ {A = ℕ} 0 1 = cc in omega arith))
+positive_of None z h = absurd (let w : ◌≡◌ {A = ℕ} 0 1 = cc in omega arith)
 
-negative_of : (u : Unsigned) (z : ℤ) → as_negative u ≡ Integer z → (n : ℕ) × (u ≡ Number (suc n)) × (z ≡ negsuc n) × (n < 32768)
-negative_of (Number n) z h =
+negative_of : (u : Option ℕ) (z : ℤ) → as_negative u ≡ Some z → (n : ℕ) × (u ≡ Some (suc n)) × (z ≡ negsuc n) × (n < 32768)
+negative_of (Some n) z h =
     by_flag (ltb 0 n && leb n 32768)
     (λ t.
-    let e : Integer (negsuc (n - 1)) ≡ Integer z = rw t at h in
+    let e : Some (negsuc (n - 1)) ≡ Some z = rw t at h in
     let p = both (ltb 0 n) (leb n 32768) t in
     let k : 0 < n = ltb-true 0 n p.0 in
     let m : n ≡ suc (n - 1) = omega arith in
-    (n - 1, ap Number m, (cc), omega (arith, leb-true n 32768 p.1)))
-    (λ f. let e : NoInteger ≡ Integer z = rw f at h in absurd (let w : ◌≡◌ {A = ℕ} 0 1 = cc in omega arith))
-negative_of NoNumber z h = absurd (let w : ◌≡◌ {A = ℕ} 0 1 = cc in omega arith)
+    (n - 1, ap Some m, (cc), omega (arith, leb-true n 32768 p.1)))
+    (λ f. let e : None ≡ Some z = rw f at h in absurd (let w : ◌≡◌ {A = ℕ} 0 1 = cc in omega arith))
+negative_of None z h = absurd (let w : ◌≡◌ {A = ℕ} 0 1 = cc in omega arith)
 
 minus_cons : (s : List ℕ) → get_or s 0 0 ≡ 45 → 45 ∷ drop 1 s ≡ s
 minus_cons [] e = absurd (omega arith)
 minus_cons (b ∷ s) e = ap (λ (x : ℕ). x ∷ s) (sym e)
 
-pub signed-printed : (s : List ℕ) (z : ℤ) → signed_word s ≡ Integer z → signed_decimal z ≡ s
+pub signed-printed : (s : List ℕ) (z : ℤ) → signed_word s ≡ Some z → signed_decimal z ≡ s
 unfolding signed_word signed_decimal
 signed-printed s z h =
     by_flag (eqb (get_or s 0 0) 45)
@@ -178,7 +176,7 @@ signed-printed s z h =
     ap signed_decimal p.2 ∙ read_printed s p.0 p.1)
 
 -- a word that is a signed number is one of 16 bits
-pub signed-fits : (s : List ℕ) (z : ℤ) → signed_word s ≡ Integer z → SFits w16 z
+pub signed-fits : (s : List ℕ) (z : ℤ) → signed_word s ≡ Some z → SFits w16 z
 unfolding signed_word
 signed-fits s z h =
     by_flag (eqb (get_or s 0 0) 45)

@@ -1,11 +1,7 @@
 -- A number in decimal, printed and read. Document 01, "Cases": "decimal numbers without leading zeros or plus sign; a clock is
 -- below 2^64, a focus is a signed 16-bit number, never "-0"". Characters are ASCII codes: 48 is "0", 57 is "9", 45 is "-".
 -- An integer is `pos n`, which is n, or `negsuc n`, which is −(n + 1). The theorems are in proofs/ReadBack.antt.
-use Rattle.std.specs.Prelude.{Bool, true, false, not, cond, ◌&&◌, List, [], ◌∷◌, ◌++◌, ℕ, zero, suc, ◌+◌, ◌*◌, ◌-◌, ◌/◌, ◌%◌, ◌^◌, ltb, leb, eqb, ℤ, pos, negsuc, get_or, drop}
-use Rattle.decimal.specs.declared.Unsigned.{Unsigned}
-use Rattle.decimal.specs.declared.Unsigned.TheVariants.{Number, NoNumber}
-use Rattle.decimal.specs.declared.Signed.{Signed}
-use Rattle.decimal.specs.declared.Signed.TheVariants.{Integer, NoInteger}
+use Rattle.std.specs.Prelude.{Bool, true, false, not, cond, ◌&&◌, List, [], ◌∷◌, ◌++◌, ℕ, zero, suc, ◌+◌, ◌*◌, ◌-◌, ◌/◌, ◌%◌, ◌^◌, ltb, leb, eqb, ℤ, pos, negsuc, get_or, drop, None, Option, Some}
 
 -- ---- printed
 
@@ -46,18 +42,18 @@ value_after high [] = high
 value_after high (b ∷ s) = value_after (high * 10 + (b - 48)) s
 
 -- what a word means as an unsigned number: "decimal numbers without leading zeros or plus sign", "below 2^64"
-unfoldable pub unsigned_word : List ℕ → Unsigned
-unsigned_word s = cond (well_written s && ltb (value_after 0 s) (2 ^ 64)) (Number (value_after 0 s)) NoNumber
+unfoldable pub unsigned_word : List ℕ → Option ℕ
+unsigned_word s = cond (well_written s && ltb (value_after 0 s) (2 ^ 64)) (Some (value_after 0 s)) None
 
 -- an unsigned number as a signed 16-bit one, and as the size of a negative one, which is not 0: "never "-0""
-abbrev pub as_positive : Unsigned → Signed
-as_positive (Number n) = cond (ltb n 32768) (Integer (pos n)) NoInteger
-as_positive NoNumber = NoInteger
+abbrev pub as_positive : Option ℕ → Option ℤ
+as_positive (Some n) = cond (ltb n 32768) (Some (pos n)) None
+as_positive None = None
 
-abbrev pub as_negative : Unsigned → Signed
-as_negative (Number n) = cond (ltb 0 n && leb n 32768) (Integer (negsuc (n - 1))) NoInteger
-as_negative NoNumber = NoInteger
+abbrev pub as_negative : Option ℕ → Option ℤ
+as_negative (Some n) = cond (ltb 0 n && leb n 32768) (Some (negsuc (n - 1))) None
+as_negative None = None
 
 -- what a word means as a signed 16-bit number
-unfoldable pub signed_word : List ℕ → Signed
+unfoldable pub signed_word : List ℕ → Option ℤ
 signed_word s = cond (eqb (get_or s 0 0) 45) (as_negative (unsigned_word (drop 1 s))) (as_positive (unsigned_word s))

@@ -2,155 +2,85 @@
 // printed as, what a word means) and Room.antt (a part of a line, bytes put where there is room).
 #![tactic(auto)]
 
-ghost use Rattle.std.specs.Prelude.{◌≡◌, ◌∷◌, ◌-◌, min};
+ghost use Rattle.std.specs.Prelude.{◌≡◌, List, ℕ, Option, Some, ◌∷◌};
 ghost use Rattle.numbers.specs.Splice.{splice};
-ghost use Rattle.numbers.specs.Signed.{signed};
-ghost use Rattle.decimal.specs.declared.Unsigned.TheVariants.{Number};
 ghost use Rattle.decimal.specs.Decimal.{decimal, signed_decimal, unsigned_word, as_positive, as_negative, signed_word};
 ghost use Rattle.decimal.specs.Room.{part, Put};
-ghost use Rattle.decimal.specs.Steps.{with_digit, digits_after, First, Width, Fits};
+ghost use Rattle.decimal.specs.Steps.{with_digit, digits_after, Width, Fits};
 
-// What a word means as an unsigned number.
-#[derive(Clone, Copy)]
-pub enum Unsigned {
-    Number(u64),
-    NoNumber,
+// A number that a word may mean: an unsigned one below 2^64, or a signed one of 16 bits.
+pub trait Number: Sized {
+    ghost meaning: { List ℕ → Option Self };
+
+    // The number that a whole word means.
+    fn from_word(word: &[u8]) -> Option<Self>
+        ensures { result ≡ meaning word.now };
 }
-
-// What a word means as a signed 16-bit number.
-#[derive(Clone, Copy)]
-pub enum Signed {
-    Integer(i16),
-    NoInteger,
-}
-
-// The largest number below 2^64.
-const LARGEST: u64 = 18446744073709551615;
 
 // A number with one digit more after it, where the byte is a digit and the result is below 2^64.
-fn with_digit(v: u64, b: u8) -> Unsigned
-    ensures { result ≡ with_digit (Number v) b }
+fn with_digit(v: u64, b: u8) -> Option<u64>
+    ensures { result ≡ with_digit (Some v) b }
 {
-    if !((b'0' <= b) & (b <= b'9')) {
-        return Unsigned::NoNumber;
+    if !b.is_ascii_digit() {
+        return None;
     }
-    let d = (b - b'0') as u64;
-    // ten times v and d more would be above the largest
-    if (LARGEST - d) / 10 < v {
-        return Unsigned::NoNumber;
-    }
-    Unsigned::Number(v * 10 + d)
-}
-
-// The same after what was read so far, which may be no number already.
-fn more(u: Unsigned, b: u8) -> Unsigned
-    ensures { result ≡ with_digit u b }
-{
-    match u {
-        Unsigned::Number(v) => with_digit(v, b),
-        Unsigned::NoNumber => Unsigned::NoNumber,
-    }
+    v.checked_mul(10)?.checked_add(u64::from(b - b'0'))
 }
 
 // The number that digits stand for; zeros before them count for nothing.
-fn digits_in(s: &[u8]) -> Unsigned
-    ensures { result ≡ digits_after (Number 0) s.now }
+fn digits_in(digits: &[u8]) -> Option<u64>
+    ensures { result ≡ digits_after (Some 0) digits.now }
 {
-    let mut u = Unsigned::Number(0);
-    let mut i: usize = 0;
-    while i < s.len() {
-        u = more(u, s[i]);
-        i += 1;
+    let mut v = 0;
+    for b in digits {
+        v = with_digit(v, *b)?;
     }
-    u
+    Some(v)
 }
 
-// The first byte of a word, 0 where it has none.
-fn first(s: &[u8]) -> u8
-    ensures { First s.now result }
-{
-    if s.len() == 0 {
-        return 0;
-    }
-    s[0]
-}
+impl Number for u64 {
+    ghost meaning = { unsigned_word };
 
-// The unsigned number that a whole slice means.
-pub fn number_in(s: &[u8]) -> Unsigned
-    ensures { result ≡ unsigned_word s.now }
-{
-    let b = first(s);
-    if (b == 0) | ((b == b'0') & (1 < s.len())) {
-        return Unsigned::NoNumber;
-    }
-    digits_in(s)
-}
-
-fn least(a: usize, b: usize) -> usize
-    ensures { result ≡ min a b }
-{
-    if a < b { a } else { b }
-}
-
-// The unsigned number that the bytes from `from` on and before `to` mean. What lies past the line's end is not there.
-pub fn read_u64(line: &[u8], from: usize, to: usize) -> Unsigned
-    ensures { result ≡ unsigned_word (part from to line.now) }
-{
-    let end = least(to, line.len());
-    let start = least(from, end);
-    number_in(&line[start..end])
-}
-
-// An unsigned number as a signed one.
-fn positive(u: Unsigned) -> Signed
-    ensures { result ≡ as_positive u }
-{
-    match u {
-        Unsigned::Number(n) => {
-            if n < 32768 {
-                Signed::Integer(numbers::to_i16(n as u16))
-            } else {
-                Signed::NoInteger
-            }
+    fn from_word(word: &[u8]) -> Option<u64> {
+        if word.is_empty() {
+            return None;
         }
-        Unsigned::NoNumber => Signed::NoInteger,
-    }
-}
-
-// An unsigned number as what stands after a minus sign. Its 16 bits are those of 65536 less the number.
-fn negative(u: Unsigned) -> Signed
-    ensures { result ≡ as_negative u }
-{
-    match u {
-        Unsigned::Number(n) => {
-            if (0 < n) & (n <= 32768) {
-                Signed::Integer(numbers::to_i16((65536 - n) as u16))
-            } else {
-                Signed::NoInteger
-            }
+        if (word[0] == b'0') & (1 < word.len()) {
+            return None;
         }
-        Unsigned::NoNumber => Signed::NoInteger,
+        digits_in(word)
     }
 }
 
-// The signed 16-bit number that a whole slice means.
-pub fn signed_in(s: &[u8]) -> Signed
-    ensures { result ≡ signed_word s.now }
+// What stands after a minus sign, which is no 0, as a negative number.
+fn negative(n: u64) -> Option<i16>
+    ensures { result ≡ as_negative (Some n) }
 {
-    if first(s) == b'-' {
-        negative(number_in(&s[1..]))
+    if (0 < n) & (n <= 32768) {
+        Some((-(n as i64)) as i16)
     } else {
-        positive(number_in(s))
+        None
     }
 }
 
-// The signed 16-bit number that the bytes from `from` on and before `to` mean.
-pub fn read_i16(line: &[u8], from: usize, to: usize) -> Signed
-    ensures { result ≡ signed_word (part from to line.now) }
+impl Number for i16 {
+    ghost meaning = { signed_word };
+
+    fn from_word(word: &[u8]) -> Option<i16> {
+        match word.strip_prefix(b"-") {
+            Some(size) => negative(u64::from_word(size)?),
+            None => i16::try_from(u64::from_word(word)?).ok(),
+        }
+    }
+}
+
+// The number that the bytes from `from` on and before `to` mean. What lies past the line's end is not there.
+pub fn read<N: Number>(line: &[u8], from: usize, to: usize) -> Option<N>
+    ensures { result ≡ N.meaning (part from to line.now) }
 {
-    let end = least(to, line.len());
-    let start = least(from, end);
-    signed_in(&line[start..end])
+    let end = to.min(line.len());
+    let start = from.min(end);
+    N::from_word(&line[start..end])
 }
 
 // How many digits a number has.
@@ -164,13 +94,6 @@ fn width(n: u64) -> usize
         w += 1;
     }
     w
-}
-
-// How many bytes there are from `at` on.
-fn room_from(at: usize, len: usize) -> usize
-    ensures { result ≡ len - at }
-{
-    if at < len { len - at } else { 0 }
 }
 
 // Writes the digits of n, which end before `end`, the last one first.
@@ -193,7 +116,7 @@ pub fn put_u64(out: &mut [u8], at: usize, n: u64) -> usize
     ensures { Put at (decimal n) out.old out.new result }
 {
     let w = width(n);
-    if w <= room_from(at, out.len()) {
+    if w <= out.len().saturating_sub(at) {
         put_digits(out, at, at + w, n);
         at + w
     } else {
@@ -206,7 +129,7 @@ fn put_negative(out: &mut [u8], at: usize, n: u64) -> usize
     ensures { Put at (45 ∷ decimal n) out.old out.new result }
 {
     let w = width(n) + 1;
-    if w <= room_from(at, out.len()) {
+    if w <= out.len().saturating_sub(at) {
         out[at] = b'-';
         put_digits(out, at + 1, at + w, n);
         at + w
@@ -215,21 +138,14 @@ fn put_negative(out: &mut [u8], at: usize, n: u64) -> usize
     }
 }
 
-// Writes a number that is given by its 16 bits. From 32768 on they are those of a negative number, whose size is 65536 less them.
-fn put_bits(out: &mut [u8], at: usize, bits: u16) -> usize
-    ensures { Put at (signed_decimal (signed bits)) out.old out.new result }
-{
-    let n = bits as u64;
-    if n < 32768 {
-        put_u64(out, at, n)
-    } else {
-        put_negative(out, at, 65536 - n)
-    }
-}
-
 // Writes a signed number from `at` on and answers where it ends, as put_u64 does.
 pub fn put_i16(out: &mut [u8], at: usize, z: i16) -> usize
     ensures { Put at (signed_decimal z) out.old out.new result }
 {
-    put_bits(out, at, numbers::of_i16(z))
+    let size = u64::from(z.unsigned_abs());
+    if z < 0 {
+        put_negative(out, at, size)
+    } else {
+        put_u64(out, at, size)
+    }
 }

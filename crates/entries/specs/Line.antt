@@ -1,16 +1,34 @@
 -- What a line of the program "windows" means. Its form is document 01's for text inputs: "one space between words, a line feed after each
 -- line, and decimal numbers without leading zeros or plus sign"; a date is YYYY-MM-DD. The lines are `window FIRST LAST START END`,
 -- `next DATE MINUTE`, `roll DATE` and `clear`; a line is given without its line feed. Characters are ASCII codes: 45 is "-".
-use Rattle.std.specs.Prelude.{cond, ◌&&◌, List, [], ◌∷◌, ℕ, ◌+◌, ◌*◌, ◌-◌, ltb, eqb, length, get_or}
+use Rattle.std.specs.Prelude.{cond, ◌&&◌, List, [], ◌∷◌, ℕ, ◌+◌, ◌*◌, ◌-◌, ltb, eqb, length, get_or, None, Option, Some}
 use Rattle.calendar.specs.Calendar.{date}
-use Rattle.decimal.specs.declared.Unsigned.{Unsigned}
-use Rattle.decimal.specs.declared.Unsigned.TheVariants.{Number, NoNumber}
+use Rattle.openings.specs.declared.Window.{Window}
+use Rattle.openings.specs.declared.Moment.{Moment}
 use Rattle.decimal.specs.Decimal.{is_digit, unsigned_word}
 use Rattle.script.specs.Words.{words, same}
-use Rattle.entries.specs.declared.DateWord.{DateWord}
-use Rattle.entries.specs.declared.DateWord.TheVariants.{Is, NoDate}
-use Rattle.entries.specs.declared.Line.{Line}
-use Rattle.entries.specs.declared.Line.TheVariants.{Add, Next, Roll, Clear, Malformed}
+use Rattle.calendar.specs.declared.Date.{Date}
+use Rattle.entries.specs.declared.Asked.{Asked}
+use Rattle.entries.specs.declared.Asked.TheVariants as asked
+
+-- what a line asks, or that it is malformed
+abbrev pub Line : Type 0
+Line = Option Asked
+
+pattern abbrev pub Add : Window → Line
+Add w = Some (asked.Add w)
+
+pattern abbrev pub Next : Moment → Line
+Next m = Some (asked.Next m)
+
+pattern abbrev pub Roll : Date → Line
+Roll d = Some (asked.Roll d)
+
+pattern abbrev pub Clear : Line
+Clear = Some asked.Clear
+
+pattern abbrev pub Malformed : Line
+Malformed = None
 
 -- the lines' first words
 abbrev pub window : List ℕ
@@ -25,40 +43,42 @@ roll = 114 ∷ 111 ∷ 108 ∷ 108 ∷ []
 abbrev pub clear : List ℕ
 clear = 99 ∷ 108 ∷ 101 ∷ 97 ∷ 114 ∷ []
 
--- two digits as a number, or 100 where they are none
-unfoldable pub pair_of : ℕ → ℕ → ℕ
-pair_of a b = cond (is_digit a && is_digit b) ((a - 48) * 10 + (b - 48)) 100
+-- two digits as a number
+unfoldable pub pair_of : ℕ → ℕ → Option ℕ
+pair_of a b = cond (is_digit a && is_digit b) (Some ((a - 48) * 10 + (b - 48))) None
 
-abbrev pub pair_at : List ℕ → ℕ → ℕ
+abbrev pub pair_at : List ℕ → ℕ → Option ℕ
 pair_at w i = pair_of (get_or w i 0) (get_or w (i + 1) 0)
 
--- a date from its pairs of digits and what stands between them; it may not exist
-unfoldable pub date_from : ℕ → ℕ → ℕ → ℕ → ℕ → ℕ → DateWord
-date_from century year dash month hyphen day =
-    cond (((((ltb century 100 && ltb year 100) && eqb dash 45) && ltb month 100) && eqb hyphen 45) && ltb day 100)
-    (Is (date (century * 100 + year) month day))
-    NoDate
+-- a date from its pairs of digits: those of the century, the year in it, the month and the day; it may not exist
+abbrev pub date_from : Option ℕ → Option ℕ → Option ℕ → Option ℕ → Option Date
+date_from (Some century) (Some year) (Some month) (Some day) = Some (date (century * 100 + year) month day)
+date_from (Some century) (Some year) (Some month) None = None
+date_from (Some century) (Some year) None day = None
+date_from (Some century) None month day = None
+date_from None year month day = None
 
 -- the date that a word of ten bytes names: YYYY-MM-DD
-unfoldable pub date_word : List ℕ → DateWord
-date_word w = cond (eqb (length w) 10) (date_from (pair_at w 0) (pair_at w 2) (get_or w 4 0) (pair_at w 5) (get_or w 7 0) (pair_at w 8)) NoDate
+unfoldable pub date_word : List ℕ → Option Date
+date_word w =
+    cond (eqb (length w) 10 && (eqb (get_or w 4 0) 45 && eqb (get_or w 7 0) 45)) (date_from (pair_at w 0) (pair_at w 2) (pair_at w 5) (pair_at w 8)) None
 
 -- a line by what its words mean; a minute is a number below 65536, which may not be one of a day
-abbrev pub roll_of : DateWord → Line
-roll_of (Is d) = Roll d
-roll_of NoDate = Malformed
+abbrev pub roll_of : Option Date → Line
+roll_of (Some d) = Roll d
+roll_of None = Malformed
 
-abbrev pub next_of : DateWord → Unsigned → Line
-next_of (Is d) (Number n) = cond (ltb n 65536) (Next (record { date = d; minute = n })) Malformed
-next_of (Is d) NoNumber = Malformed
-next_of NoDate n = Malformed
+abbrev pub next_of : Option Date → Option ℕ → Line
+next_of (Some d) (Some n) = cond (ltb n 65536) (Next (record { date = d; minute = n })) Malformed
+next_of (Some d) None = Malformed
+next_of None n = Malformed
 
-abbrev pub window_of : DateWord → DateWord → Unsigned → Unsigned → Line
-window_of (Is a) (Is b) (Number s) (Number e) = cond (ltb s 65536 && ltb e 65536) (Add (record { first = a; last = b; start = s; end = e })) Malformed
-window_of (Is a) (Is b) (Number s) NoNumber = Malformed
-window_of (Is a) (Is b) NoNumber e = Malformed
-window_of (Is a) NoDate s e = Malformed
-window_of NoDate b s e = Malformed
+abbrev pub window_of : Option Date → Option Date → Option ℕ → Option ℕ → Line
+window_of (Some a) (Some b) (Some s) (Some e) = cond (ltb s 65536 && ltb e 65536) (Add (record { first = a; last = b; start = s; end = e })) Malformed
+window_of (Some a) (Some b) (Some s) None = Malformed
+window_of (Some a) (Some b) None e = Malformed
+window_of (Some a) None s e = Malformed
+window_of None b s e = Malformed
 
 -- a line by its words
 unfoldable pub clear_in : List ℕ → Line

@@ -1,250 +1,153 @@
 // The lines of the program "windows" and the answers that it prints, one at a time: a line is read, an answer is put into a buffer. The
 // definitions are in specs/: Line.antt (what a line means) and Print.antt (what is printed). The stream of lines is of the crate timetable.
-#![tactic(auto)]
+#![tactic(auto, unfolding(crate::specs::Line::pair_of, crate::specs::Line::date_word, crate::specs::Line::clear_in, crate::specs::Line::roll_in, crate::specs::Line::next_in, crate::specs::Line::window_in))]
 
-ghost use Rattle.std.specs.Prelude.{◌≡◌, false, cond, [], ◌∷◌, ◌++◌, ◌+◌, ◌/◌, ◌%◌, ◌≤◌, ◌<◌, length};
+ghost use Rattle.std.specs.Prelude.{◌≡◌, [], ◌∷◌, ◌++◌, ◌+◌, ◌/◌, ◌%◌, ◌≤◌, ◌<◌, length};
 ghost use Rattle.decimal.specs.Decimal.{decimal as decimalOf};
 ghost use Rattle.answers.specs.Put.{Put};
-ghost use Rattle.script.specs.Words.{same as sameWord};
-ghost use Rattle.script.specs.Ends.{Space};
-ghost use Rattle.entries.specs.declared.Line.TheVariants.{Malformed};
-ghost use Rattle.entries.specs.Line.{pair_of, date_from, date_word, roll_of, next_of, window_of, roll_in, next_in, window_in, clear_in, line_of};
+ghost use Rattle.entries.specs.Line.{pair_of, date_from, date_word, roll_in, next_in, window_in, clear_in, line_of};
 ghost use Rattle.entries.specs.Print.{widest, date_text, days_line, opening_line, roll_line, refused_line};
 
 use calendar::Date;
-use decimal::Unsigned;
+use decimal::Number;
 use openings::{Moment, Opening, Window};
-
-// A date that a word names, which may not exist, or a word that names none.
-#[derive(Clone, Copy)]
-pub enum DateWord {
-    Is(Date),
-    NoDate,
-}
+use script::{Words, same};
 
 // What a line asks.
 #[derive(Clone, Copy)]
-pub enum Line {
+pub enum Asked {
     Add(Window),
     Next(Moment),
     Roll(Date),
     Clear,
-    Malformed,
 }
 
 // ---- a line is read
 
-// Whether two words are the same.
-fn same(a: &[u8], b: &[u8]) -> bool
-    ensures { result ≡ sameWord a.now b.now }
-{
-    if a.len() != b.len() {
-        return false;
-    }
-    let mut ok = true;
-    let mut i: usize = 0;
-    while i < a.len() {
-        ok = ok & (a[i] == b[i]);
-        i += 1;
-    }
-    ok
-}
-
-// Where the next space stands, from a place on, or the line's length where there is none.
-fn space(line: &[u8], from: usize) -> usize
-    ensures { Space line.now from result }
-{
-    let mut i = from;
-    while i < line.len() {
-        if line[i] == b' ' {
-            return i;
-        }
-        i += 1;
-    }
-    i
-}
-
-// Two digits as a number, or 100 where they are none.
-fn pair(a: u8, b: u8) -> u8
+// Two digits as a number.
+fn pair(a: u8, b: u8) -> Option<u8>
     ensures { result ≡ pair_of a b }
 {
-    if a < b'0' {
-        return 100;
-    }
-    if b'9' < a {
-        return 100;
-    }
-    if b < b'0' {
-        return 100;
-    }
-    if b'9' < b {
-        return 100;
-    }
-    (a - b'0') * 10 + (b - b'0')
-}
-
-// A date from its two pairs of digits for the year, a hyphen, the month, a hyphen, the day.
-fn date_from(century: u8, year: u8, dash: u8, month: u8, hyphen: u8, day: u8) -> DateWord
-    ensures { result ≡ date_from century year dash month hyphen day }
-{
-    if (century < 100)
-        & (year < 100)
-        & (dash == b'-')
-        & (month < 100)
-        & (hyphen == b'-')
-        & (day < 100)
-    {
-        let years = (century as u16) * 100 + (year as u16);
-        DateWord::Is(Date::new(years, month, day))
+    if a.is_ascii_digit() & b.is_ascii_digit() {
+        Some((a - b'0') * 10 + (b - b'0'))
     } else {
-        DateWord::NoDate
+        None
     }
 }
 
-// The date that a word names.
-fn date_in(w: &[u8]) -> DateWord
+// A date from its pairs of digits: those of the century, the year in it, the month and the day.
+fn date_from(
+    century: Option<u8>,
+    year: Option<u8>,
+    month: Option<u8>,
+    day: Option<u8>,
+) -> Option<Date>
+    ensures { result ≡ date_from century year month day }
+{
+    let years = u16::from(century?) * 100 + u16::from(year?);
+    Some(Date::new(years, month?, day?))
+}
+
+// The date that a word names, which may not exist.
+fn date_in(w: &[u8]) -> Option<Date>
     ensures { result ≡ date_word w.now }
 {
     if w.len() != 10 {
-        return DateWord::NoDate;
+        return None;
     }
-    date_from(
-        pair(w[0], w[1]),
-        pair(w[2], w[3]),
-        w[4],
-        pair(w[5], w[6]),
-        w[7],
-        pair(w[8], w[9]),
-    )
-}
-
-fn roll_of(d: DateWord) -> Line
-    ensures { result ≡ roll_of d }
-{
-    match d {
-        DateWord::Is(date) => Line::Roll(date),
-        DateWord::NoDate => Line::Malformed,
+    if (w[4] == b'-') & (w[7] == b'-') {
+        date_from(
+            pair(w[0], w[1]),
+            pair(w[2], w[3]),
+            pair(w[5], w[6]),
+            pair(w[8], w[9]),
+        )
+    } else {
+        None
     }
-}
-
-fn next_of(d: DateWord, k: Unsigned) -> Line
-    ensures { result ≡ next_of d k }
-{
-    let DateWord::Is(date) = d else {
-        return Line::Malformed;
-    };
-    let Unsigned::Number(n) = k else {
-        return Line::Malformed;
-    };
-    if n < 65536 {
-        return Line::Next(Moment {
-            date,
-            minute: n as u16,
-        });
-    }
-    Line::Malformed
-}
-
-fn window_of(a: DateWord, b: DateWord, s: Unsigned, e: Unsigned) -> Line
-    ensures { result ≡ window_of a b s e }
-{
-    let DateWord::Is(first) = a else {
-        return Line::Malformed;
-    };
-    let DateWord::Is(last) = b else {
-        return Line::Malformed;
-    };
-    let Unsigned::Number(from) = s else {
-        return Line::Malformed;
-    };
-    let Unsigned::Number(to) = e else {
-        return Line::Malformed;
-    };
-    if 65536 <= from {
-        return Line::Malformed;
-    }
-    if 65536 <= to {
-        return Line::Malformed;
-    }
-    Line::Add(Window {
-        first,
-        last,
-        start: from as u16,
-        end: to as u16,
-    })
-}
-
-// A line, if the test says so.
-fn chosen(test: bool, line: Line) -> Line
-    ensures { result ≡ cond test line Malformed }
-{
-    if test { line } else { Line::Malformed }
 }
 
 // A line of one word, of two, of three, of five.
-fn clear_in(v: &[u8]) -> Line
+fn clear_in(v: &[u8]) -> Option<Asked>
     ensures { result ≡ clear_in v.now }
 {
-    chosen(same(v, b"clear"), Line::Clear)
+    same(v, b"clear").then_some(Asked::Clear)
 }
 
-fn roll_in(v: &[u8], d: &[u8]) -> Line
+fn roll_in(v: &[u8], d: &[u8]) -> Option<Asked>
     ensures { result ≡ roll_in v.now d.now }
 {
-    chosen(same(v, b"roll"), roll_of(date_in(d)))
+    if same(v, b"roll") {
+        date_in(d).map(Asked::Roll)
+    } else {
+        None
+    }
 }
 
-fn next_in(v: &[u8], d: &[u8], k: &[u8]) -> Line
+// A minute is a number below 65536, which may not be one of a day.
+fn next_in(v: &[u8], d: &[u8], k: &[u8]) -> Option<Asked>
     ensures { result ≡ next_in v.now d.now k.now }
 {
-    chosen(same(v, b"next"), next_of(date_in(d), decimal::number_in(k)))
+    if !same(v, b"next") {
+        return None;
+    }
+    let date = date_in(d)?;
+    let minute = u64::from_word(k)?;
+    if minute < 65536 {
+        Some(Asked::Next(Moment {
+            date,
+            minute: minute as u16,
+        }))
+    } else {
+        None
+    }
 }
 
-fn window_in(v: &[u8], a: &[u8], b: &[u8], s: &[u8], e: &[u8]) -> Line
+fn window_in(v: &[u8], a: &[u8], b: &[u8], s: &[u8], e: &[u8]) -> Option<Asked>
     ensures { result ≡ window_in v.now a.now b.now s.now e.now }
 {
-    let line = window_of(
-        date_in(a),
-        date_in(b),
-        decimal::number_in(s),
-        decimal::number_in(e),
-    );
-    chosen(same(v, b"window"), line)
+    if !same(v, b"window") {
+        return None;
+    }
+    let first = date_in(a)?;
+    let last = date_in(b)?;
+    let start = u64::from_word(s)?;
+    let end = u64::from_word(e)?;
+    if 65536 <= start {
+        return None;
+    }
+    if 65536 <= end {
+        return None;
+    }
+    Some(Asked::Add(Window {
+        first,
+        last,
+        start: start as u16,
+        end: end as u16,
+    }))
 }
 
 // Reads a line, which is given without its line feed.
-pub fn read_line(line: &[u8]) -> Line
+pub fn read_line(line: &[u8]) -> Option<Asked>
     requires { length line.now ≤ 40 }
     ensures { result ≡ line_of line.now }
 {
-    let n = line.len();
-    let a = space(line, 0);
-    if n <= a {
-        return clear_in(line);
+    let mut words = Words::of(line);
+    let v = words.next()?;
+    let Some(a) = words.next() else {
+        return clear_in(v);
+    };
+    let Some(b) = words.next() else {
+        return roll_in(v, a);
+    };
+    let Some(s) = words.next() else {
+        return next_in(v, a, b);
+    };
+    let e = words.next()?;
+    if words.next().is_some() {
+        return None;
     }
-    let b = space(line, a + 1);
-    if n <= b {
-        return roll_in(&line[..a], &line[a + 1..]);
-    }
-    let c = space(line, b + 1);
-    if n <= c {
-        return next_in(&line[..a], &line[a + 1..b], &line[b + 1..]);
-    }
-    let d = space(line, c + 1);
-    if n <= d {
-        return Line::Malformed;
-    }
-    let e = space(line, d + 1);
-    if n <= e {
-        return window_in(
-            &line[..a],
-            &line[a + 1..b],
-            &line[b + 1..c],
-            &line[c + 1..d],
-            &line[d + 1..],
-        );
-    }
-    Line::Malformed
+    window_in(v, a, b, s, e)
 }
 
 // ---- an answer is printed
@@ -269,8 +172,8 @@ fn date_text(d: Date) -> [u8; 10]
 {
     let century = d.year / 100;
     let year = d.year % 100;
-    let month = d.month as u16;
-    let day = d.day as u16;
+    let month = u16::from(d.month);
+    let day = u16::from(d.day);
     [
         tens(century),
         ones(century),

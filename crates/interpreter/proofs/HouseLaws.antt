@@ -6,7 +6,7 @@ use Prim.Native.Nat.{ℕ, ◌<◌}
 use native.Mathlib.Omega.{arith}
 use lib.ListN.{length, length-append}
 use lib.Dec.{eqb}
-use Rattle.script.specs.declared.Line.{Line}
+use Rattle.script.specs.Line.{Line}
 use Rattle.script.specs.Line.{line_of}
 use Rattle.script.proofs.LineLaws.{long-line}
 use Rattle.player.specs.House.{House, bad_line, after_line, at_end, prints_from}

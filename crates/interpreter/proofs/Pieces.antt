@@ -9,7 +9,7 @@ use lib.Dec.{eqb}
 use borrow.Author.Tests.{lt-ltb, le-ltb}
 use Rattle.numbers.proofs.Cases.{by_flag, by_order}
 use Rattle.lines.specs.Cut.{longest}
-use Rattle.script.specs.declared.Line.{Line}
+use Rattle.script.specs.Line.{Line}
 use Rattle.script.specs.Line.{line_of}
 use Rattle.player.specs.House.{House, bad_line, after_line, line_prints, line_house, line_stops, prints_from}
 use Rattle.interpreter.specs.Interpreter.{Standing, start, within, ended, after_byte, byte_prints, after, prints, end_prints, all_print, joined, PrintsInPieces}

@@ -12,8 +12,7 @@ use Rattle.numbers.proofs.Cases.{by_order}
 use Rattle.numbers.proofs.SpliceLaws.{splice_nil}
 use Rattle.end.specs.declared.End.{End}
 use Rattle.script.specs.declared.Call.{Call}
-use Rattle.script.specs.declared.Line.{Line}
-use Rattle.script.specs.declared.Line.TheVariants.{Play}
+use Rattle.script.specs.Line.{Line, Play}
 use Rattle.store.specs.declared.Store.{Store}
 use Rattle.store.specs.Store.{kept}
 use Rattle.answers.specs.Put.{Put}

@@ -2,8 +2,8 @@
 -- print what the whole script does, `prints_of` of the crate player, is the statement `PrintsInPieces`, proved in proofs/Pieces.antt.
 use Rattle.std.specs.Prelude.{◌≡◌, Bool, false, cond, List, [], ◌∷◌, ◌++◌, ℕ, eqb, ltb, length, take}
 use Rattle.lines.specs.Cut.{longest}
-use Rattle.script.specs.declared.Line.{Line}
-use Rattle.script.specs.declared.Line.TheVariants.{Malformed}
+use Rattle.script.specs.Line.{Line}
+use Rattle.script.specs.Line.{Malformed}
 use Rattle.script.specs.Line.{line_of}
 use Rattle.store.specs.Store.{kept}
 use Rattle.player.specs.House.{House, opened, line_prints, line_house, line_stops, at_end, prints_of}

@@ -3,8 +3,8 @@ use Rattle.std.specs.Prelude.{◌≡◌, true, ◌⊎◌, List, [], ℕ, ◌+◌
 use Rattle.numbers.specs.Splice.{splice}
 use Rattle.lines.specs.declared.Fed.{Fed}
 use Rattle.lines.specs.declared.Fed.TheVariants.{More, Whole, TooLong}
-use Rattle.script.specs.declared.Line.{Line}
-use Rattle.script.specs.declared.Line.TheVariants.{Malformed}
+use Rattle.script.specs.Line.{Line}
+use Rattle.script.specs.Line.{Malformed}
 use Rattle.script.specs.Line.{line_of}
 use Rattle.answers.specs.Put.{Put}
 use Rattle.player.specs.House.{House, widest, line_prints}

@@ -6,7 +6,7 @@
 ghost use Rattle.std.specs.Prelude.{◌≡◌, true, false, cond, ◌+◌, ◌≤◌, length, take};
 ghost use Rattle.numbers.specs.Splice.{splice};
 ghost use Rattle.end.specs.Opening.{house_params, opening_of};
-ghost use Rattle.script.specs.Line.{line_of};
+ghost use Rattle.script.specs.Line.{Play, Malformed, line_of};
 ghost use Rattle.player.specs.House.{widest};
 ghost use Rattle.interpreter.specs.Interpreter.{start, end_prints, house_in, standing};
 ghost use Rattle.interpreter.specs.Promise.{PlaysLine, Turns, Feeds};
@@ -14,7 +14,7 @@ ghost use Rattle.interpreter.specs.Promise.{PlaysLine, Turns, Feeds};
 use end::{End, Params};
 use lines::Fed;
 use message::Host;
-use script::{Call, Line};
+use script::Call;
 use store::Store;
 
 // The two ends, hosts 0 and 1, and the messages that they have put out. Where it explains, the reason is printed after "ignored".
@@ -116,7 +116,7 @@ fn chosen(test: bool, first: End, second: End) -> End
 // Plays a call on the end that it names.
 fn play_call(pair: Pair, call: Call, out: &mut [u8], at: usize) -> Turned
     requires { at + widest ≤ length out.old }
-    ensures { PlaysLine (Line.Play call) (house_in pair) at out.old out.new result }
+    ensures { PlaysLine (Play call) (house_in pair) at out.old out.new result }
 {
     let host = call.end;
     let verb = call.verb;
@@ -148,7 +148,7 @@ fn play_call(pair: Pair, call: Call, out: &mut [u8], at: usize) -> Turned
 // Prints that a line is malformed: the script stops.
 fn play_malformed(pair: Pair, out: &mut [u8], at: usize) -> Turned
     requires { at + widest ≤ length out.old }
-    ensures { PlaysLine Line.Malformed (house_in pair) at out.old out.new result }
+    ensures { PlaysLine Malformed (house_in pair) at out.old out.new result }
 {
     let used = player::put_printed(out, at, Host(0), 0, None);
     Turned {
@@ -160,18 +160,18 @@ fn play_malformed(pair: Pair, out: &mut [u8], at: usize) -> Turned
 }
 
 // Plays a line.
-fn play(pair: Pair, meant: Line, out: &mut [u8], at: usize) -> Turned
+fn play(pair: Pair, meant: Option<Call>, out: &mut [u8], at: usize) -> Turned
     requires { at + widest ≤ length out.old }
     ensures { PlaysLine meant (house_in pair) at out.old out.new result }
 {
     match meant {
-        Line::Play(call) => play_call(pair, call, out, at),
-        Line::Malformed => play_malformed(pair, out, at),
+        Some(call) => play_call(pair, call, out, at),
+        None => play_malformed(pair, out, at),
     }
 }
 
 // What the first bytes of a line's buffer mean.
-fn meaning(line: &[u8], len: usize) -> Line
+fn meaning(line: &[u8], len: usize) -> Option<Call>
     ensures { result ≡ line_of (take len line.now) }
 {
     script::read_line(&line[..len.min(line.len())])
@@ -190,7 +190,7 @@ fn turn(pair: Pair, fed: Fed, line: &[u8; 34], out: &mut [u8], at: usize) -> Tur
             used: at,
         },
         Fed::Whole(n) => play(pair, meaning(line, n), out, at),
-        Fed::TooLong => play(pair, Line::Malformed, out, at),
+        Fed::TooLong => play(pair, None, out, at),
     }
 }
 

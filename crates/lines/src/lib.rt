@@ -4,6 +4,7 @@
 ghost use Rattle.std.specs.Prelude.{◌≡◌, drop};
 ghost use Rattle.lines.specs.Cut.{fed_of, line_with, cut_of, line_cut};
 
+// Kept: there are three outcomes, so an Option or a Result would be no plainer.
 // What a byte makes of a line: it goes on, with so many bytes; it is whole, with so many bytes; or it is too long to be played.
 #[derive(Clone, Copy)]
 pub enum Fed {

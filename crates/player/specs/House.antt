@@ -5,9 +5,7 @@ use Rattle.message.specs.Entry.{as_host}
 use Rattle.end.specs.declared.End.{End}
 use Rattle.end.specs.Opening.{house_params, opening_of}
 use Rattle.script.specs.declared.Call.{Call}
-use Rattle.script.specs.declared.Line.{Line}
-use Rattle.script.specs.declared.Line.TheVariants.{Play, Malformed}
-use Rattle.script.specs.Line.{line_of}
+use Rattle.script.specs.Line.{Line, Play, Malformed, line_of}
 use Rattle.answers.specs.AnswerLine.{answer_line}
 use Rattle.player.specs.Play.{Printed, Bad, Shows, Turn}
 use Rattle.player.specs.Explain.{played_by}

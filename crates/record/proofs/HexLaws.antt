@@ -1,6 +1,6 @@
 -- Hexadecimal digits: a byte from two of them, and a cue read pair by pair.
 use mathlib.Core.Path.{◌≡◌, refl, sym, ap, ◌∙◌}
-use mathlib.Core.Bool.{Bool, true, ◌&&◌, and_assoc, and-true}
+use mathlib.Core.Bool.{Bool, true, cond, ◌&&◌, and_assoc, and-true}
 use mathlib.Core.List.{List, [], ◌∷◌, ◌++◌, append_assoc, append-nil}
 use Prim.Native.Nat.{ℕ, suc, ◌+◌, ◌*◌, ◌≤◌, ◌<◌}
 use native.Mathlib.Numerals.{add-one}
@@ -9,9 +9,9 @@ use lib.Dec.{leb}
 use lib.ListN.{length, take, drop, get_or, set, drop_of_length-le}
 use lib.Seq.{drop-cons, take-suc-set, take_all}
 use borrow.Author.Tests.{leb-true, eq-eqb}
+use Rattle.std.specs.Prelude.{None, Some}
 use Rattle.message.specs.Cue.{cue_in}
 use Rattle.decimal.proofs.DecimalLaws.{both}
-use Rattle.record.specs.declared.CueWord.{CueWord}
 use Rattle.record.specs.Line.{is_capital, is_hex, all_hex, hex_value, bytes_in, cue_word}
 
 pub capital_range : (c : ℕ) → is_capital c ≡ true → (65 ≤ c) × (c ≤ 70)
@@ -74,8 +74,9 @@ module _ {w cue : List ℕ} {ok : Bool} {i : ℕ} (p : PairsRead w cue ok i) whe
         sym (take_all i cue (omega (arith, p.bytes))) ∙ sym (append-nil (take i cue)) ∙ sym (ap (λ (l : List ℕ). take i cue ++ bytes_in l) none) ∙ p.made,
       )
 
+-- the word, once its digits are read: `fits` is the range's test
 pub cue_read : (w cue : List ℕ) (ok fits : Bool) → length w ≡ 48 → ok ≡ all_hex w → cue ≡ bytes_in w → fits ≡ cue_in cue
-    → ◌≡◌ {A = CueWord} (record { there = ok && fits; cue = cue }) (cue_word w)
+    → cond (ok && fits) (Some cue) None ≡ cue_word w
 unfolding cue_word
 cue_read w cue ok fits l eo ec ef =
-    (λ i. record { there = eo i && (ef ∙ ap cue_in ec) i; cue = ec i }) ∙ sym (simp (eq-eqb (length w) 48 l))
+    (λ i. cond (eo i && (ef ∙ ap cue_in ec) i) (Some (ec i)) None) ∙ sym (simp (eq-eqb (length w) 48 l))

@@ -7,6 +7,7 @@ use native.Mathlib.Omega.{arith}
 use lib.Dec.{leb, eqb}
 use lib.ListN.{length}
 use borrow.Author.Tests.{lt-ltb, le-ltb, le-leb, lt-leb, eq-eqb, ne_eqb}
+use Rattle.std.specs.Prelude.{Some}
 use Rattle.numbers.specs.Number.{Bytes}
 use Rattle.numbers.proofs.Cases.{by_order}
 use Rattle.message.specs.declared.Host.{Host}
@@ -15,13 +16,10 @@ use Rattle.message.specs.declared.Name.{Name}
 use Rattle.message.specs.Cue.{cue_in}
 use Rattle.end.specs.declared.Move.{Move}
 use Rattle.end.specs.declared.Move.TheVariants.{Join, Joined, Leave, Left, Crash}
-use Rattle.decimal.specs.declared.Unsigned.TheVariants.{Number}
 use Rattle.decimal.specs.Decimal.{decimal, is_digit, all_digits, well_written, unsigned_word}
 use Rattle.decimal.proofs.DecimalLaws.{both, digit_range, figure_digit}
 use Rattle.decimal.proofs.ReadBack.{printed-reads, is_read}
 use Rattle.script.specs.Words.{onto, words, same}
-use Rattle.record.specs.declared.MoveWord.TheVariants.{Is}
-use Rattle.record.specs.declared.CueWord.{CueWord}
 use Rattle.record.specs.declared.Said.{Said}
 use Rattle.record.specs.declared.Said.TheVariants.{Malformed, Moved, Sent, Got}
 use Rattle.record.specs.declared.Line.{Line}
@@ -110,22 +108,19 @@ hex_back (b ∷ cue) h =
     let e : b / 16 * 16 + b % 16 ≡ b = omega arith in
     ((λ i. (high.0 i * 16 + low.0 i) ∷ rest.0 i) ∙ ap (λ (x : ℕ). x ∷ cue) e, (λ i. high.1 i && (low.1 i && rest.1 i)))
 
-cue_back : (cue : List ℕ) → ProperCue cue → cue_word (hex_text cue) ≡ record { there = true; cue = cue }
+cue_back : (cue : List ℕ) → ProperCue cue → cue_word (hex_text cue) ≡ Some cue
 unfolding cue_word
 cue_back cue p =
     let back = hex_back cue p.bytes in
     let long : length (hex_text cue) ≡ 48 = omega (arith, hex_length cue, p.size) in
     let right : (all_hex (hex_text cue) && cue_in (bytes_in (hex_text cue))) ≡ true = λ i. back.1 i && (ap cue_in back.0 ∙ p.range) i in
-    let digits = hex_text cue in
-    let same : ◌≡◌ {A = CueWord} (record { there = all_hex digits && cue_in (bytes_in digits); cue = bytes_in digits }) (record { there = true; cue = cue }) =
-    λ i. record { there = right i; cue = back.0 i } in
-    rw (eq-eqb (length (hex_text cue)) 48 long) same
+    rw (eq-eqb (length (hex_text cue)) 48 long, right) (ap Some back.0)
 
 -- ---- lines
-number_back : (n : ℕ) → n < 65536 → unsigned_word (decimal n) ≡ Number n
+number_back : (n : ℕ) → n < 65536 → unsigned_word (decimal n) ≡ Some n
 number_back n h = printed-reads n (omega arith)
 
-move_back : (m : Move) → move_word (move_text m) ≡ Is m
+move_back : (m : Move) → move_word (move_text m) ≡ Some m
 unfolding move_word same
 move_back Join = refl
 move_back Joined = refl

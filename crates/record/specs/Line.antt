@@ -2,33 +2,28 @@
 -- host, number and the cue as 48 hexadecimal digits, letters capital; got with host, source, number and cue." Document 01, "Cases": "here
 -- and in later text inputs there is one space between words, a line feed after each line, and decimal numbers without leading zeros or plus
 -- sign". A line is given without its line feed. Characters are ASCII codes: 48 is "0", 65 is "A", 70 is "F".
-use Rattle.std.specs.Prelude.{Bool, true, false, cond, ◌&&◌, ◌||◌, List, [], ◌∷◌, ℕ, ◌+◌, ◌*◌, ◌-◌, ltb, leb, eqb, length}
+use Rattle.std.specs.Prelude.{Bool, true, cond, ◌&&◌, ◌||◌, List, [], ◌∷◌, ℕ, ◌+◌, ◌*◌, ◌-◌, ltb, leb, eqb, length, None, Option, Some}
 use Rattle.message.specs.Limit.{host_limit, number_limit}
 use Rattle.message.specs.Cue.{cue_in}
 use Rattle.message.specs.Entry.{as_host, as_number, blank_cue}
 use Rattle.end.specs.declared.Move.{Move}
 use Rattle.end.specs.declared.Move.TheVariants.{Join, Joined, Leave, Left, Crash}
-use Rattle.decimal.specs.declared.Unsigned.{Unsigned}
-use Rattle.decimal.specs.declared.Unsigned.TheVariants.{Number, NoNumber}
 use Rattle.decimal.specs.Decimal.{is_digit, unsigned_word}
 use Rattle.script.specs.Words.{words, same}
 use Rattle.script.specs.Line.{join, joined, leave, left, crash, send}
-use Rattle.record.specs.declared.MoveWord.{MoveWord}
-use Rattle.record.specs.declared.MoveWord.TheVariants.{Is, NoMove}
-use Rattle.record.specs.declared.CueWord.{CueWord}
 use Rattle.record.specs.declared.Said.TheVariants.{Malformed, Moved, Sent, Got}
 use Rattle.record.specs.declared.Line.{Line}
 
 -- ---- words
 
 -- "join, joined, leave, left, crash"
-unfoldable pub move_word : List ℕ → MoveWord
+unfoldable pub move_word : List ℕ → Option Move
 move_word v =
-    cond (same v join) (Is Join)
-    (cond (same v joined) (Is Joined)
-    (cond (same v leave) (Is Leave)
-    (cond (same v left) (Is Left)
-    (cond (same v crash) (Is Crash) NoMove))))
+    cond (same v join) (Some Join)
+    (cond (same v joined) (Some Joined)
+    (cond (same v leave) (Some Leave)
+    (cond (same v left) (Some Left)
+    (cond (same v crash) (Some Crash) None))))
 
 -- "got"; the other words' letters are those of a script
 abbrev pub got : List ℕ
@@ -56,11 +51,8 @@ bytes_in (c ∷ []) = []
 bytes_in (c ∷ d ∷ s) = (hex_value c * 16 + hex_value d) ∷ bytes_in s
 
 -- "the cue as 48 hexadecimal digits", in range
-abbrev pub no_cue : CueWord
-no_cue = record { there = false; cue = blank_cue }
-
-unfoldable pub cue_word : List ℕ → CueWord
-cue_word w = cond (eqb (length w) 48) (record { there = all_hex w && cue_in (bytes_in w); cue = bytes_in w }) no_cue
+unfoldable pub cue_word : List ℕ → Option (List ℕ)
+cue_word w = cond (eqb (length w) 48 && (all_hex w && cue_in (bytes_in w))) (Some (bytes_in w)) None
 
 -- ---- lines; where a line has no cue, zeros stand in its place
 abbrev pub malformed : Line
@@ -82,21 +74,23 @@ host_is h = ltb h host_limit
 abbrev pub number_is : ℕ → Bool
 number_is n = ltb n number_limit
 
-abbrev pub moved_of : MoveWord → Unsigned → Line
-moved_of (Is m) (Number h) = cond (host_is h) (moved m h) malformed
-moved_of (Is m) NoNumber = malformed
-moved_of NoMove h = malformed
+abbrev pub moved_of : Option Move → Option ℕ → Line
+moved_of (Some m) (Some h) = cond (host_is h) (moved m h) malformed
+moved_of (Some m) None = malformed
+moved_of None h = malformed
 
-abbrev pub sent_of : Unsigned → Unsigned → CueWord → Line
-sent_of (Number h) (Number n) c = cond (host_is h && (number_is n && c.there)) (sent h n c.cue) malformed
-sent_of (Number h) NoNumber c = malformed
-sent_of NoNumber n c = malformed
+abbrev pub sent_of : Option ℕ → Option ℕ → Option (List ℕ) → Line
+sent_of (Some h) (Some n) (Some cue) = cond (host_is h && number_is n) (sent h n cue) malformed
+sent_of (Some h) (Some n) None = malformed
+sent_of (Some h) None c = malformed
+sent_of None n c = malformed
 
-abbrev pub got_of : Unsigned → Unsigned → Unsigned → CueWord → Line
-got_of (Number h) (Number s) (Number n) c = cond (host_is h && (host_is s && (number_is n && c.there))) (handed_out h s n c.cue) malformed
-got_of (Number h) (Number s) NoNumber c = malformed
-got_of (Number h) NoNumber n c = malformed
-got_of NoNumber s n c = malformed
+abbrev pub got_of : Option ℕ → Option ℕ → Option ℕ → Option (List ℕ) → Line
+got_of (Some h) (Some s) (Some n) (Some cue) = cond (host_is h && (host_is s && number_is n)) (handed_out h s n cue) malformed
+got_of (Some h) (Some s) (Some n) None = malformed
+got_of (Some h) (Some s) None c = malformed
+got_of (Some h) None n c = malformed
+got_of None s n c = malformed
 
 -- two words, four, or five
 unfoldable pub moved_in : List ℕ → List ℕ → Line

@@ -1,14 +1,13 @@
 // A line of a run's record, read. The definitions are in specs/: Line.antt (what a line means) and Text.antt (what it is written as).
-#![tactic(auto)]
+#![tactic(auto, unfolding(crate::specs::Line::move_word, crate::specs::Line::cue_word, crate::specs::Line::moved_in, crate::specs::Line::sent_in, crate::specs::Line::got_in))]
 
-ghost use Rattle.std.specs.Prelude.{◌≡◌, cond, ◌∷◌, ◌+◌, ◌*◌, ◌<◌};
-ghost use Rattle.script.specs.Words.{words, space_in, same as sameWord};
-ghost use Rattle.record.specs.declared.MoveWord.TheVariants.{Is};
-ghost use Rattle.record.specs.Line.{move_word, is_hex, hex_value, cue_word, malformed, moved_of, sent_of, got_of, moved_in, sent_in, got_in, line_in, line_of};
+ghost use Rattle.std.specs.Prelude.{◌≡◌, ◌+◌, ◌*◌, ◌<◌};
+ghost use Rattle.record.specs.Line.{move_word, is_hex, hex_value, cue_word, malformed, moved_of, sent_of, got_of, moved_in, sent_in, got_in, line_of};
 
-use decimal::Unsigned;
+use decimal::Number;
 use end::Move;
 use message::{CueNumber, Host, Name};
+use script::{Words, same};
 
 // What a line says; the cue of a Sent and of a Got stands beside it.
 #[derive(Clone, Copy)]
@@ -26,20 +25,6 @@ pub struct Line {
     pub cue: [u8; 24],
 }
 
-// A move, or a word that is none.
-#[derive(Clone, Copy)]
-pub enum MoveWord {
-    Is(Move),
-    NoMove,
-}
-
-// Whether a word is a cue in range, and its bytes.
-#[derive(Clone, Copy)]
-pub struct CueWord {
-    pub there: bool,
-    pub cue: [u8; 24],
-}
-
 // Hosts and cue numbers are below these.
 const HOSTS: u64 = 8;
 
@@ -47,59 +32,26 @@ const NUMBERS: u64 = 65536;
 
 // ---- words
 
-// Whether two words are the same.
-fn same(a: &[u8], b: &[u8]) -> bool
-    ensures { result ≡ sameWord a.now b.now }
-{
-    if a.len() != b.len() {
-        return false;
-    }
-    let mut ok = true;
-    let mut i: usize = 0;
-    while i < a.len() {
-        ok = ok & (a[i] == b[i]);
-        i += 1;
-    }
-    ok
-}
-
-// Where the first space stands, or the length where there is none.
-fn space(s: &[u8]) -> usize
-    ensures { result ≡ space_in s.now }
-{
-    let mut i: usize = 0;
-    while i < s.len() {
-        if s[i] == b' ' {
-            return i;
-        }
-        i += 1;
-    }
-    i
-}
-
-// The first of two words, if the test says so.
-fn chosen(test: bool, word: MoveWord, otherwise: MoveWord) -> MoveWord
-    ensures { result ≡ cond test word otherwise }
-{
-    if test { word } else { otherwise }
-}
-
-// A move by its word, or what else it may be.
-fn named(v: &[u8], word: &[u8], m: Move, otherwise: MoveWord) -> MoveWord
-    ensures { result ≡ cond (sameWord v.now word.now) (Is m) otherwise }
-{
-    chosen(same(v, word), MoveWord::Is(m), otherwise)
-}
-
-// The moves are tried from the definition's last to its first.
-fn move_in(v: &[u8]) -> MoveWord
+// A move by its word.
+fn move_in(v: &[u8]) -> Option<Move>
     ensures { result ≡ move_word v.now }
 {
-    let crash = named(v, b"crash", Move::Crash, MoveWord::NoMove);
-    let left = named(v, b"left", Move::Left, crash);
-    let leave = named(v, b"leave", Move::Leave, left);
-    let joined = named(v, b"joined", Move::Joined, leave);
-    named(v, b"join", Move::Join, joined)
+    if same(v, b"join") {
+        return Some(Move::Join);
+    }
+    if same(v, b"joined") {
+        return Some(Move::Joined);
+    }
+    if same(v, b"leave") {
+        return Some(Move::Leave);
+    }
+    if same(v, b"left") {
+        return Some(Move::Left);
+    }
+    if same(v, b"crash") {
+        return Some(Move::Crash);
+    }
+    None
 }
 
 fn is_hex(c: u8) -> bool
@@ -129,28 +81,23 @@ fn pair(high: u8, low: u8) -> u8
     hex_value(high) * 16 + hex_value(low)
 }
 
-// The cue that a word of 48 digits stands for.
-fn cue_in(w: &[u8]) -> CueWord
+// The cue in range that a word of 48 digits stands for.
+fn cue_in(w: &[u8]) -> Option<[u8; 24]>
     ensures { result ≡ cue_word w.now }
 {
-    let mut cue = [0u8; 24];
     if w.len() != 48 {
-        return CueWord { there: false, cue };
+        return None;
     }
+    let mut cue = [0u8; 24];
     let mut ok = true;
-    let mut i: usize = 0;
-    while i < 24 {
+    for i in 0..24 {
         let high = w[i * 2];
         let low = w[i * 2 + 1];
         ok = ok & (is_hex(high) & is_hex(low));
         cue[i] = pair(high, low);
-        i += 1;
     }
     let fits = message::cue_in(&cue);
-    CueWord {
-        there: ok & fits,
-        cue,
-    }
+    if ok & fits { Some(cue) } else { None }
 }
 
 // ---- lines by what their words mean
@@ -164,13 +111,13 @@ fn no_line() -> Line
     }
 }
 
-fn moved_of(m: MoveWord, h: Unsigned) -> Line
+fn moved_of(m: Option<Move>, h: Option<u64>) -> Line
     ensures { result ≡ moved_of m h }
 {
-    let MoveWord::Is(to) = m else {
+    let Some(to) = m else {
         return no_line();
     };
-    let Unsigned::Number(host) = h else {
+    let Some(host) = h else {
         return no_line();
     };
     if host < HOSTS {
@@ -182,17 +129,19 @@ fn moved_of(m: MoveWord, h: Unsigned) -> Line
     no_line()
 }
 
-fn sent_of(h: Unsigned, n: Unsigned, c: CueWord) -> Line
+fn sent_of(h: Option<u64>, n: Option<u64>, c: Option<[u8; 24]>) -> Line
     ensures { result ≡ sent_of h n c }
 {
-    let Unsigned::Number(host) = h else {
+    let Some(host) = h else {
         return no_line();
     };
-    let Unsigned::Number(number) = n else {
+    let Some(number) = n else {
         return no_line();
     };
-    if (host < HOSTS) & ((number < NUMBERS) & c.there) {
-        let cue = c.cue;
+    let Some(cue) = c else {
+        return no_line();
+    };
+    if (host < HOSTS) & (number < NUMBERS) {
         return Line {
             said: Said::Sent(Host(host as u8), CueNumber(number as u16)),
             cue,
@@ -201,20 +150,22 @@ fn sent_of(h: Unsigned, n: Unsigned, c: CueWord) -> Line
     no_line()
 }
 
-fn got_of(h: Unsigned, s: Unsigned, n: Unsigned, c: CueWord) -> Line
+fn got_of(h: Option<u64>, s: Option<u64>, n: Option<u64>, c: Option<[u8; 24]>) -> Line
     ensures { result ≡ got_of h s n c }
 {
-    let Unsigned::Number(host) = h else {
+    let Some(host) = h else {
         return no_line();
     };
-    let Unsigned::Number(source) = s else {
+    let Some(source) = s else {
         return no_line();
     };
-    let Unsigned::Number(number) = n else {
+    let Some(number) = n else {
         return no_line();
     };
-    if (host < HOSTS) & ((source < HOSTS) & ((number < NUMBERS) & c.there)) {
-        let cue = c.cue;
+    let Some(cue) = c else {
+        return no_line();
+    };
+    if (host < HOSTS) & ((source < HOSTS) & (number < NUMBERS)) {
         let name = Name {
             source: Host(source as u8),
             number: CueNumber(number as u16),
@@ -232,14 +183,14 @@ fn got_of(h: Unsigned, s: Unsigned, n: Unsigned, c: CueWord) -> Line
 fn moved_in(v: &[u8], h: &[u8]) -> Line
     ensures { result ≡ moved_in v.now h.now }
 {
-    moved_of(move_in(v), decimal::number_in(h))
+    moved_of(move_in(v), u64::from_word(h))
 }
 
 fn sent_in(v: &[u8], h: &[u8], n: &[u8], c: &[u8]) -> Line
     ensures { result ≡ sent_in v.now h.now n.now c.now }
 {
     if same(v, b"send") {
-        sent_of(decimal::number_in(h), decimal::number_in(n), cue_in(c))
+        sent_of(u64::from_word(h), u64::from_word(n), cue_in(c))
     } else {
         no_line()
     }
@@ -250,9 +201,9 @@ fn got_in(v: &[u8], h: &[u8], s: &[u8], n: &[u8], c: &[u8]) -> Line
 {
     if same(v, b"got") {
         got_of(
-            decimal::number_in(h),
-            decimal::number_in(s),
-            decimal::number_in(n),
+            u64::from_word(h),
+            u64::from_word(s),
+            u64::from_word(n),
             cue_in(c),
         )
     } else {
@@ -260,60 +211,28 @@ fn got_in(v: &[u8], h: &[u8], s: &[u8], n: &[u8], c: &[u8]) -> Line
     }
 }
 
-// Each function below has the first words of a line, and the rest of it after the space behind them.
-
-fn after_four(v: &[u8], h: &[u8], s: &[u8], n: &[u8], rest: &[u8]) -> Line
-    ensures { result ≡ line_in (v.now ∷ h.now ∷ s.now ∷ n.now ∷ words rest.now) }
-{
-    let end = space(rest);
-    if rest.len() <= end {
-        got_in(v, h, s, n, rest)
-    } else {
-        no_line()
-    }
-}
-
-fn after_three(v: &[u8], h: &[u8], x: &[u8], rest: &[u8]) -> Line
-    ensures { result ≡ line_in (v.now ∷ h.now ∷ x.now ∷ words rest.now) }
-{
-    let end = space(rest);
-    if rest.len() <= end {
-        sent_in(v, h, x, rest)
-    } else {
-        after_four(v, h, x, &rest[..end], &rest[end + 1..])
-    }
-}
-
-fn after_two(v: &[u8], h: &[u8], rest: &[u8]) -> Line
-    ensures { result ≡ line_in (v.now ∷ h.now ∷ words rest.now) }
-{
-    let end = space(rest);
-    if rest.len() <= end {
-        no_line()
-    } else {
-        after_three(v, h, &rest[..end], &rest[end + 1..])
-    }
-}
-
-fn after_one(v: &[u8], rest: &[u8]) -> Line
-    ensures { result ≡ line_in (v.now ∷ words rest.now) }
-{
-    let end = space(rest);
-    if rest.len() <= end {
-        moved_in(v, rest)
-    } else {
-        after_two(v, &rest[..end], &rest[end + 1..])
-    }
-}
-
-// Reads a line, which is given without its line feed.
+// Reads a line, which is given without its line feed: of two words, of four, or of five.
 pub fn read_line(line: &[u8]) -> Line
     ensures { result ≡ line_of line.now }
 {
-    let end = space(line);
-    if line.len() <= end {
-        no_line()
-    } else {
-        after_one(&line[..end], &line[end + 1..])
+    let mut words = Words::of(line);
+    let Some(v) = words.next() else {
+        return no_line();
+    };
+    let Some(h) = words.next() else {
+        return no_line();
+    };
+    let Some(x) = words.next() else {
+        return moved_in(v, h);
+    };
+    let Some(n) = words.next() else {
+        return no_line();
+    };
+    let Some(c) = words.next() else {
+        return sent_in(v, h, x, n);
+    };
+    if words.next().is_some() {
+        return no_line();
     }
+    got_in(v, h, x, n, c)
 }

@@ -6,7 +6,7 @@ use lib.IntN.{negsuc}
 use Rattle.message.specs.Entry.{as_host}
 use Rattle.decimal.specs.Decimal.{all_digits, well_written, value_after, unsigned_word, signed_word}
 use Rattle.script.specs.declared.Verb.TheVariants.{Join, Send, Hear, Report}
-use Rattle.script.specs.declared.Line.TheVariants.{Play, Malformed}
+use Rattle.script.specs.Line.{Play, Malformed}
 use Rattle.script.specs.Words.{onto, words, same}
 use Rattle.script.specs.Line.{join, send, hear, report, fire, later_verb, plain_verb, verb_with, line_in, line_of}
 

@@ -9,21 +9,16 @@ use native.Mathlib.Omega.{arith}
 use lib.Dec.{ltb, eqb}
 use lib.ListN.{length}
 use borrow.Author.Tests.{ltb-true}
+use Rattle.std.specs.Prelude.{ℤ, None, Option, Some}
 use Rattle.numbers.proofs.Cases.{by_flag, by_order}
 use Rattle.message.specs.Entry.{as_host}
-use Rattle.decimal.specs.declared.Unsigned.{Unsigned}
-use Rattle.decimal.specs.declared.Unsigned.TheVariants.{Number, NoNumber}
-use Rattle.decimal.specs.declared.Signed.{Signed}
-use Rattle.decimal.specs.declared.Signed.TheVariants.{Integer, NoInteger}
 use Rattle.decimal.specs.Decimal.{unsigned_word, signed_word}
 use Rattle.decimal.proofs.DecimalLaws.{both, length-one, length_most, length_u64, length-signed}
 use Rattle.decimal.proofs.ReadBack.{is_read, read_printed, signed-printed, signed-fits}
 use Rattle.script.specs.declared.Verb.{Verb}
 use Rattle.script.specs.declared.Verb.TheVariants.{Hear}
-use Rattle.script.specs.declared.VerbWord.{VerbWord}
-use Rattle.script.specs.declared.VerbWord.TheVariants.{Is, NoVerb}
 use Rattle.script.specs.declared.Call.{Call}
-use Rattle.script.specs.declared.Line.TheVariants.{Play, Malformed}
+use Rattle.script.specs.Line.{Play, Malformed}
 use Rattle.script.specs.Words.{onto, words, same}
 use Rattle.script.specs.Line.{join, joined, leave, left, crash, send, hear, fire, report, later_verb, plain_verb, send_of, hear_of, verb_with, call_of, line_in}
 use Rattle.script.proofs.WordsLaws.{words-some}
@@ -46,14 +41,14 @@ words_total (b ∷ s) =
 
 -- ---- how long a word is, by what it means
 
-unsigned-length : (s : List ℕ) (n : ℕ) → unsigned_word s ≡ Number n → length s ≤ 20
+unsigned-length : (s : List ℕ) (n : ℕ) → unsigned_word s ≡ Some n → length s ≤ 20
 unsigned-length s n h = omega (arith, ap length (read_printed s n h), length_u64 n (is_read s n h).2)
 
-end-length : (s : List ℕ) (n : ℕ) → unsigned_word s ≡ Number n → n < 2 → length s ≤ 1
+end-length : (s : List ℕ) (n : ℕ) → unsigned_word s ≡ Some n → n < 2 → length s ≤ 1
 end-length s n h l = omega (arith, ap length (read_printed s n h), length-one n (omega arith))
 
 -- a message number below 64 has at most two digits
-known-length : (s : List ℕ) (n : ℕ) → unsigned_word s ≡ Number n → n < 64 → length s ≤ 2
+known-length : (s : List ℕ) (n : ℕ) → unsigned_word s ≡ Some n → n < 64 → length s ≤ 2
 known-length s n h l = omega (arith, ap length (read_printed s n h), length_most 1 n (omega arith))
 
 same_length : (v w : List ℕ) → same v w ≡ true → length v ≡ length w
@@ -64,36 +59,36 @@ same_length (a ∷ v) [] h = absurd (let z : ◌≡◌ {A = ℕ} 0 1 = cc in ome
 same_length (a ∷ v) (b ∷ w) h = ap suc (same_length v w (both (eqb a b) (same v w) h).1)
 
 -- one word tried, and then the others
-tried : (v w : List ℕ) (x y r : VerbWord) → length w ≤ 6 → (r ≡ y → length v ≤ 6) → cond (same v w) x r ≡ y → length v ≤ 6
+tried : (v w : List ℕ) (x y r : Option Verb) → length w ≤ 6 → (r ≡ y → length v ≤ 6) → cond (same v w) x r ≡ y → length v ≤ 6
 tried v w x y r k f h =
     by_flag (same v w) (λ t. omega (arith, same_length v w t)) (λ e. f (rw e at h))
 
-plain-length : (v : List ℕ) (x : Verb) → plain_verb v ≡ Is x → length v ≤ 6
+plain-length : (v : List ℕ) (x : Verb) → plain_verb v ≡ Some x → length v ≤ 6
 unfolding plain_verb later_verb
 plain-length v x h =
-    tried v join _ (Is x) _ (omega arith)
-    (tried v joined _ (Is x) _ (omega arith)
-    (tried v leave _ (Is x) _ (omega arith)
-    (tried v left _ (Is x) _ (omega arith)
-    (tried v crash _ (Is x) _ (omega arith)
-    (tried v fire _ (Is x) _ (omega arith)
-    (tried v report _ (Is x) _ (omega arith) (λ e. absurd (let z : ◌≡◌ {A = ℕ} 0 1 = cc in omega arith))))))))
+    tried v join _ (Some x) _ (omega arith)
+    (tried v joined _ (Some x) _ (omega arith)
+    (tried v leave _ (Some x) _ (omega arith)
+    (tried v left _ (Some x) _ (omega arith)
+    (tried v crash _ (Some x) _ (omega arith)
+    (tried v fire _ (Some x) _ (omega arith)
+    (tried v report _ (Some x) _ (omega arith) (λ e. absurd (let z : ◌≡◌ {A = ℕ} 0 1 = cc in omega arith))))))))
     h
 
 -- a verb with a fourth word: it sends a focus, or hears a message
-send-length : (x : List ℕ) (y : Verb) → send_of (signed_word x) ≡ Is y → length x ≤ 6
+send-length : (x : List ℕ) (y : Verb) → send_of (signed_word x) ≡ Some y → length x ≤ 6
 send-length x y h = of (signed_word x) refl h
   where
-    of : (f : Signed) → signed_word x ≡ f → send_of f ≡ Is y → length x ≤ 6
-    of (Integer z) e h = omega (arith, ap length (signed-printed x z e), length-signed z (signed-fits x z e))
-    of NoInteger e h = absurd (let w : ◌≡◌ {A = ℕ} 0 1 = cc in omega arith)
+    of : (f : Option ℤ) → signed_word x ≡ f → send_of f ≡ Some y → length x ≤ 6
+    of (Some z) e h = omega (arith, ap length (signed-printed x z e), length-signed z (signed-fits x z e))
+    of None e h = absurd (let w : ◌≡◌ {A = ℕ} 0 1 = cc in omega arith)
 
-heard : (u : Unsigned) (y : Verb) → hear_of u ≡ Is y → (n : ℕ) × (u ≡ Number n) × (y ≡ Hear n)
-heard (Number n) y h = (n, refl, (cc))
-heard NoNumber y h = absurd (let w : ◌≡◌ {A = ℕ} 0 1 = cc in omega arith)
+heard : (u : Option ℕ) (y : Verb) → hear_of u ≡ Some y → (n : ℕ) × (u ≡ Some n) × (y ≡ Hear n)
+heard (Some n) y h = (n, refl, (cc))
+heard None y h = absurd (let w : ◌≡◌ {A = ℕ} 0 1 = cc in omega arith)
 
-with_length : (v x : List ℕ) (y : Verb) → verb_with v x ≡ Is y
-    → (length v ≡ 4) × ((length x ≤ 6) ⊎ ((n : ℕ) × (unsigned_word x ≡ Number n) × (y ≡ Hear n)))
+with_length : (v x : List ℕ) (y : Verb) → verb_with v x ≡ Some y
+    → (length v ≡ 4) × ((length x ≤ 6) ⊎ ((n : ℕ) × (unsigned_word x ≡ Some n) × (y ≡ Hear n)))
 unfolding verb_with
 with_length v x y h =
     by_flag (same v send)
@@ -101,22 +96,22 @@ with_length v x y h =
     (λ f.
     by_flag (same v hear)
     (λ t. (same_length v hear t, inr (heard (unsigned_word x) y (rw (f, t) at h))))
-    (λ g. let e : NoVerb ≡ Is y = rw (f, g) at h in absurd (let w : ◌≡◌ {A = ℕ} 0 1 = cc in omega arith)))
+    (λ g. let e : None ≡ Some y = rw (f, g) at h in absurd (let w : ◌≡◌ {A = ℕ} 0 1 = cc in omega arith)))
 
 -- ---- the parts of a call
 
-Parts : Unsigned → VerbWord → Unsigned → Call → Type 0
-Parts e v t k = (n : ℕ) × (m : ℕ) × (e ≡ Number n) × (n < 2) × (v ≡ Is k.verb) × (t ≡ Number m)
+Parts : Option ℕ → Option Verb → Option ℕ → Call → Type 0
+Parts e v t k = (n : ℕ) × (m : ℕ) × (e ≡ Some n) × (n < 2) × (v ≡ Some k.verb) × (t ≡ Some m)
 
-parts : (e : Unsigned) (v : VerbWord) (t : Unsigned) (k : Call) → call_of e v t ≡ Play k → Parts e v t k
+parts : (e : Option ℕ) (v : Option Verb) (t : Option ℕ) (k : Call) → call_of e v t ≡ Play k → Parts e v t k
 unfolding Parts
-parts (Number n) (Is v) (Number m) k h =
+parts (Some n) (Some v) (Some m) k h =
     by_flag (ltb n 2)
     (λ t. let e : Play (record { end = as_host n; verb = v; clock = m }) ≡ Play k = rw t at h in (n, m, refl, ltb-true n 2 t, (cc), refl))
     (λ f. let e : Malformed ≡ Play k = rw f at h in absurd (let w : ◌≡◌ {A = ℕ} 0 1 = cc in omega arith))
-parts (Number n) (Is v) NoNumber k h = absurd (let w : ◌≡◌ {A = ℕ} 0 1 = cc in omega arith)
-parts (Number n) NoVerb t k h = absurd (let w : ◌≡◌ {A = ℕ} 0 1 = cc in omega arith)
-parts NoNumber v t k h = absurd (let w : ◌≡◌ {A = ℕ} 0 1 = cc in omega arith)
+parts (Some n) (Some v) None k h = absurd (let w : ◌≡◌ {A = ℕ} 0 1 = cc in omega arith)
+parts (Some n) None t k h = absurd (let w : ◌≡◌ {A = ℕ} 0 1 = cc in omega arith)
+parts None v t k h = absurd (let w : ◌≡◌ {A = ℕ} 0 1 = cc in omega arith)
 
 -- it hears a message that there can't be
 Unknown : Call → Type 0

@@ -1,21 +1,28 @@
 -- The laws of `specs/Words.antt`.
 use mathlib.Core.Path.{◌≡◌, refl, sym, ap, ◌∙◌}
-use mathlib.Core.Bool.{Bool, false, ◌&&◌, and_assoc, and-true}
+use mathlib.Core.Bool.{Bool, false, cond, ◌&&◌}
 use mathlib.Core.List.{List, [], ◌∷◌}
-use Prim.Native.Nat.{ℕ, zero, suc, ◌+◌, ◌-◌, ◌≤◌, ◌<◌}
-use native.Mathlib.Numerals.{add-one}
+use Prim.Native.Nat.{ℕ, suc, ◌+◌, ◌-◌, ◌≤◌, ◌<◌}
 use native.Mathlib.Omega.{arith}
-use lib.Dec.{eqb}
-use lib.ListN.{length, take, drop, get_or, length-drop, drop_of_length-le}
-use lib.Seq.{drop-cons, drop-drop}
-use borrow.Author.Tests.{eq-eqb, ne_eqb}
-use Rattle.numbers.proofs.Cases.{by_flag}
-use Rattle.decimal.specs.Room.{part}
-use Rattle.decimal.proofs.RoomLaws.{part-rest}
-use Rattle.script.specs.Ends.{Space}
-use Rattle.script.specs.Words.{onto, words, space_in, space_from, same}
+use lib.Dec.{eqb, ltb}
+use lib.ListN.{length, take, drop, length-drop}
+use lib.Seq.{take_all}
+use borrow.Author.Tests.{ltb-true, lt-ltb}
+use denote.Ref.{Bor}
+use Rattle.std.specs.Prelude.{Option, Some, None, MatchOption}
+use Rattle.std.specs.List.{position, position_or_len}
+use Rattle.std.specs.Str.{bytes_eq}
+use Rattle.numbers.proofs.Cases.{by_flag, by_order}
+use Rattle.script.specs.Words.{is_space, onto, words, same}
 
 -- ---- the same words
+
+pub same_bytes : (a b : List ℕ) → bytes_eq a b ≡ same a b
+unfolding same
+same_bytes [] [] = refl
+same_bytes [] (y ∷ b) = refl
+same_bytes (x ∷ a) [] = refl
+same_bytes (x ∷ a) (y ∷ b) = ap (λ (t : Bool). eqb x y && t) (same_bytes a b)
 
 pub other_length : (a b : List ℕ) → (length a ≡ length b → ⊥) → same a b ≡ false
 unfolding same
@@ -27,54 +34,50 @@ other_length (x ∷ a) (y ∷ b) h =
     (λ t. rw (t, other_length a b (λ e. h (ap suc e))))
     (λ f. rw f)
 
--- one byte more of two words of the same length
-pub same_more : (a b : List ℕ) (i : ℕ) → i < length a → length a ≡ length b
-    → same (take (i + 1) a) (take (i + 1) b) ≡ (same (take i a) (take i b) && eqb (get_or a i 0) (get_or b i 0))
-unfolding same
-same_more a b i h e = rw add-one (step a b i h e)
-  where
-    step : (a b : List ℕ) (i : ℕ) → i < length a → length a ≡ length b
-        → same (take (suc i) a) (take (suc i) b) ≡ (same (take i a) (take i b) && eqb (get_or a i 0) (get_or b i 0))
-    step [] b i h e = absurd (omega arith)
-    step (x ∷ a) [] i h e = absurd (omega arith)
-    step (x ∷ a) (y ∷ b) zero h e = and-true (eqb x y)
-    step (x ∷ a) (y ∷ b) (suc i) h e =
-        ap (λ (t : Bool). eqb x y && t) (step a b i (omega arith) (omega arith))
-        ∙ sym (and_assoc (eqb x y) (same (take i a) (take i b)) (eqb (get_or a i 0) (get_or b i 0)))
-
 -- ---- the first space
 
-pub space_within : (s : List ℕ) → space_in s ≤ length s
+-- where it stands, or the length where there is none
+space_in : List ℕ → ℕ
+space_in [] = 0
+space_in (b ∷ s) = cond (is_space b) 0 (suc (space_in s))
+
+space_within : (s : List ℕ) → space_in s ≤ length s
 unfolding space_in
 space_within [] = omega arith
 space_within (b ∷ s) = by_flag (eqb b 32) (λ t. rw t (omega arith)) (λ f. rw f (omega (arith, space_within s)))
 
--- at a space, at another byte, and at the end
-pub space_here : (s : List ℕ) (i : ℕ) → i < length s → get_or s i 0 ≡ 32 → space_from s i ≡ i
+first_space : (s : List ℕ) → position_or_len is_space s ≡ space_in s
 unfolding space_in
-space_here s i h e = rw (drop-cons s i 0 h, eq-eqb (get_or s i 0) 32 e) (omega arith)
+first_space [] = refl
+first_space (b ∷ s) = by_flag (eqb b 32) (λ t. rw t) (λ f. rw f (omega (arith, first_space s)))
 
-pub space_next : (s : List ℕ) (i : ℕ) → i < length s → (get_or s i 0 ≡ 32 → ⊥) → space_from s i ≡ space_from s (i + 1)
-unfolding space_in
-space_next s i h e = rw (drop-cons s i 0 h, ne_eqb (get_or s i 0) 32 e, add-one) (omega arith)
+found : (s : List ℕ) (i : ℕ) → position is_space s ≡ Some i → (space_in s ≡ i) × (i < length s)
+found s i h =
+    by_flag (ltb (position_or_len is_space s) (length s))
+    (λ t.
+    let e : Some (position_or_len is_space s) ≡ Some i = rw t at h in
+    let k : position_or_len is_space s ≡ i = cc in
+    (sym (first_space s) ∙ k, omega (arith, ltb-true (position_or_len is_space s) (length s) t)))
+    (λ f. let e : None ≡ Some i = rw f at h in absurd (let z : ◌≡◌ {A = ℕ} 0 1 = cc in omega arith))
 
-pub space_end : (s : List ℕ) (i : ℕ) → length s ≤ i → space_from s i ≡ i
-unfolding space_in
-space_end s i h = rw (drop_of_length-le s {i = i} h) (omega arith)
-
-pub space_is : (s : List ℕ) (from : ℕ) {at : ℕ} → at ≡ space_from s from → Space s from at
-space_is s from e = record { next = e; near = omega (arith, space_within (drop from s), length-drop from s) }
+missing : (s : List ℕ) → position is_space s ≡ None → space_in s ≡ length s
+missing s h =
+    by_order (position_or_len is_space s) (length s)
+    (λ l.
+    let e : Some (position_or_len is_space s) ≡ None = rw (lt-ltb (position_or_len is_space s) (length s) l) at h in
+    absurd (let z : ◌≡◌ {A = ℕ} 0 1 = cc in omega arith))
+    (λ g. omega (arith, first_space s, space_within s))
 
 -- ---- words
 
 -- no space: one word
-whole : (s : List ℕ) → space_in s ≡ length s → words s ≡ s ∷ []
+whole_word : (s : List ℕ) → space_in s ≡ length s → words s ≡ s ∷ []
 unfolding words space_in onto
-whole [] h = refl
-whole (b ∷ s) h =
+whole_word [] h = refl
+whole_word (b ∷ s) h =
     by_flag (eqb b 32)
     (λ t. absurd (let e : 0 ≡ suc (length s) = rw t at h in omega arith))
-    (λ f. let e : suc (space_in s) ≡ suc (length s) = rw f at h in rw (f, whole s (omega arith)))
+    (λ f. let e : suc (space_in s) ≡ suc (length s) = rw f at h in rw (f, whole_word s (omega arith)))
 
 -- a space: the word before it, and then the words after it
 cut : (s : List ℕ) → space_in s < length s → words s ≡ take (space_in s) s ∷ words (drop (suc (space_in s)) s)
@@ -93,17 +96,26 @@ words-some (b ∷ s) =
     let p = words-some s in
     by_flag (eqb b 32) (λ t. ([], words s, rw t)) (λ f. (b ∷ p.0, p.1, rw (f, p.2)))
 
--- the words from a place on, where the next space stands at `to`: the last one
-pub words_last : (s : List ℕ) (from to : ℕ) → to ≡ space_from s from → from ≤ length s → length s ≤ to → words (drop from s) ≡ part from to s ∷ []
-words_last s from to q h g =
-    let e : space_in (drop from s) ≡ length (drop from s) = omega (arith, length-drop from s, space_within (drop from s)) in
-    whole (drop from s) e ∙ ap (λ (w : List ℕ). w ∷ []) (sym (part-rest from to s g))
+-- the words of a line by where its first space stands
+pub one_word : (s : List ℕ) → position is_space s ≡ None → words s ≡ s ∷ []
+one_word s h = whole_word s (missing s h)
 
--- and one before others
-pub words-next : (s : List ℕ) (from to : ℕ) → to ≡ space_from s from → from ≤ length s → to < length s → words (drop from s) ≡ part from to s ∷ words (drop (to + 1) s)
-words-next s from to q h g =
-    let k : ℕ = space_in (drop from s) in
-    let l : k < length (drop from s) = omega (arith, length-drop from s) in
-    let e : k ≡ to - from = omega arith in
-    let m : from + suc k ≡ to + 1 = omega arith in
-    cut (drop from s) l ∙ (λ i. take (e i) (drop from s) ∷ words ((drop-drop (suc k) from s ∙ ap (λ (n : ℕ). drop n s) m) i))
+pub first_word : (s : List ℕ) (i : ℕ) → position is_space s ≡ Some i → (i < length s) × (words s ≡ take i s ∷ words (drop (i + 1) s))
+first_word s i h =
+    let p = found s i h in
+    let k : space_in s < length s = omega (arith, p) in
+    let e : suc (space_in s) ≡ i + 1 = omega (arith, p) in
+    (p.1, cut s k ∙ (λ j. take (p.0 j) s ∷ words (drop (e j) s)))
+
+-- the same with the rest as a slice of the line
+pub cut_word : (s : List ℕ) (i : ℕ) → position is_space s ≡ Some i → words s ≡ take i s ∷ words (take (length s - (i + 1)) (drop (i + 1) s))
+cut_word s i h =
+    let r : List ℕ = drop (i + 1) s in
+    let all : take (length s - (i + 1)) r ≡ r = take_all (length s - (i + 1)) r (omega (arith, length-drop (i + 1) s)) in
+    (first_word s i h).1 ∙ ap (λ (l : List ℕ). take i s ∷ words l) (sym all)
+
+-- ---- words taken one by one
+
+-- what a step found, and the words that were left before and after it
+abbrev pub Found : Option (Bor (List ℕ)) → List (List ℕ) → List (List ℕ) → Type 0
+Found r l m = MatchOption r ((l ≡ []) × (m ≡ [])) (λ x. l ≡ x.now ∷ m)

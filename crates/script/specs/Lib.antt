@@ -1,3 +1,3 @@
-pub mod Ends
+pub mod Left
 pub mod Line
 pub mod Words

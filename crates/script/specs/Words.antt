@@ -1,5 +1,5 @@
 -- A line's words. Document 01, "Cases": "there is one space between words". 32 is the space.
-use Rattle.std.specs.Prelude.{Bool, true, false, cond, ◌&&◌, List, [], ◌∷◌, ℕ, suc, ◌+◌, eqb, drop}
+use Rattle.std.specs.Prelude.{Bool, true, false, cond, ◌&&◌, List, [], ◌∷◌, ℕ, eqb}
 
 -- a byte before the first of some words
 unfoldable pub onto : ℕ → List (List ℕ) → List (List ℕ)
@@ -11,14 +11,9 @@ unfoldable pub words : List ℕ → List (List ℕ)
 words [] = [] ∷ []
 words (b ∷ s) = cond (eqb b 32) ([] ∷ words s) (onto b (words s))
 
--- where the first space stands, or the length where there is none
-unfoldable pub space_in : List ℕ → ℕ
-space_in [] = 0
-space_in (b ∷ s) = cond (eqb b 32) 0 (suc (space_in s))
-
--- the same from a place on
-abbrev pub space_from : List ℕ → ℕ → ℕ
-space_from s from = from + space_in (drop from s)
+-- whether a byte parts two words
+abbrev pub is_space : ℕ → Bool
+is_space b = eqb b 32
 
 -- whether two words are the same
 unfoldable pub same : List ℕ → List ℕ → Bool

@@ -1,14 +1,16 @@
 // A line of a script, read. The definitions are in specs/: Words.antt (the words between the spaces) and Line.antt (what a line
 // means).
-#![tactic(auto)]
+#![tactic(auto, unfolding(crate::specs::Line::later_verb, crate::specs::Line::plain_verb, crate::specs::Line::verb_with))]
 
-ghost use Rattle.std.specs.Prelude.{◌≡◌, cond, ◌≤◌, ◌<◌, length};
-ghost use Rattle.script.specs.declared.VerbWord.TheVariants.{Is};
-ghost use Rattle.script.specs.Words.{words, same as sameWord};
-ghost use Rattle.script.specs.Line.{later_verb, plain_verb, send_of, hear_of, verb_with, call_at, call_of, line_in, line_of};
-ghost use Rattle.script.specs.Ends.{Space, WordEnds, verb_at, line_at};
+ghost use Rattle.std.specs.Prelude.{◌≡◌};
+ghost use Rattle.std.specs.Option.{option_copied};
+ghost use Rattle.std.specs.List.{position};
+ghost use Rattle.std.specs.Iterator.{YieldsFirstRef, item_count};
+ghost use Rattle.script.specs.Words.{is_space, words, same as sameWord};
+ghost use Rattle.script.specs.Left.{left};
+ghost use Rattle.script.specs.Line.{later_verb, plain_verb, verb_with, line_of, line_by};
 
-use decimal::{Signed, Unsigned};
+use decimal::Number;
 use message::Host;
 
 // What a line asks of an end: a focus is sent, the message with a number is heard.
@@ -25,13 +27,6 @@ pub enum Verb {
     Report,
 }
 
-// A verb, or a word that is none.
-#[derive(Clone, Copy)]
-pub enum VerbWord {
-    Is(Verb),
-    NoVerb,
-}
-
 // A line's end, host 0 or 1, with its verb and its clock.
 #[derive(Clone, Copy)]
 pub struct Call {
@@ -40,214 +35,142 @@ pub struct Call {
     pub clock: u64,
 }
 
-// What a line means.
-#[derive(Clone, Copy)]
-pub enum Line {
-    Play(Call),
-    Malformed,
-}
-
 // How many bytes the longest line has that can be played, without its line feed.
 const LONGEST: usize = 34;
 
+// The words of a line, one after the other. Two spaces together have an empty word between them.
+#[derive(Drop)]
+pub struct Words<'a> {
+    rest: Option<&'a [u8]>,
+}
+
+impl<'a> Words<'a> {
+    pub fn of(line: &'a [u8]) -> Words<'a>
+        ensures { left result ≡ words line.now }
+    {
+        Words { rest: Some(line) }
+    }
+}
+
+// Where the first space stands.
+fn space_in(line: &[u8]) -> Option<usize>
+    ensures { result ≡ position is_space line.now }
+{
+    line.iter().position(|b| *b == b' ')
+}
+
+impl<'a> Iterator for Words<'a> {
+    type Item = &'a [u8];
+
+    ghost next_gives = { YieldsFirstRef left };
+
+    ghost remaining = { item_count left };
+
+    fn next(&mut self) -> Option<&'a [u8]> {
+        let line = self.rest?;
+        match space_in(line) {
+            Some(end) => {
+                self.rest = Some(&line[end + 1..]);
+                Some(&line[..end])
+            }
+            None => {
+                self.rest = None;
+                Some(line)
+            }
+        }
+    }
+}
+
 // Whether two words are the same.
-fn same(a: &[u8], b: &[u8]) -> bool
+pub fn same(a: &[u8], b: &[u8]) -> bool
     ensures { result ≡ sameWord a.now b.now }
 {
-    if a.len() != b.len() {
-        return false;
-    }
-    let mut ok = true;
-    let mut i: usize = 0;
-    while i < a.len() {
-        ok = ok & (a[i] == b[i]);
-        i += 1;
-    }
-    ok
+    a == b
 }
 
-// Where the next space stands, from a place on, or the line's length where there is none.
-fn space(line: &[u8], from: usize) -> usize
-    ensures { Space line.now from result }
-{
-    let mut i = from;
-    while i < line.len() {
-        if line[i] == b' ' {
-            return i;
-        }
-        i += 1;
-    }
-    i
-}
-
-// The first of two verbs, if the test says so.
-fn chosen(test: bool, verb: VerbWord, otherwise: VerbWord) -> VerbWord
-    ensures { result ≡ cond test verb otherwise }
-{
-    if test { verb } else { otherwise }
-}
-
-// A verb by its word, or what else it may be.
-fn named(v: &[u8], word: &[u8], verb: Verb, otherwise: VerbWord) -> VerbWord
-    ensures { result ≡ cond (sameWord v.now word.now) (Is verb) otherwise }
-{
-    chosen(same(v, word), VerbWord::Is(verb), otherwise)
-}
-
-// The last four verbs that have nothing after the clock. Here and below the verbs are tried from the definition's last to its first.
-fn later_verb(v: &[u8]) -> VerbWord
+// The last four verbs that have nothing after the clock.
+fn later_verb(v: &[u8]) -> Option<Verb>
     ensures { result ≡ later_verb v.now }
 {
-    let report = named(v, b"report", Verb::Report, VerbWord::NoVerb);
-    let fire = named(v, b"fire", Verb::Fire, report);
-    let crash = named(v, b"crash", Verb::Crash, fire);
-    named(v, b"left", Verb::Left, crash)
+    if same(v, b"left") {
+        return Some(Verb::Left);
+    }
+    if same(v, b"crash") {
+        return Some(Verb::Crash);
+    }
+    if same(v, b"fire") {
+        return Some(Verb::Fire);
+    }
+    if same(v, b"report") {
+        return Some(Verb::Report);
+    }
+    None
 }
 
 // A verb that has nothing after the clock.
-fn plain_verb(v: &[u8]) -> VerbWord
+fn plain_verb(v: &[u8]) -> Option<Verb>
     ensures { result ≡ plain_verb v.now }
 {
-    let later = later_verb(v);
-    let leave = named(v, b"leave", Verb::Leave, later);
-    let joined = named(v, b"joined", Verb::Joined, leave);
-    named(v, b"join", Verb::Join, joined)
-}
-
-fn send_of(focus: Signed) -> VerbWord
-    ensures { result ≡ send_of focus }
-{
-    match focus {
-        Signed::Integer(z) => VerbWord::Is(Verb::Send(z)),
-        Signed::NoInteger => VerbWord::NoVerb,
+    if same(v, b"join") {
+        return Some(Verb::Join);
     }
-}
-
-fn hear_of(number: Unsigned) -> VerbWord
-    ensures { result ≡ hear_of number }
-{
-    match number {
-        Unsigned::Number(n) => VerbWord::Is(Verb::Hear(n)),
-        Unsigned::NoNumber => VerbWord::NoVerb,
+    if same(v, b"joined") {
+        return Some(Verb::Joined);
     }
+    if same(v, b"leave") {
+        return Some(Verb::Leave);
+    }
+    later_verb(v)
 }
 
 // A verb with the word after the clock.
-fn verb_with(v: &[u8], x: &[u8]) -> VerbWord
+fn verb_with(v: &[u8], x: &[u8]) -> Option<Verb>
     ensures { result ≡ verb_with v.now x.now }
 {
-    let hear = chosen(
-        same(v, b"hear"),
-        hear_of(decimal::number_in(x)),
-        VerbWord::NoVerb,
-    );
-    chosen(same(v, b"send"), send_of(decimal::signed_in(x)), hear)
+    if same(v, b"send") {
+        return i16::from_word(x).map(Verb::Send);
+    }
+    if same(v, b"hear") {
+        return u64::from_word(x).map(Verb::Hear);
+    }
+    None
 }
 
-// A call, where the end is 0 or 1.
-fn call_at(end: u64, verb: Verb, clock: u64) -> Line
-    ensures { result ≡ call_at end verb clock }
+// A line by its words, of which the fourth may be missing: the end is 0 or 1.
+fn call_of(end: &[u8], verb: &[u8], clock: &[u8], with: Option<&[u8]>) -> Option<Call>
+    ensures { result ≡ line_by end.now verb.now clock.now (option_copied with.entry) }
 {
+    let end = u64::from_word(end)?;
+    let verb = match with {
+        Some(x) => verb_with(verb, x),
+        None => plain_verb(verb),
+    }?;
+    let clock = u64::from_word(clock)?;
     if end < 2 {
-        Line::Play(Call {
+        Some(Call {
             end: Host(end as u8),
             verb,
             clock,
         })
     } else {
-        Line::Malformed
+        None
     }
 }
 
-// An end with a verb and a clock, where all three are right.
-fn line_from(e: Unsigned, v: VerbWord, t: Unsigned) -> Line
-    ensures { result ≡ call_of e v t }
-{
-    let Unsigned::Number(end) = e else {
-        return Line::Malformed;
-    };
-    let VerbWord::Is(verb) = v else {
-        return Line::Malformed;
-    };
-    let Unsigned::Number(clock) = t else {
-        return Line::Malformed;
-    };
-    call_at(end, verb, clock)
-}
-
-// Where the first four words of a line end: at a space, or at the line's end. From there on there is no word.
-#[derive(Clone, Copy)]
-struct Ends {
-    first: usize,
-    second: usize,
-    third: usize,
-    fourth: usize,
-}
-
-fn word_ends(line: &[u8]) -> Ends
-    requires { length line.now ≤ 34 }
-    ensures { WordEnds line.now result }
-{
-    let first = space(line, 0);
-    let second = space(line, first + 1);
-    let third = space(line, second + 1);
-    let fourth = space(line, third + 1);
-    Ends {
-        first,
-        second,
-        third,
-        fourth,
-    }
-}
-
-// The verb, from the second word and, if the third word is not the last, the fourth.
-fn verb_in(line: &[u8], first: usize, second: usize, third: usize) -> VerbWord
-    requires first_lt_second { first < second }
-    requires second_in_bounds { second < length line.now }
-    ensures { result ≡ verb_at line.now first second third }
-{
-    let verb = &line[first + 1..second];
-    if line.len() <= third {
-        plain_verb(verb)
-    } else {
-        verb_with(verb, &line[third + 1..])
-    }
-}
-
-// A line of three words or four, which end there.
-fn line_at(line: &[u8], w: Ends) -> Line
-    requires first_lt_second { w.first < w.second }
-    requires second_in_bounds { w.second < length line.now }
-    ensures { result ≡ line_at line.now w }
-{
-    let end = decimal::read_u64(line, 0, w.first);
-    let verb = verb_in(line, w.first, w.second, w.third);
-    let clock = decimal::read_u64(line, w.second + 1, w.third);
-    line_from(end, verb, clock)
-}
-
-// Reads the words of a line: there are three, or four.
-fn words_in(line: &[u8]) -> Line
-    requires { length line.now ≤ 34 }
-    ensures { result ≡ line_in (words line.now) }
-{
-    let w = word_ends(line);
-    if line.len() <= w.second {
-        return Line::Malformed;
-    }
-    if w.fourth < line.len() {
-        return Line::Malformed;
-    }
-    line_at(line, w)
-}
-
-// Reads a line, which is given without its line feed.
-pub fn read_line(line: &[u8]) -> Line
+// Reads a line, which is given without its line feed: there are three words, or four.
+pub fn read_line(line: &[u8]) -> Option<Call>
     ensures { result ≡ line_of line.now }
 {
     if LONGEST < line.len() {
-        Line::Malformed
-    } else {
-        words_in(line)
+        return None;
     }
+    let mut words = Words::of(line);
+    let end = words.next()?;
+    let verb = words.next()?;
+    let clock = words.next()?;
+    let with = words.next();
+    if words.next().is_some() {
+        return None;
+    }
+    call_of(end, verb, clock, with)
 }

@@ -17,9 +17,7 @@ fn show(rt: &impl Print, d: Date, next: Date) -> io::Result<()> {
 
 fn main(rt: HostRuntime) -> io::Result<()> {
     let mut d = Date::FIRST;
-    let mut left: usize = 36525;
-    while 0 < left {
-        left -= 1;
+    for _ in 0..36525 {
         let next = calendar::day_after(d);
         show(&rt, d, next)?;
         d = next;

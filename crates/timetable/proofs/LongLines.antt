@@ -7,18 +7,15 @@ use native.Mathlib.Omega.{arith}
 use lib.Dec.{ltb, eqb}
 use lib.ListN.{length}
 use borrow.Author.Tests.{ltb-true, eqb-true, eq-eqb}
+use Rattle.std.specs.Prelude.{None, Option, Some}
 use Rattle.numbers.proofs.Cases.{by_flag}
-use Rattle.decimal.specs.declared.Unsigned.{Unsigned}
-use Rattle.decimal.specs.declared.Unsigned.TheVariants.{Number, NoNumber}
 use Rattle.decimal.specs.Decimal.{unsigned_word}
 use Rattle.decimal.proofs.DecimalLaws.{length_most}
 use Rattle.decimal.proofs.ReadBack.{read_printed}
 use Rattle.script.specs.Words.{onto, words, same}
 use Rattle.script.proofs.WordsLaws.{other_length, words-some}
 use Rattle.calendar.specs.declared.Date.{Date}
-use Rattle.entries.specs.declared.DateWord.{DateWord}
-use Rattle.entries.specs.declared.DateWord.TheVariants.{Is, NoDate}
-use Rattle.entries.specs.declared.Line.TheVariants.{Malformed}
+use Rattle.entries.specs.Line.{Malformed}
 use Rattle.entries.specs.Line.{window, next, roll, clear, date_word, roll_of, next_of, window_of, clear_in, roll_in, next_in, window_in, line_in}
 use Rattle.timetable.specs.Run.{LongLines}
 
@@ -42,49 +39,49 @@ same_length v w h =
     (λ t. eqb-true _ _ t)
     (λ f. absurd (true≢false (sym h ∙ other_length v w (λ e. true≢false (sym (eq-eqb _ _ e) ∙ f)))))
 
-date-length : (w : List ℕ) (d : Date) → date_word w ≡ Is d → length w ≡ 10
+date-length : (w : List ℕ) (d : Date) → date_word w ≡ Some d → length w ≡ 10
 unfolding date_word
 date-length w d h =
     by_flag (eqb (length w) 10)
     (λ t. eqb-true _ _ t)
-    (λ f. let e : NoDate ≡ Is d = rw f at h in absurd (let z : ◌≡◌ {A = ℕ} 0 1 = cc in omega arith))
+    (λ f. let e : None ≡ Some d = rw f at h in absurd (let z : ◌≡◌ {A = ℕ} 0 1 = cc in omega arith))
 
-minute_length : (w : List ℕ) (n : ℕ) → unsigned_word w ≡ Number n → ltb n 65536 ≡ true → length w ≤ 5
+minute_length : (w : List ℕ) (n : ℕ) → unsigned_word w ≡ Some n → ltb n 65536 ≡ true → length w ≤ 5
 minute_length w n h t = omega (arith, ap length (read_printed w n h), length_most 4 n (omega (arith, ltb-true n 65536 t)))
 
 -- ---- the words of a line, by their lengths
 long-roll : (d : List ℕ) → 10 < length d → roll_of (date_word d) ≡ Malformed
 long-roll d h = of (date_word d) refl
   where
-    of : (x : DateWord) → date_word d ≡ x → roll_of x ≡ Malformed
-    of (Is a) e = absurd (omega (arith, date-length d a e))
-    of NoDate e = refl
+    of : (x : Option Date) → date_word d ≡ x → roll_of x ≡ Malformed
+    of (Some a) e = absurd (omega (arith, date-length d a e))
+    of None e = refl
 
 long-next : (d n : List ℕ) → 15 < length d + length n → next_of (date_word d) (unsigned_word n) ≡ Malformed
 long-next d n h = of (date_word d) refl (unsigned_word n) refl
   where
-    of : (x : DateWord) → date_word d ≡ x → (u : Unsigned) → unsigned_word n ≡ u → next_of x u ≡ Malformed
-    of (Is a) e (Number k) f = by_flag (ltb k 65536) (λ t. absurd (omega (arith, date-length d a e, minute_length n k f t))) (λ g. rw g)
-    of (Is a) e NoNumber f = refl
-    of NoDate e u f = refl
+    of : (x : Option Date) → date_word d ≡ x → (u : Option ℕ) → unsigned_word n ≡ u → next_of x u ≡ Malformed
+    of (Some a) e (Some k) f = by_flag (ltb k 65536) (λ t. absurd (omega (arith, date-length d a e, minute_length n k f t))) (λ g. rw g)
+    of (Some a) e None f = refl
+    of None e u f = refl
 
 long-window : (a b s e : List ℕ) → 30 < length a + length b + length s + length e
     → window_of (date_word a) (date_word b) (unsigned_word s) (unsigned_word e) ≡ Malformed
 long-window a b s e h = of (date_word a) refl (date_word b) refl (unsigned_word s) refl (unsigned_word e) refl
   where
-    of : (x : DateWord) → date_word a ≡ x → (y : DateWord) → date_word b ≡ y → (u : Unsigned) → unsigned_word s ≡ u → (v : Unsigned) → unsigned_word e ≡ v
+    of : (x : Option Date) → date_word a ≡ x → (y : Option Date) → date_word b ≡ y → (u : Option ℕ) → unsigned_word s ≡ u → (v : Option ℕ) → unsigned_word e ≡ v
         → window_of x y u v ≡ Malformed
-    of (Is x) p (Is y) q (Number m) f (Number n) g =
+    of (Some x) p (Some y) q (Some m) f (Some n) g =
         by_flag (ltb m 65536)
         (λ t.
         by_flag (ltb n 65536)
         (λ z. absurd (omega (arith, date-length a x p, date-length b y q, minute_length s m f t, minute_length e n g z)))
         (λ z. rw (t, z)))
         (λ t. rw t)
-    of (Is x) p (Is y) q (Number m) f NoNumber g = refl
-    of (Is x) p (Is y) q NoNumber f v g = refl
-    of (Is x) p NoDate q u f v g = refl
-    of NoDate p y q u f v g = refl
+    of (Some x) p (Some y) q (Some m) f None g = refl
+    of (Some x) p (Some y) q None f v g = refl
+    of (Some x) p None q u f v g = refl
+    of None p y q u f v g = refl
 
 long-words : (l : List (List ℕ)) → 41 < total l → line_in l ≡ Malformed
 unfolding total line_in clear_in roll_in next_in window_in

@@ -14,8 +14,8 @@ use Rattle.numbers.proofs.Cases.{by_order}
 use Rattle.answers.specs.Put.{Put}
 use Rattle.answers.proofs.PutLaws.{put_same}
 use Rattle.openings.specs.declared.Window.{Window}
-use Rattle.entries.specs.declared.Line.{Line}
-use Rattle.entries.specs.declared.Line.TheVariants.{Malformed}
+use Rattle.entries.specs.Line.{Line}
+use Rattle.entries.specs.Line.{Malformed}
 use Rattle.entries.specs.Line.{line_of}
 use Rattle.entries.specs.Print.{bad_line, widest}
 use Rattle.timetable.specs.declared.Step.{Step}

@@ -9,7 +9,7 @@ use Rattle.openings.specs.declared.Moment.{Moment}
 use Rattle.openings.specs.declared.Opening.TheVariants.{At, None}
 use Rattle.openings.specs.Windows.{minute_exists, minute_number, is_open}
 use Rattle.openings.specs.Find.{in_order, find_of, opening_number, opening_values}
-use Rattle.entries.specs.declared.Line.TheVariants.{Malformed}
+use Rattle.entries.specs.Line.{Malformed}
 use Rattle.entries.specs.Line.{line_of}
 use Rattle.timetable.specs.Run.{start, windows_of, all_print, joined}
 

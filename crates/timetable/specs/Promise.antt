@@ -3,7 +3,7 @@ use Rattle.std.specs.Prelude.{◌≡◌, true, ◌⊎◌, List, ℕ, ◌+◌, �
 use Rattle.numbers.specs.Splice.{splice}
 use Rattle.answers.specs.Put.{Put}
 use Rattle.openings.specs.declared.Window.{Window}
-use Rattle.entries.specs.declared.Line.{Line}
+use Rattle.entries.specs.Line.{Line}
 use Rattle.entries.specs.Print.{widest}
 use Rattle.timetable.specs.declared.Turned.{Turned}
 use Rattle.timetable.specs.declared.Step.{Step}

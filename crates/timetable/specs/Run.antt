@@ -2,8 +2,8 @@
 -- the whole prints, however it is cut, is the statement `PrintsInPieces`, proved in proofs/Pieces.antt.
 use Rattle.std.specs.Prelude.{◌≡◌, Bool, false, cond, List, [], ◌∷◌, ◌++◌, ℕ, ◌<◌, eqb, ltb, length, take}
 use Rattle.openings.specs.declared.Window.{Window}
-use Rattle.entries.specs.declared.Line.{Line}
-use Rattle.entries.specs.declared.Line.TheVariants.{Malformed}
+use Rattle.entries.specs.Line.{Line}
+use Rattle.entries.specs.Line.{Malformed}
 use Rattle.entries.specs.Line.{line_of}
 use Rattle.entries.specs.Print.{bad_line}
 use Rattle.timetable.specs.declared.Playing.{Playing}

@@ -2,8 +2,7 @@
 use Rattle.std.specs.Prelude.{Bool, true, false, cond, List, [], ◌∷◌, ◌++◌, ℕ, ltb, length, take}
 use Rattle.openings.specs.declared.Window.{Window}
 use Rattle.openings.specs.Find.{find_of}
-use Rattle.entries.specs.declared.Line.{Line}
-use Rattle.entries.specs.declared.Line.TheVariants.{Add, Next, Roll, Clear, Malformed}
+use Rattle.entries.specs.Line.{Line, Add, Next, Roll, Clear, Malformed}
 use Rattle.entries.specs.Print.{opening_line, roll_line, bad_line}
 use Rattle.timetable.specs.declared.Table.{Table}
 

@@ -3,25 +3,27 @@
 // two of its pieces). That the pieces together print what the whole prints, however it is cut, is proofs/Pieces.antt.
 #![tactic(auto)]
 
-ghost use Rattle.std.specs.Prelude.{◌≡◌, false, [], ◌+◌, ◌≤◌, ◌<◌, min, length, take};
+ghost use Rattle.std.specs.Prelude.{◌≡◌, false, [], ◌+◌, ◌≤◌, ◌<◌, length, take, Some};
 ghost use Rattle.numbers.specs.Splice.{splice};
-ghost use Rattle.entries.specs.Line.{line_of};
+ghost use Rattle.entries.specs.Line.{Next, Roll, Malformed, line_of};
 ghost use Rattle.entries.specs.Print.{widest};
 ghost use Rattle.timetable.specs.Table.{added_to, list_in};
 ghost use Rattle.timetable.specs.Run.{start, within, end_prints, standing};
 ghost use Rattle.timetable.specs.Promise.{Plays, Ends, TakesByte, Feeds};
 
 use calendar::Date;
-use entries::Line;
+use entries::Asked;
 use openings::{Moment, Window};
 
 // The list of windows: the first `count` of the places.
+// Kept: memory is fixed by a rule of the project, so the list is an array and its count.
 #[derive(Clone, Copy)]
 pub struct Table {
     pub places: [Window; 33],
     pub count: usize,
 }
 
+// Kept: memory is fixed by a rule of the project, so the line is a buffer and its length.
 // Where a run stands between two pieces: the line so far is the first `len` bytes of its buffer. After "bad" it has stopped.
 #[derive(Clone, Copy)]
 pub struct Playing {
@@ -82,7 +84,7 @@ fn added(t: Table, w: Window) -> Table
 // The next open minute is printed.
 fn play_next(t: Table, m: Moment, out: &mut [u8], at: usize) -> Turned
     requires { at + widest ≤ length out.old }
-    ensures { Plays (Line.Next m) (list_in t) at out.old out.new result }
+    ensures { Plays (Next m) (list_in t) at out.old out.new result }
 {
     let places = t.places;
     let o = openings::find_in(places, t.count, m);
@@ -97,7 +99,7 @@ fn play_next(t: Table, m: Moment, out: &mut [u8], at: usize) -> Turned
 // The day after is printed.
 fn play_roll(t: Table, d: Date, out: &mut [u8], at: usize) -> Turned
     requires { at + widest ≤ length out.old }
-    ensures { Plays (Line.Roll d) (list_in t) at out.old out.new result }
+    ensures { Plays (Roll d) (list_in t) at out.old out.new result }
 {
     let used = entries::put_rolled(out, at, d);
     Turned {
@@ -110,7 +112,7 @@ fn play_roll(t: Table, d: Date, out: &mut [u8], at: usize) -> Turned
 // Prints that a line is malformed: the run stops.
 fn play_malformed(t: Table, out: &mut [u8], at: usize) -> Turned
     requires { at + widest ≤ length out.old }
-    ensures { Plays Line.Malformed (list_in t) at out.old out.new result }
+    ensures { Plays Malformed (list_in t) at out.old out.new result }
 {
     let used = entries::text(out, at, b"bad\n");
     Turned {
@@ -123,63 +125,62 @@ fn play_malformed(t: Table, out: &mut [u8], at: usize) -> Turned
 fn cleared(t: Table) -> Table
     ensures { list_in result ≡ [] }
 {
-    let places = t.places;
-    Table { places, count: 0 }
+    Table { count: 0, ..t }
 }
 
-// Plays a line.
-fn play(t: Table, l: Line, out: &mut [u8], at: usize) -> Turned
+// Plays what a line asks.
+fn play_asked(t: Table, asked: Asked, out: &mut [u8], at: usize) -> Turned
     requires { at + widest ≤ length out.old }
-    ensures { Plays l (list_in t) at out.old out.new result }
+    ensures { Plays (Some asked) (list_in t) at out.old out.new result }
 {
-    match l {
-        Line::Add(w) => Turned {
+    match asked {
+        Asked::Add(w) => Turned {
             table: added(t, w),
             stopped: false,
             used: at,
         },
-        Line::Next(m) => play_next(t, m, out, at),
-        Line::Roll(d) => play_roll(t, d, out, at),
-        Line::Clear => Turned {
+        Asked::Next(m) => play_next(t, m, out, at),
+        Asked::Roll(d) => play_roll(t, d, out, at),
+        Asked::Clear => Turned {
             table: cleared(t),
             stopped: false,
             used: at,
         },
-        Line::Malformed => play_malformed(t, out, at),
+    }
+}
+
+// Plays a line.
+fn play(t: Table, l: Option<Asked>, out: &mut [u8], at: usize) -> Turned
+    requires { at + widest ≤ length out.old }
+    ensures { Plays l (list_in t) at out.old out.new result }
+{
+    match l {
+        Some(asked) => play_asked(t, asked, out, at),
+        None => play_malformed(t, out, at),
     }
 }
 
 // ---- bytes are taken
 
-fn least(a: usize, b: usize) -> usize
-    ensures { result ≡ min a b }
-{
-    if a < b { a } else { b }
-}
-
 // What the first bytes of a line's buffer mean.
-fn meaning(line: &[u8], len: usize) -> Line
+fn meaning(line: &[u8], len: usize) -> Option<Asked>
     requires { length line.now ≤ 40 }
     ensures { result ≡ line_of (take len line.now) }
 {
-    let n = least(len, line.len());
-    entries::read_line(&line[..n])
+    entries::read_line(&line[..len.min(line.len())])
 }
 
 // At the end of a line it is played, and the next one has no bytes yet.
-fn end_line(p: Playing, l: Line, out: &mut [u8], at: usize) -> Step
+fn end_line(p: Playing, l: Option<Asked>, out: &mut [u8], at: usize) -> Step
     requires { at + widest ≤ length out.old }
     ensures { Ends l (standing p).list at out.old out.new result }
 {
-    let line = p.line;
-    let t = p.table;
-    let turned = play(t, l, out, at);
-    let table = turned.table;
+    let turned = play(p.table, l, out, at);
     let playing = Playing {
-        line,
         len: 0,
         stopped: turned.stopped,
-        table,
+        table: turned.table,
+        ..p
     };
     Step {
         playing,
@@ -193,14 +194,12 @@ fn longer(p: Playing, b: u8) -> Playing
     ensures { standing result ≡ within (standing p) b }
 {
     let mut line = p.line;
-    let len = p.len;
-    line[len] = b;
-    let table = p.table;
+    line[p.len] = b;
     Playing {
         line,
-        len: len + 1,
+        len: p.len + 1,
         stopped: false,
-        table,
+        ..p
     }
 }
 
@@ -219,7 +218,7 @@ fn take_byte(p: Playing, b: u8, out: &mut [u8], at: usize) -> Step
         let playing = longer(p, b);
         return Step { playing, used: at };
     }
-    end_line(p, Line::Malformed, out, at)
+    end_line(p, None, out, at)
 }
 
 // A run before its first byte.
@@ -250,6 +249,7 @@ pub fn feed(playing: Playing, piece: &[u8], out: &mut [u8]) -> Progress
     let mut p = playing;
     let mut at: usize = 0;
     let mut used: usize = 0;
+    // Kept: no plainer as a for, since the run stops for three reasons and has to say how many bytes it took.
     while (at < piece.len()) & (WIDEST <= out.len() - used) & !p.stopped {
         let s = take_byte(p, piece[at], out, used);
         p = s.playing;

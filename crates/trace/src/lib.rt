@@ -9,7 +9,7 @@ pub mod cut;
 ghost use Rattle.std.specs.Prelude.{◌≤◌, IfSome};
 
 pub use bytes::Bytes;
-use decimal::{Signed, Unsigned};
+use decimal::Number;
 use message::{CueNumber, Host, Name};
 
 // Where reading stands in a line: what is left of it. All words but the first have a space before them.
@@ -64,10 +64,7 @@ impl<'a> Cursor<'a> {
 
     // The next word as a number below 2^64.
     pub fn number(&mut self) -> Option<u64> {
-        match decimal::number_in(self.word()?) {
-            Unsigned::Number(v) => Some(v),
-            Unsigned::NoNumber => None,
-        }
+        u64::from_word(self.word()?)
     }
 
     // The next word as a number up to `most`.
@@ -117,11 +114,7 @@ impl<'a> Cursor<'a> {
 
     // The next word as an offset, -32768..32767.
     pub fn offset(&mut self) -> Option<i16> {
-        let word = self.word()?;
-        match decimal::read_i16(word, 0, word.len()) {
-            Signed::Integer(z) => Some(z),
-            Signed::NoInteger => None,
-        }
+        i16::from_word(self.word()?)
     }
 
     // ---- bytes and cues

@@ -1,33 +1,26 @@
-use mathlib.Core.Path.{refl, sym, ap, ◌∙◌}
-use Prim.Native.Nat.{◌+◌}
+use mathlib.Core.Path.{sym, ap, ◌∙◌}
+use Prim.Native.Nat.{ℕ, ◌+◌}
 use native.Mathlib.Omega.{arith}
 use lib.ListN.{drop}
-use Rattle.decimal.specs.declared.Unsigned.{Unsigned}
+use Rattle.std.specs.Prelude.{Option}
 use Rattle.decimal.specs.Steps.{digits_after}
-use Rattle.decimal.proofs.WordLaws.{digits_step, digits-end}
+use Rattle.decimal.proofs.WordLaws.{digits_step, digits-end, digits-none}
 use Rattle.decimal.proofs.digits_in.Goals as goal
 
-pub loop-i-init : goal.loop-i-init
-loop-i-init c = (omega arith, refl)
+pub returns-in_err-v : goal.returns-in_err-v
+returns-in_err-v c =
+    let s = c.args.digits.now in
+    let i = c.loop-b.b-index in
+    let e = sym c.with_digit.ensures ∙ c.in_err-v.was in
+    c.from_residual.ensures ∙ sym (digits-none (drop (i + 1) s)) ∙ ap (λ (u : Option ℕ). digits_after u (drop (i + 1) s)) (sym e)
+    ∙ sym (digits_step s _ i (omega arith)) ∙ c.loop-b.invariant
 
-pub bounds-s-i : goal.bounds-s-i
-bounds-s-i c = omega arith
-
-pub overflow_add-i : goal.overflow_add-i
-overflow_add-i c = omega arith
-
-pub loop-i-smaller : goal.loop-i-smaller
-loop-i-smaller c = omega arith
-
-pub loop-i-preserved : goal.loop-i-preserved
-loop-i-preserved c =
-    let t = c.before.before.before in
-    let s = t.args.s.now in
-    let i = t.loop-i.i in
-    let e = ap (λ (u : Unsigned). digits_after u (drop (i + 1) s)) c.more-u.ensures in
-    (omega arith, e ∙ sym (digits_step s t.loop-i.u i (omega arith)) ∙ t.loop-i.invariant.1)
+pub loop-b-preserved : goal.loop-b-preserved
+loop-b-preserved c =
+    let s = c.args.digits.now in
+    let i = c.loop-b.b-index in
+    let e = sym c.with_digit.ensures ∙ c.in_ok-v.was in
+    ap (λ (u : Option ℕ). digits_after u (drop (i + 1) s)) (sym e) ∙ sym (digits_step s _ i (omega arith)) ∙ c.loop-b.invariant
 
 pub returns : goal.returns
-returns c =
-    let t = c.before in
-    sym (digits-end t.args.s.now t.loop-i.u t.loop-i.i (omega arith)) ∙ t.loop-i.invariant.1
+returns c = sym (digits-end _ _ c.loop-b.b-index (omega arith)) ∙ c.loop-b.invariant

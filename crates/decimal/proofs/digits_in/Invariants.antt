@@ -1,13 +1,8 @@
-use mathlib.Core.Path.{◌≡◌}
-use Prim.Native.Nat.{◌-◌, ◌≤◌}
-use lib.ListN.{length, drop}
-use Rattle.decimal.specs.declared.Unsigned.TheVariants.{Number}
+use Rattle.std.proofs.Common.{◌≡◌, Some}
+use lib.ListN.{drop}
 use Rattle.decimal.specs.Steps.{digits_after}
 use Rattle.decimal.proofs.digits_in.Given as goal
 
 -- `decimal::digits_in` meets its contract: what is left, read after what was read so far, is the whole.
-abbrev pub invariant-loop-i : goal.invariant-loop-i
-invariant-loop-i l = (l.i ≤ length l.s) × (digits_after l.u (drop l.i l.s) ≡ digits_after (Number 0) l.s)
-
-abbrev pub decreases-loop-i : goal.decreases-loop-i
-decreases-loop-i l = length l.s - l.i
+abbrev pub invariant-loop-b : goal.invariant-loop-b
+invariant-loop-b l = digits_after (Some l.v) (drop l.b-index l.digits) ≡ digits_after (Some 0) l.digits

@@ -11,8 +11,8 @@ put_digits-requires c = record { ends = omega arith; inside = simp length-set (o
 pub shape_of-out : goal.shape_of-out
 shape_of-out c = c.put_digits.auto.out ∙ simp length-set
 
-pub returns-then-w-room_from : goal.returns-then-w-room_from
-returns-then-w-room_from c = signed-written (omega arith) (omega arith) c.put_digits.ensures
+pub returns-then-w-saturating_sub : goal.returns-then-w-saturating_sub
+returns-then-w-saturating_sub c = signed-written (omega arith) (omega arith) c.put_digits.ensures
 
-pub returns-else-w-room_from : goal.returns-else-w-room_from
-returns-else-w-room_from c = not_written (omega arith)
+pub returns-else-w-saturating_sub : goal.returns-else-w-saturating_sub
+returns-else-w-saturating_sub c = not_written (omega arith)

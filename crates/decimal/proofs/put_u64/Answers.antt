@@ -6,8 +6,8 @@ use Rattle.decimal.proofs.put_u64.Goals as goal
 pub put_digits-requires : goal.put_digits-requires
 put_digits-requires c = record { ends = omega arith; inside = omega arith }
 
-pub returns-then-w-room_from : goal.returns-then-w-room_from
-returns-then-w-room_from c = written (omega arith) (omega arith) c.put_digits.ensures
+pub returns-then-w-saturating_sub : goal.returns-then-w-saturating_sub
+returns-then-w-saturating_sub c = written (omega arith) (omega arith) c.put_digits.ensures
 
-pub returns-else-w-room_from : goal.returns-else-w-room_from
-returns-else-w-room_from c = not_written (omega arith)
+pub returns-else-w-saturating_sub : goal.returns-else-w-saturating_sub
+returns-else-w-saturating_sub c = not_written (omega arith)

@@ -14,4 +14,6 @@ returns c =
       c.tens-2.ensures,
       c.ones.ensures,
       c.tens.ensures,
+      c.from-month.ensures,
+      c.from-day.ensures,
     )

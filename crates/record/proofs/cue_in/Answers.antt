@@ -1,4 +1,4 @@
-use mathlib.Core.Path.{refl, sym}
+use mathlib.Core.Path.{refl, sym, ◌∙◌}
 use lib.ListN.{length-set}
 use borrow.Author.Tests.{ne_eqb}
 use Rattle.record.specs.Line.{cue_word}
@@ -31,19 +31,21 @@ bounds-w-i-in-loop-i c = omega (arith, c.loop-i.invariant.digits)
 pub bounds-cue-i : goal.bounds-cue-i
 bounds-cue-i c = omega arith
 
-pub overflow_add-i : goal.overflow_add-i
-overflow_add-i c = omega arith
-
-pub loop-i-smaller : goal.loop-i-smaller
-loop-i-smaller c = omega arith
-
 pub loop-i-preserved : goal.loop-i-preserved
 loop-i-preserved c =
     let l = c.loop-i in
     pair_read_lem l.invariant _ _ _ (omega arith) c.is_hex.ensures c.is_hex-in-loop-i.ensures c.pair.ensures (simp length-set l.invariant.bytes)
 
-pub returns : goal.returns
-returns c =
+pub returns-then-ok-fits : goal.returns-then-ok-fits
+returns-then-ok-fits c =
     let l = c.loop-i in
     let all = all_read l.invariant (omega arith) in
-    cue_read _ _ _ _ l.invariant.digits all.0 all.1 c.cue_in-fits.ensures
+    let t = c.if-ok-fits.true in
+    sym (simp t) ∙ cue_read _ _ _ _ l.invariant.digits all.0 all.1 c.cue_in-fits.ensures
+
+pub returns-else-ok-fits : goal.returns-else-ok-fits
+returns-else-ok-fits c =
+    let l = c.loop-i in
+    let all = all_read l.invariant (omega arith) in
+    let t = c.if-ok-fits.false in
+    sym (simp t) ∙ cue_read _ _ _ _ l.invariant.digits all.0 all.1 c.cue_in-fits.ensures

@@ -9,14 +9,14 @@ use Rattle.timetable.proofs.PlayLaws.{first-bytes}
 use Rattle.timetable.proofs.meaning.Goals as goal
 
 pub slice_bounds-read_line-end : goal.slice_bounds-read_line-end
-slice_bounds-read_line-end c = sym (length-take-le _ _ (omega (arith, c.least-n.ensures)))
+slice_bounds-read_line-end c = sym (length-take-le _ _ (omega (arith, c.min.ensures)))
 
 pub read_line-requires : goal.read_line-requires
-read_line-requires c = omega (arith, length-take c.least-n.result c.args.line.now, c.requires)
+read_line-requires c = omega (arith, length-take c.min.result c.args.line.now, c.requires)
 
 pub returns : goal.returns
 returns c =
     let a = c.args in
     c.read_line.ensures
-    ∙ ap (λ (k : ℕ). line_of (take k a.line.now)) c.least-n.ensures
+    ∙ ap (λ (k : ℕ). line_of (take k a.line.now)) c.min.ensures
     ∙ ap line_of (first-bytes a.len a.line.now)

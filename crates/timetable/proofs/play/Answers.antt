@@ -1,19 +1,8 @@
 -- `timetable::play` meets its contract: the line is the one that was matched.
-use mathlib.Core.Path.{refl}
-use Rattle.timetable.proofs.PlayLaws.{put-none}
 use Rattle.timetable.proofs.play.Goals as goal
 
-pub returns-in-Add : goal.returns-in-Add
-returns-in-Add c = rw c.in-Add.is (record { list = c.added.ensures; stops = refl; put = put-none _ _ })
+pub returns-in-Some : goal.returns-in-Some
+returns-in-Some c = rw c.in-Some.is c.play_asked.ensures
 
-pub returns-in-Next : goal.returns-in-Next
-returns-in-Next c = rw c.in-Next.is c.play_next.ensures
-
-pub returns-in-Roll : goal.returns-in-Roll
-returns-in-Roll c = rw c.in-Roll.is c.play_roll.ensures
-
-pub returns-in-Clear : goal.returns-in-Clear
-returns-in-Clear c = rw c.in-Clear.is (record { list = c.cleared.ensures; stops = refl; put = put-none _ _ })
-
-pub returns-in-Malformed : goal.returns-in-Malformed
-returns-in-Malformed c = rw c.in-Malformed.is c.play_malformed.ensures
+pub returns-in-None : goal.returns-in-None
+returns-in-None c = rw c.in-None.is c.play_malformed.ensures

@@ -1,5 +1,0 @@
-use Rattle.script.proofs.named.Goals as goal
-
--- `script::named` meets its contract: the test is that of the words.
-pub returns : goal.returns
-returns c = rw (← c.same.ensures) c.chosen.ensures

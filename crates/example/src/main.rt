@@ -22,8 +22,7 @@ fn print(rt: &impl Print, text: &[u8]) -> io::Result<()> {
 // Prints what a call answered, and gives the end that it left.
 fn said(rt: &impl Print, call: &[u8], s: Stepped) -> io::Result<End> {
     print(rt, call)?;
-    let answer = s.answer;
-    match answer {
+    match s.answer {
         Answer::Refused(_) => print(rt, b": refused\n")?,
         Answer::Out(_) => print(rt, b": out\n")?,
         Answer::Got(_) => print(rt, b": got\n")?,
@@ -61,8 +60,7 @@ fn params() -> Params {
 fn member(rt: &impl Print, host: Host) -> io::Result<End> {
     let mut out = [0u8; 128];
     let opened = link::open(host, params());
-    let verdict = opened.verdict;
-    said_open(rt, verdict)?;
+    said_open(rt, opened.verdict)?;
     let end = said(rt, b"join", link::join(opened.end, 0, &draws(), &mut out))?;
     said(rt, b"joined", link::joined(end, 0, &draws(), &mut out))
 }
@@ -70,19 +68,8 @@ fn member(rt: &impl Print, host: Host) -> io::Result<End> {
 // The first 24 output bytes: the cue of an answer Got or Late.
 fn cue_in(out: &[u8; 128]) -> [u8; 24] {
     let mut cue = [0u8; 24];
-    let mut i: usize = 0;
-    while i < 24 {
-        cue[i] = out[i];
-        i += 1;
-    }
+    cue.copy_from_slice(&out[..24]);
     cue
-}
-
-fn print_first(rt: &impl Print, text: &[u8], len: usize) -> io::Result<()> {
-    if len <= text.len() {
-        print(rt, &text[0..len])?;
-    }
-    Ok(())
 }
 
 fn print_focus(rt: &impl Print, cue: [u8; 24]) -> io::Result<()> {
@@ -90,23 +77,22 @@ fn print_focus(rt: &impl Print, cue: [u8; 24]) -> io::Result<()> {
     let mut text = [b' '; 8];
     let len = decimal::put_i16(&mut text, 0, fields.focus);
     print(rt, b"focus ")?;
-    print_first(rt, &text, len)?;
-    print(rt, b"\n")?;
-    Ok(())
+    if let Some(number) = text.get(..len) {
+        print(rt, number)?;
+    }
+    print(rt, b"\n")
 }
 
 // An end takes the first `len` bytes that came over the network, and prints the focus of a cue that it handed out.
 fn hear(rt: &impl Print, end: End, clock: u64, came: &[u8], len: usize) -> io::Result<End> {
-    if came.len() < len {
+    let Some(bytes) = came.get(..len) else {
         return Ok(end);
-    }
+    };
     let mut out = [0u8; 128];
-    let s = link::arrival(end, clock, &draws(), &came[0..len], &mut out);
-    let answer = s.answer;
+    let s = link::arrival(end, clock, &draws(), bytes, &mut out);
     let end = said(rt, b"arrival", s)?;
-    match answer {
-        Answer::Got(_) | Answer::Late(_) => print_focus(rt, cue_in(&out))?,
-        _ => {}
+    if let Answer::Got(_) | Answer::Late(_) = s.answer {
+        print_focus(rt, cue_in(&out))?;
     }
     Ok(end)
 }
@@ -122,17 +108,14 @@ fn carry(rt: &impl Print, answer: Answer, out: &[u8], end: End, clock: u64) -> i
 // At each tick: fires until nothing goes out. At one clock at most 1024 messages do.
 fn fire_all(rt: &impl Print, end: End, clock: u64) -> io::Result<End> {
     let mut end = end;
-    let mut outs: u64 = 0;
-    while outs < 1024 {
+    for _ in 0..1024 {
         let mut out = [0u8; 128];
         let s = link::fire(end, clock, &draws(), &mut out);
-        let answer = s.answer;
         end = said(rt, b"fire", s)?;
-        let Answer::Out(_) = answer else {
+        let Answer::Out(_) = s.answer else {
             break;
         };
         // here the first bytes of `out`, as many as Out says, go to the network
-        outs += 1;
     }
     Ok(end)
 }
@@ -156,15 +139,13 @@ struct Both {
 
 // The holder takes the first `len` bytes, which ask for a cue, and what it answers goes back to the one that asked.
 fn answered(rt: &impl Print, both: Both, clock: u64, came: &[u8], len: usize) -> io::Result<Both> {
-    if came.len() < len {
+    let Some(bytes) = came.get(..len) else {
         return Ok(both);
-    }
+    };
     let mut out = [0u8; 128];
-    let late = both.late;
-    let s = link::arrival(both.holder, clock, &draws(), &came[0..len], &mut out);
-    let answer = s.answer;
+    let s = link::arrival(both.holder, clock, &draws(), bytes, &mut out);
     let holder = said(rt, b"arrival", s)?;
-    let late = carry(rt, answer, &out, late, clock)?;
+    let late = carry(rt, s.answer, &out, both.late, clock)?;
     Ok(Both { late, holder })
 }
 
@@ -172,12 +153,10 @@ fn answered(rt: &impl Print, both: Both, clock: u64, came: &[u8], len: usize) ->
 // come it is Ignored.
 fn fetched(rt: &impl Print, both: Both, clock: u64, name: Name) -> io::Result<Both> {
     let mut out = [0u8; 128];
-    let holder = both.holder;
     let s = link::fetch(both.late, clock, &draws(), name, &mut out);
-    let answer = s.answer;
     let late = said(rt, b"fetch", s)?;
-    let both = Both { late, holder };
-    match answer {
+    let both = Both { late, ..both };
+    match s.answer {
         Answer::Out(len) => answered(rt, both, clock, &out, len),
         _ => Ok(both),
     }
@@ -190,13 +169,11 @@ fn joins_late(rt: &impl Print, sender: End) -> io::Result<End> {
     let mut out = [0u8; 128];
     let cue = message::cue_with(3, 0, 0, 0, 500);
     let s = link::send(sender, 24, &draws(), cue, &mut out);
-    let answer = s.answer;
     let sender = said(rt, b"send", s)?;
-    let late = carry(rt, answer, &out, late, 24)?;
+    let late = carry(rt, s.answer, &out, late, 24)?;
     let s = link::report(sender, 25, &draws(), &mut out);
-    let answer = s.answer;
     let holder = said(rt, b"report", s)?;
-    let late = carry(rt, answer, &out, late, 25)?;
+    let late = carry(rt, s.answer, &out, late, 25)?;
 
     let first = Name {
         source: Host(0),
@@ -212,8 +189,7 @@ fn joins_late(rt: &impl Print, sender: End) -> io::Result<End> {
 // Opens a display that follows a sender.
 fn screen_of(rt: &impl Print, own: Host, sender: Host) -> io::Result<Display> {
     let opened = display::open(own, sender);
-    let verdict = opened.verdict;
-    said_open(rt, verdict)?;
+    said_open(rt, opened.verdict)?;
     Ok(opened.display)
 }
 
@@ -236,14 +212,12 @@ fn watch(
     came: &[u8],
     len: usize,
 ) -> io::Result<Display> {
-    if came.len() < len {
+    let Some(bytes) = came.get(..len) else {
         return Ok(screen);
-    }
+    };
     let mut out = [0u8; 128];
-    let s = display::hear(screen, clock, &came[0..len], &mut out);
-    let answer = s.answer;
-    let lost = s.lost;
-    match answer {
+    let s = display::hear(screen, clock, bytes, &mut out);
+    match s.answer {
         Answer::Got(_) => {
             print(rt, b"display got: ")?;
             print_focus(rt, cue_in(&out))?;
@@ -251,7 +225,7 @@ fn watch(
         Answer::Done => print(rt, b"display: done\n")?,
         _ => {}
     }
-    said_lost(rt, lost)?;
+    said_lost(rt, s.lost)?;
     Ok(s.display)
 }
 
@@ -272,8 +246,7 @@ fn carry_to(
 fn ask(rt: &impl Print, screen: Display, clock: u64) -> io::Result<Display> {
     let mut out = [0u8; 128];
     let s = display::step(screen, clock, &mut out);
-    let answer = s.answer;
-    match answer {
+    match s.answer {
         // here the first bytes of `out`, as many as Out says, go to the network
         Answer::Out(_) => print(rt, b"display asks\n")?,
         Answer::Nothing => print(rt, b"display lacks nothing\n")?,
@@ -293,9 +266,8 @@ fn follows(rt: &impl Print, answer: Answer, out: &[u8]) -> io::Result<Display> {
 fn announces(rt: &impl Print, sender: End, screen: Display) -> io::Result<End> {
     let mut out = [0u8; 128];
     let s = link::announce(sender, 28, &draws(), &mut out);
-    let answer = s.answer;
     let sender = said(rt, b"announce", s)?;
-    let screen = carry_to(rt, answer, &out, screen, 28)?;
+    let screen = carry_to(rt, s.answer, &out, screen, 28)?;
     ask(rt, screen, 29)?;
     Ok(sender)
 }
@@ -313,9 +285,8 @@ fn main(rt: HostRuntime) -> io::Result<()> {
     let listener = fire_all(&rt, listener, 20)?;
     let screen = follows(&rt, answer, &out)?;
     let s = link::report(listener, 20, &draws(), &mut out);
-    let answer = s.answer;
     let listener = said(&rt, b"report", s)?;
-    let sender = carry(&rt, answer, &out, sender, 22)?;
+    let sender = carry(&rt, s.answer, &out, sender, 22)?;
     let sender = joins_late(&rt, sender)?;
     let sender = announces(&rt, sender, screen)?;
 

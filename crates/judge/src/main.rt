@@ -7,21 +7,13 @@ use judgement::Kept;
 use std::io;
 use std::io::Read;
 
-// What is kept after a piece, and whether another is to be read.
-#[derive(Clone, Copy)]
-struct Next {
-    kept: Kept,
-    more: bool,
-}
-
-// Reads the next piece and takes it; there is no more at the end of the input, and where there are too many lines already.
-fn take_next(input: &mut impl Read, from: Kept) -> io::Result<Next> {
+// Reads the next piece and takes it, and answers whether another is to be read: there is no more at the end of the input, and where there are
+// too many lines already.
+fn take_next(input: &mut impl Read, kept: &mut Kept) -> io::Result<bool> {
     let mut piece = [0u8; 4096];
     let n = input.read(&mut piece)?;
-    let kept = judgement::feed(from, &piece[..n]);
-    let over = judgement::too_many(kept);
-    let more = (0 < n) & !over;
-    Ok(Next { kept, more })
+    *kept = judgement::feed(*kept, &piece[..n]);
+    Ok(0 < n && !judgement::too_many(*kept))
 }
 
 // A proved loop has to end, and nothing says that the input does, so the pieces are counted, up to a number that no run uses up.
@@ -29,9 +21,7 @@ fn main(rt: HostRuntime) -> io::Result<()> {
     let mut input = rt.reader();
     let mut kept = judgement::opened();
     for _ in 0..u64::MAX {
-        let next = take_next(&mut input, kept)?;
-        kept = next.kept;
-        if !next.more {
+        if !take_next(&mut input, &mut kept)? {
             break;
         }
     }

@@ -11,7 +11,7 @@ use borrow.Author.Tests.{eqb-true, leb-true, ltb-true, not-true}
 use Rattle.message.specs.declared.Host.{Host}
 use Rattle.message.specs.declared.Name.{Name}
 use Rattle.message.specs.Cue.{cue_in}
-use Rattle.message.specs.Kind.{row_of, most_number}
+use Rattle.message.specs.Kind.{row_of, most_number, row_or}
 use Rattle.message.specs.Message.{DATA, RQST, REPL, XPRS, FTCH, LATE, ANNC, Meaning, meaning_from, bytes_of, counts_of}
 use Rattle.message.specs.declared.Row.{Row}
 use Rattle.message.specs.Question.{first_no, message_questions, meaning_questions, has_counts, kind_has_counts, same_host, read_of}
@@ -156,7 +156,7 @@ module _ (e : End) (f : SoundState e) where
       let v = held_in e.host name.source (pair_of e name) r (reply_in r.slot) (stands_as (Held (reply_in r.slot)) at (held-is r.slot held)) in
       let y = about_name kind (moment_of e) name k (r.cue ∷ []) in
       written y (ap (λ (x : Option Row). has_counts x (counts_of y)) row)
-      (carrying_passes e f kind most (ap (λ (x : Row). x.host) row) name k r.cue at.source at.number hk v.cue other apart) (some v.long none)
+      (carrying_passes e f kind most (ap (λ (x : Option Row). (row_or x).host) row) name k r.cue at.source at.number hk v.cue other apart) (some v.long none)
 
   pub repair-written : (name : Name) (due : ℕ) (k : Host) → (kept_under e name).slot ≡ Held (Due due k) → Written (repair_message (moment_of e) name k (kept_under e name).cue)
   repair-written name due k p =

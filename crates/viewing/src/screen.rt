@@ -122,10 +122,12 @@ impl Screen {
     // Makes a call, prints its answer and losses, and keeps the message that it puts out.
     fn call(&mut self, call: Call, clock: u64, kept: &mut Kept, text: &mut Text) {
         self.clear();
-        let out = &mut self.out[..self.room.min(200)];
+        let before = self.display;
+        let room = self.room.min(200);
+        let out = &mut self.out[..room];
         let shown = match call {
-            Call::Hear(message) => display::hear(self.display, clock, message.as_slice(), out),
-            Call::Step => display::step(self.display, clock, out),
+            Call::Hear(message) => display::hear(before, clock, message.as_slice(), out),
+            Call::Step => display::step(before, clock, out),
         };
         self.display = shown.display;
         self.last = accounted(shown.answer);

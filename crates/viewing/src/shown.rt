@@ -10,9 +10,10 @@ pub fn lost(text: &mut Text, lost: &Lost) {
         return;
     }
     text.extend(b"; lost");
+    let trail = u64::from(lost.trail.0);
     for i in 0..64u64 {
         if (lost.set >> i) % 2 == 1 {
-            write!(text, " {}", u64::from(lost.trail.0) + i);
+            write!(text, " {}", trail + i);
         }
     }
     if let Some(span) = lost.above {

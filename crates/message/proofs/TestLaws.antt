@@ -1,6 +1,6 @@
 -- The laws of the tests over an array's used places: what the library's methods answer is what the definitions say.
 use mathlib.Core.Path.{◌≡◌, refl, sym, ap, ◌∙◌}
-use Prim.Native.Nat.{ℕ, zero, suc, ◌<◌}
+use Prim.Native.Nat.{ℕ, zero, suc, ◌+◌, ◌<◌}
 use native.Mathlib.Numerals.{add-one}
 use native.Mathlib.Omega.{arith}
 use mathlib.Core.Bool.{Bool, true, false, ◌&&◌, and-true, and-false}
@@ -8,7 +8,7 @@ use mathlib.Core.Logic.{◌≢◌}
 use mathlib.Core.List.{List, [], ◌∷◌}
 use lib.ListN.{length, take, get_or}
 use lib.Seq.{take-nil}
-use lib.Dec.{ltb, eqb}
+use lib.Dec.{leb, ltb, eqb, leb-zero}
 use Rattle.std.specs.List.{list_all, IsAllAdjacentAnswer}
 use Rattle.message.specs.Section.{all, rises}
 
@@ -46,3 +46,18 @@ module _ {A : Type 0} (key : A → ℕ) where
   pub rises-sorted : (l : List A) (r : Bool) → IsAllAdjacentAnswer (λ x y b. b ≡ ltb (key x) (key y)) l r → r ≡ rises key l
   rises-sorted l true h = rise_all l (λ k d p. rw (add-one k) at (h k d (omega arith)))
   rises-sorted l false h = rise_fails l h.0 (omega (arith, h.1)) (λ d. rw (add-one h.0) at (h.2 d))
+
+-- ---- strictly rising keys with the least key that may come next: each is at least one above the one before
+unfoldable pub rises_from : {A : Type 0} → (A → ℕ) → ℕ → List A → Bool
+rises_from key low [] = true
+rises_from key low (a ∷ l) = leb low (key a) && rises_from key (key a + 1) l
+
+rises_next : {A : Type 0} (key : A → ℕ) (a : A) (l : List A) → rises key (a ∷ l) ≡ rises_from key (key a + 1) l
+unfolding rises rises_from
+rises_next key a [] = refl
+rises_next key a (b ∷ l) = λ i. leb (sym (add-one (key a)) i) (key b) && rises_next key b l i
+
+pub rises-start : {A : Type 0} (key : A → ℕ) (l : List A) → rises key l ≡ rises_from key 0 l
+unfolding rises rises_from
+rises-start key [] = refl
+rises-start key (a ∷ l) = rises_next key a l ∙ (λ i. sym (leb-zero (key a)) i && rises_from key (key a + 1) l)

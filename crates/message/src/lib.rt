@@ -452,12 +452,16 @@ fn hosts_fit(m: Message) -> bool
         && window_fits(names)
 }
 
-// One question: its number where it was answered no.
+// One question: its number where it was answered no. The number 0 is none, and refuses nothing.
 pub fn ask(passed: bool, number: u8) -> Result<(), Refusal>
-    requires { 0 < number }
     ensures { result ≡ outcome (cond passed 0 number) }
 {
-    if passed { Ok(()) } else { Err(Refusal(number)) }
+    let refuses = !passed && number != 0;
+    if refuses {
+        Err(Refusal(number))
+    } else {
+        Ok(())
+    }
 }
 
 // Questions 10 and 11, of any message and the byte that said its kind.

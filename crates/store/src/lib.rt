@@ -1,14 +1,40 @@
-// The messages that a house keeps, each in a place of 128 bytes. The definitions are in specs/Store.antt. The methods here are helpers
-// of the crates above: each asks in its `requires` for the place that it uses.
+// The messages that a house keeps, each in a place of 128 bytes. The definitions are in specs/Store.antt. The functions and methods here
+// are helpers of the crates above: each asks in its `requires` for the places that it uses.
 #![tactic(auto)]
 
-ghost use Rattle.std.specs.Prelude.{◌≡◌, ◌∷◌, [], ◌++◌, suc, ◌+◌, ◌*◌, ◌≤◌, ◌<◌, min, length};
+ghost use Rattle.std.specs.Prelude.{◌≡◌, ◌∷◌, [], ◌++◌, suc, ◌+◌, ◌*◌, ◌≤◌, ◌<◌, min, length, get_or};
 ghost use Rattle.store.specs.Store.{most, room, message_in, first_messages, kept};
 
 // How many places there are, and how many bytes each has.
 pub const MOST: usize = 64;
 
 pub const ROOM: usize = 128;
+
+// The smaller of two numbers.
+pub fn least(a: usize, b: usize) -> usize
+    ensures { result ≡ min a b }
+{
+    a.min(b)
+}
+
+// How many bytes the message in a place has.
+pub fn size(lengths: &[u8], k: usize) -> usize
+    requires { k < length lengths.now }
+    ensures { result ≡ min (get_or lengths.now k 0) room }
+{
+    least(lengths[k] as usize, ROOM)
+}
+
+// Puts a message into the next place.
+pub fn keep(store: &mut [u8], lengths: &mut [u8], k: usize, message: &[u8])
+    requires k_in_bounds { k < length lengths.old }
+    requires message_in_bounds { k * room + length message.now ≤ length store.old }
+    requires message_len_bound { length message.now ≤ room }
+    ensures { first_messages store.new lengths.new (suc k) ≡ first_messages store.old lengths.old k ++ (message.now ∷ []) }
+{
+    numbers::put_bytes(store, k * ROOM, message);
+    lengths[k] = message.len() as u8;
+}
 
 // The places, how many bytes the message in each has, and how many of the places are used.
 // Kept: arrays with lengths beside them, since the messages have a fixed memory and no heap, and `messages_in` is over these lists.
@@ -35,7 +61,7 @@ impl Store {
     pub fn used(&self) -> usize
         ensures { result ≡ min self.now.count most }
     {
-        self.count.min(MOST)
+        least(self.count, MOST)
     }
 
     // The message in a place.
@@ -44,8 +70,7 @@ impl Store {
         ensures { result.now ≡ message_in self.now.places self.now.lengths k }
     {
         let at = k * ROOM;
-        let size = (self.lengths[k] as usize).min(ROOM);
-        &self.places[at..at + size]
+        &self.places[at..at + size(&self.lengths, k)]
     }
 
     // Puts a message into a place.
@@ -55,8 +80,7 @@ impl Store {
         ensures messages { first_messages self.new.places self.new.lengths (suc k) ≡ first_messages self.old.places self.old.lengths k ++ (message.now ∷ []) }
         ensures same_count { self.new.count ≡ self.old.count }
     {
-        numbers::put_bytes(&mut self.places, k * ROOM, message);
-        self.lengths[k] = message.len() as u8;
+        keep(&mut self.places, &mut self.lengths, k, message);
     }
 
     // Keeps a message in the next place.

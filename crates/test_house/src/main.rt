@@ -14,6 +14,7 @@ use std::io::Read;
 struct Printed {
     bytes: [u8; 16384],
     len: usize,
+    ghost inside: { len ≤ 16384 },
 }
 
 impl Printed {
@@ -25,12 +26,12 @@ impl Printed {
     }
 
     fn as_slice(&self) -> &[u8] {
-        &self.bytes[..self.len.min(16384)]
+        &self.bytes[..self.len]
     }
 
     // Adds bytes where there is room for them.
     fn add(&mut self, more: &[u8]) {
-        let from = self.len.min(16384);
+        let from = self.len;
         if more.len() <= 16384 - from {
             self.bytes[from..from + more.len()].copy_from_slice(more);
             self.len = from + more.len();

@@ -5,13 +5,14 @@ use native.Mathlib.Nat.{mul-le-mul_right, zero-mul, suc-mul, sub-zero}
 use native.Mathlib.Numerals.{add-one}
 use native.Mathlib.Omega.{arith}
 use mathlib.Core.Bool.{Bool, ◌&&◌}
-use mathlib.Core.List.{List, [], ◌∷◌, ◌++◌}
-use lib.ListN.{length, drop, get_or, drop_of_length-le}
+use mathlib.Core.List.{List, [], ◌∷◌, ◌++◌, append-nil}
+use lib.ListN.{length, drop, get_or, drop_of_length-le, set, replicate}
 use lib.Seq.{drop-cons}
 use denote.Param.Members.{Mut}
 use Rattle.std.specs.Fn.{Called}
 use Rattle.std.specs.List.{list_all, range_with_len}
 use Rattle.std.specs.Array.{IsFromFnResultFrom, IsFromFnResult}
+use Rattle.message.proofs.SectionLaws.{fill_next}
 use Rattle.lent_fields.specs.Fields.{many, all_pass}
 
 -- room for n of them is room for each
@@ -56,3 +57,54 @@ module _ {F B : Type 0} {g : Mut F (ℕ × Unit {0}) B} (f : List ℕ → ℕ �
       let l : 0 + n ≡ length ys = omega (arith, r.long) in
       let e : at + 0 * w ≡ at = rw zero-mul (omega arith) in
       made-from ys 0 n l r.each ∙ ap (many f w n s) e
+
+-- ---- a loop that reads n things of w bytes each into an array
+module _ {A : Type 0} (f : List ℕ → ℕ → A) (w : ℕ) where
+  -- one more at the end
+  many_more : (n : ℕ) (s : List ℕ) (k : ℕ) → many f w (suc n) s k ≡ many f w n s k ++ (f s (k + n * w) ∷ [])
+  unfolding many
+  many_more zero s k =
+      let e : k + zero * w ≡ k = rw zero-mul (omega arith) in
+      ap (λ (m : ℕ). f s m ∷ []) (sym e)
+  many_more (suc n) s k =
+      let e : k + w + n * w ≡ k + suc n * w = rw suc-mul (omega arith) in
+      ap (λ (l : List A). f s k ∷ l) (many_more n s (k + w))
+      ∙ ap (λ (m : ℕ). f s k ∷ (many f w n s (k + w) ++ (f s m ∷ []))) e
+
+  length-many : (n : ℕ) (s : List ℕ) (k : ℕ) → length (many f w n s k) ≡ n
+  unfolding many
+  length-many zero s k = refl
+  length-many (suc n) s k = ap suc (length-many n s (k + w))
+
+-- the first i of n places are filled from place `at` on, the others are d
+pub record ReadSoFar {A : Type 0} (f : List ℕ → ℕ → A) (w n : ℕ) (d : A) (s : List ℕ) (at : ℕ) (es : List A) (i : ℕ) : Type 0 where
+  pub within : i ≤ n
+  pub filled : es ≡ many f w i s at ++ replicate (n - i) d
+
+-- at first each place has the first one, so one place is filled
+pub read_first : {A : Type 0} {f : List ℕ → ℕ → A} {w n : ℕ} {s : List ℕ} {at : ℕ} {x : A} → x ≡ f s at → 0 < n
+    → ReadSoFar f w n (f s at) s at (replicate n x) 1
+unfolding many
+read_first {n = zero} e h = absurd (omega arith)
+read_first {f = f} {n = suc n} {s} {at} {x} e h =
+    let o : suc n - 1 ≡ n = omega arith in
+    record { within = omega arith; filled = (λ j. e j ∷ replicate n (e j)) ∙ ap (λ m. f s at ∷ replicate m (f s at)) (sym o) }
+
+module _ {A : Type 0} {f : List ℕ → ℕ → A} {w n : ℕ} {d : A} {s : List ℕ} {at : ℕ} {es : List A} {i : ℕ} (l : ReadSoFar f w n d s at es i) where
+  pub read_more : {x : A} → i < n → x ≡ f s (at + i * w) → ReadSoFar f w n d s at (set es i x) (i + 1)
+  read_more {x} h e =
+      let y : A = f s (at + i * w) in
+      let m : many f w (i + 1) s at ≡ many f w i s at ++ (y ∷ []) = rw add-one (many_more f w i s at) in
+      record {
+        within = omega arith;
+        filled =
+            (λ j. set (l.filled j) i (e j))
+            ∙ fill_next (many f w i s at) n i d y (length-many f w i s at) h
+            ∙ ap (λ (b : List A). b ++ replicate (n - (i + 1)) d) (sym m);
+      }
+
+  pub read_whole : n ≤ i → es ≡ many f w n s at
+  read_whole h =
+      let e : i ≡ n = omega (arith, l.within) in
+      let none_left : n - i ≡ 0 = omega arith in
+      l.filled ∙ (λ j. many f w (e j) s at ++ replicate (none_left j) d) ∙ append-nil (many f w n s at)

@@ -7,7 +7,6 @@ ghost use Rattle.timetable.specs.Run.{after, standing};
 
 use std::io;
 use std::io::Read;
-use std::ops::ControlFlow;
 use timetable::{Playing, Progress};
 
 // Takes bytes of a piece, at least one, and writes what they print.
@@ -39,33 +38,16 @@ fn play_piece(rt: &impl Print, from: Playing, piece: &[u8]) -> io::Result<Playin
     Ok(playing)
 }
 
-// Reads the next piece and plays it. The run breaks off at the end of the input, and where it has stopped.
-fn play_next(
-    rt: &impl Print,
-    input: &mut impl Read,
-    from: Playing,
-) -> io::Result<ControlFlow<Playing, Playing>> {
-    let mut piece = [0u8; 4096];
-    let n = input.read(&mut piece)?;
-    let playing = play_piece(rt, from, &piece[..n])?;
-    if (n == 0) | playing.stopped {
-        Ok(ControlFlow::Break(playing))
-    } else {
-        Ok(ControlFlow::Continue(playing))
-    }
-}
-
 // A proved loop has to end, and nothing says that the input does, so the pieces are counted, up to a number that no run uses up.
 fn main(rt: HostRuntime) -> io::Result<()> {
     let mut input = rt.reader();
     let mut playing = timetable::opened();
     for _ in 0..u64::MAX {
-        match play_next(&rt, &mut input, playing)? {
-            ControlFlow::Continue(next) => playing = next,
-            ControlFlow::Break(last) => {
-                playing = last;
-                break;
-            }
+        let mut piece = [0u8; 4096];
+        let n = input.read(&mut piece)?;
+        playing = play_piece(&rt, playing, &piece[..n])?;
+        if n == 0 || playing.stopped {
+            break;
         }
     }
     let mut last = [0u8; 4];

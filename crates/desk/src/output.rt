@@ -46,9 +46,14 @@ impl Output {
         &self.bytes
     }
 
-    // Whether a byte past what the answer accounts for is not the filling.
+    // Whether a byte past what the answer accounts for is not the filling. Every byte is compared, so that many are at once; to stop at the first
+    // other one takes longer than all.
     pub fn is_changed(&self) -> bool {
         let last = self.last.min(SIZE);
-        self.bytes[last..].iter().any(|b| *b != self.fill)
+        let mut is_filled = true;
+        for b in &self.bytes[last..] {
+            is_filled &= *b == self.fill;
+        }
+        !is_filled
     }
 }

@@ -81,7 +81,14 @@ pub record ReadSoFar {A : Type 0} (f : List ℕ → ℕ → A) (w n : ℕ) (d : 
   pub within : i ≤ n
   pub filled : es ≡ many f w i s at ++ replicate (n - i) d
 
--- at first each place has the first one, so one place is filled
+-- at first each place is blank
+pub read_none : {A : Type 0} {f : List ℕ → ℕ → A} {w n : ℕ} {s : List ℕ} {at : ℕ} (d : A) → ReadSoFar f w n d s at (replicate n d) 0
+unfolding many
+read_none {n = n} d =
+    let e : n ≡ n - 0 = omega arith in
+    record { within = omega arith; filled = ap (λ m. replicate m d) e }
+
+-- or each place has the first one, so one place is filled
 pub read_first : {A : Type 0} {f : List ℕ → ℕ → A} {w n : ℕ} {s : List ℕ} {at : ℕ} {x : A} → x ≡ f s at → 0 < n
     → ReadSoFar f w n (f s at) s at (replicate n x) 1
 unfolding many

@@ -122,8 +122,7 @@ pub trait Form {
     ghost both_ways: { Codec WIDTH bytes from passes Fits };
 }
 
-// N values, one after the other. They are read into their places: an array that is made of calls is zeroed first and copied more often, which
-// took a look at a state a quarter more time.
+// N values, one after the other. They are read into their places: an array that is made of calls is zeroed first and copied more often.
 pub fn read_all<F: Form, const N: usize>(s: &[u8], from: usize) -> [F::Value; N]
     requires { from + N * F.WIDTH ≤ length s.now }
     ensures { result ≡ many F.from F.WIDTH N s.now from }
@@ -139,6 +138,19 @@ pub fn read_all<F: Form, const N: usize>(s: &[u8], from: usize) -> [F::Value; N]
     let mut all = [first; N];
     for n in 1..N {
         all[n] = F::read(s, from + n * F::WIDTH);
+    }
+    all
+}
+
+// The same over an array that is blank at first, with whatever value. For small values: a loop with the only call that reads them is compiled with
+// that call's body in it, where `read_all` makes each value beside its place and copies it there.
+pub fn read_over<F: Form, const N: usize>(blank: F::Value, s: &[u8], from: usize) -> [F::Value; N]
+    requires { from + N * F.WIDTH ≤ length s.now }
+    ensures { result ≡ many F.from F.WIDTH N s.now from }
+{
+    let mut all = [blank; N];
+    for i in 0..N {
+        all[i] = F::read(s, from + i * F::WIDTH);
     }
     all
 }

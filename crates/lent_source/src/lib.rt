@@ -13,7 +13,7 @@ ghost use Rattle.lent_source.specs.Source.{attempt_from, attempt_test, attempt_b
 ghost use Rattle.lent_source.specs.Source.{front_bytes, FrontFits, source_width, source_from, source_test, source_bytes, SourceFits};
 ghost use Rattle.lent_source.specs.SourceLaws.{span_codec, pair_codec, heard_codec, origin_codec, attempt_codec, source_codec};
 
-use end::{Attempt, Heard, Origin, Pair, Source, Span};
+use end::{Attempt, Heard, Origin, Pair, Record, Slot, Source, Span};
 use lent_fields::{Form, is_option, option_of, put1, put2, put4, put8, read1, read2, read4, read8};
 use lent_records::RecordForm;
 use message::{CueNumber, Host};
@@ -267,6 +267,17 @@ impl Form for AttemptForm {
 }
 
 // ---- the source
+const BLANK: Record = Record {
+    slot: Slot::Empty,
+    cue: [0; 24],
+    hush: 0,
+};
+
+const UNTRIED: Attempt = Attempt {
+    tried: 0,
+    late: false,
+};
+
 fn put_front(s: &mut [u8], at: usize, span: Span, missed: u32, pair: Pair, distance: u64)
     requires { at + 22 ≤ length s.old }
     ensures puts { Puts at 22 (front_bytes span missed pair distance) s.old s.new }
@@ -302,9 +313,9 @@ impl Form for SourceForm {
             pair: PairForm::read(s, at + 9),
             distance: read8(s, at + 14),
             heard: HeardForm::read(s, at + 22),
-            names: lent_fields::read_all::<RecordForm, 64>(s, at + 171),
+            names: lent_fields::read_over::<RecordForm, 64>(BLANK, s, at + 171),
             origin: OriginForm::read(s, at + 40),
-            attempts: lent_fields::read_all::<AttemptForm, 64>(s, at + 43),
+            attempts: lent_fields::read_over::<AttemptForm, 64>(UNTRIED, s, at + 43),
         }
     }
 

@@ -32,6 +32,9 @@ fn is_met(answer: &[u8], words: &[u8]) -> bool {
 
 impl Player {
     // A line on one end, but for its place; nothing where it is malformed.
+    // Kept: not inlined, nor is `restart`: the ends in their frames are hundreds of kilobytes of stack, which each call touches page by page. In the
+    // frame of `play` that was three quarters of the time of a line without an end.
+    #[inline(never)]
     fn on_end(&mut self, who: usize, line: &mut Cursor<'_>) -> Option<()>
         requires { who ≤ 9 }
     {
@@ -51,12 +54,18 @@ impl Player {
         line.is_whole().then_some(())
     }
 
+    // The ends as at the start of a trace.
+    #[inline(never)]
+    fn restart(&mut self) {
+        self.ends = opened();
+    }
+
     // A line without an end; nothing where it is malformed.
     fn on_none(&mut self, call: &[u8]) -> Option<()> {
         let (word, mut line) = Cursor::first(call)?;
         self.desk.without_end(word, &mut line)?;
         if matches!(word, b"start") {
-            self.ends = opened();
+            self.restart();
         }
         line.is_whole().then_some(())
     }

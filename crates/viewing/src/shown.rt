@@ -38,7 +38,12 @@ pub fn display(text: &mut Text, d: &Display) {
 pub fn output(text: &mut Text, out: &[u8; 200], last: usize) {
     let (front, rest) = out.split_at(last.min(200));
     write!(text, "; {}", Hex(front));
-    if rest.iter().any(|b| *b != FILLING) {
+    // Every byte is compared, so that many are at once; to stop at the first other one takes longer than all.
+    let mut is_filled = true;
+    for b in rest {
+        is_filled &= *b == FILLING;
+    }
+    if !is_filled {
         text.extend(b" CHANGED");
     }
 }

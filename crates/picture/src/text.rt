@@ -109,7 +109,7 @@ fn digit(d: u8) -> &'static str {
 }
 
 // Bytes in hexadecimal digits, or `none`.
-// Kept: each digit by a match; `{b:02X}` takes seven times as long for a byte.
+// Kept: each digit by a match; `{b:02X}` takes seven times the instructions for a byte.
 #[derive(Clone, Copy)]
 pub struct Hex<'a>(pub &'a [u8]);
 

@@ -32,8 +32,8 @@ fn is_met(answer: &[u8], words: &[u8]) -> bool {
 
 impl Player {
     // A line on one end, but for its place; nothing where it is malformed.
-    // Kept: not inlined, nor is `restart`: the ends in their frames are hundreds of kilobytes of stack, which each call touches page by page. In the
-    // frame of `play` that was three quarters of the time of a line without an end.
+    // Kept: not inlined, nor is `restart`: the ends in their frames are hundreds of kilobytes of stack, which each call touches page by page.
+    // Inlined into what plays a line, that was most of the time of a line without an end.
     #[inline(never)]
     fn on_end(&mut self, who: usize, line: &mut Cursor<'_>) -> Option<()>
         requires { who ≤ 9 }
